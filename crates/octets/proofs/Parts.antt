@@ -1,0 +1,57 @@
+-- Laws of stored runs and of parts of a list, beside those of `lib.Seq`. Assumes nothing.
+use mathlib.Core.Path.{_≡_, refl, sym, ap, _∙_}
+use mathlib.Core.List.{List, [], _∷_, _++_, append-assoc}
+use Prim.Native.Nat.{ℕ, suc, _+_, _≤_, _<_}
+use native.Mathlib.Nat.{add-zero}
+use native.Mathlib.Omega.{arith}
+use lib.ListN.{length, getD, take, drop, set}
+use lib.Seq.{sets, sets-eq, drop-at, take-append-seam, take-set-le, drop-set-lt, set-comm, set-out, length-take-le, getD-set-other}
+
+module _ {A : Type 0} where
+  -- past the end nothing is stored
+  pub sets-out : (vs table : List A) (i : ℕ) → length table ≤ i → sets table i vs ≡ table
+  sets-out [] table i h = refl
+  sets-out (v ∷ vs) table i h = rw (set-out table i v h) (sets-out vs table (suc i) (omega arith))
+
+  -- two runs, one behind the other, are one
+  pub sets-append : (vs ws table : List A) (i : ℕ) → sets table i (vs ++ ws) ≡ sets (sets table i vs) (i + length vs) ws
+  sets-append [] ws table i = rw (add-zero i)
+  sets-append (v ∷ vs) ws table i =
+      let e : suc i + length vs ≡ i + suc (length vs) = omega arith in
+      sets-append vs ws (set table i v) (suc i) ∙ rw e
+
+  -- a store before a run may come after it
+  pub set-sets : (vs table : List A) (i j : ℕ) (v : A) → i < j → sets (set table i v) j vs ≡ set (sets table j vs) i v
+  set-sets [] table i j v h = refl
+  set-sets (w ∷ vs) table i j v h =
+      rw (set-comm table i j v w (λ e. absurd (omega arith))) (set-sets vs (set table j w) i (suc j) v (omega arith))
+
+  -- of two runs, one behind the other, either may be stored first
+  pub sets-behind-first : (vs ws table : List A) (i : ℕ) → sets (sets table (i + length vs) ws) i vs ≡ sets table i (vs ++ ws)
+  sets-behind-first [] ws table i = rw (add-zero i)
+  sets-behind-first (v ∷ vs) ws table i =
+      let e : i + suc (length vs) ≡ suc i + length vs = omega arith in
+      rw (e, ← (set-sets ws table i (suc i + length vs) v (omega arith))) (sets-behind-first vs ws (set table i v) (suc i))
+
+  -- what stands before a run stays
+  pub take-sets : (vs table : List A) (i n : ℕ) → n ≤ i → take n (sets table i vs) ≡ take n table
+  take-sets [] table i n h = refl
+  take-sets (v ∷ vs) table i n h = take-sets vs (set table i v) (suc i) n (omega arith) ∙ take-set-le n table i v h
+
+  -- what stands behind it stays
+  pub drop-sets : (vs table : List A) (i n : ℕ) → i + length vs ≤ n → drop n (sets table i vs) ≡ drop n table
+  drop-sets [] table i n h = refl
+  drop-sets (v ∷ vs) table i n h = drop-sets vs (set table i v) (suc i) n (omega arith) ∙ drop-set-lt n table i v (omega arith)
+
+  -- an element outside the run stays
+  pub getD-sets-before : (vs table : List A) (i n : ℕ) (d : A) → n < i → getD (sets table i vs) n d ≡ getD table n d
+  getD-sets-before [] table i n d h = refl
+  getD-sets-before (v ∷ vs) table i n d h =
+      getD-sets-before vs (set table i v) (suc i) n d (omega arith) ∙ getD-set-other table i n v d (λ e. absurd (omega arith))
+
+  -- the run itself
+  pub part-sets : (vs table : List A) (i : ℕ) → i + length vs ≤ length table → take (length vs) (drop i (sets table i vs)) ≡ vs
+  part-sets vs table i h =
+      let n : length (take i table) ≡ i = length-take-le i table (omega arith) in
+      rw (sets-eq vs table i h, append-assoc, drop-at (take i table) (vs ++ drop (i + length vs) table) i n)
+      (take-append-seam vs (drop (i + length vs) table))

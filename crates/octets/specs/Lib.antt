@@ -1,0 +1,7 @@
+-- What document 01 says of single bytes, of numbers stored in bytes, and of an answer.
+pub mod Choice
+pub mod Numbers
+pub mod Classes
+pub mod Letters
+pub mod Stored
+pub mod Answers

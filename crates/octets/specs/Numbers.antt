@@ -1,0 +1,78 @@
+-- Document 01, "Sizes" and "Answer numbers": each limit and each number by a name.
+use Prim.Native.Nat.{ℕ}
+
+-- the most bytes that a message has
+abbrev pub messageLimit : ℕ
+messageLimit = 32768
+
+-- the most levels of addresses
+abbrev pub levelLimit : ℕ
+levelLimit = 64
+
+-- the bytes of a field record
+abbrev pub fieldRecordSize : ℕ
+fieldRecordSize = 8
+
+-- the bytes of an address record
+abbrev pub addressRecordSize : ℕ
+addressRecordSize = 12
+
+-- 0: accepted
+abbrev pub accepted : ℕ
+accepted = 0
+
+-- 1: message over its limit
+abbrev pub messageTooLong : ℕ
+messageTooLong = 1
+
+-- 2: fault in a field name
+abbrev pub nameFault : ℕ
+nameFault = 2
+
+-- 3: byte above 127
+abbrev pub byteAbove127 : ℕ
+byteAbove127 = 3
+
+-- 4: header ends without CRLF
+abbrev pub headerNotEnded : ℕ
+headerNotEnded = 4
+
+-- 5: quoted-string not closed
+abbrev pub quotedNotClosed : ℕ
+quotedNotClosed = 5
+
+-- 6: comment not closed
+abbrev pub commentNotClosed : ℕ
+commentNotClosed = 6
+
+-- 7: stray control byte
+abbrev pub strayControl : ℕ
+strayControl = 7
+
+-- 8: no list goes on with this symbol
+abbrev pub noListGoesOn : ℕ
+noListGoesOn = 8
+
+-- 9: body ends too soon
+abbrev pub endsTooSoon : ℕ
+endsTooSoon = 9
+
+-- 10: level 65 opened
+abbrev pub tooManyLevels : ℕ
+tooManyLevels = 10
+
+-- 11: lent room less than needed
+abbrev pub tooLittleRoom : ℕ
+tooLittleRoom = 11
+
+-- 12: date of wrong form
+abbrev pub dateForm : ℕ
+dateForm = 12
+
+-- 13: body start after body end, or end after message
+abbrev pub bodyOutOfOrder : ℕ
+bodyOutOfOrder = 13
+
+-- 14: date of right form, impossible
+abbrev pub dateImpossible : ℕ
+dateImpossible = 14

@@ -1,0 +1,40 @@
+// Document 01's limits and answer numbers, each by its name.
+
+// The most bytes that a message has.
+pub const MESSAGE_LIMIT: usize = 32768;
+// The most levels of addresses.
+pub const LEVEL_LIMIT: usize = 64;
+// The bytes of a field record.
+pub const FIELD_RECORD_SIZE: usize = 8;
+// The bytes of an address record.
+pub const ADDRESS_RECORD_SIZE: usize = 12;
+
+pub const ACCEPTED: u8 = 0;
+
+pub const MESSAGE_TOO_LONG: u8 = 1;
+
+pub const NAME_FAULT: u8 = 2;
+
+pub const BYTE_ABOVE_127: u8 = 3;
+
+pub const HEADER_NOT_ENDED: u8 = 4;
+
+pub const QUOTED_NOT_CLOSED: u8 = 5;
+
+pub const COMMENT_NOT_CLOSED: u8 = 6;
+
+pub const STRAY_CONTROL: u8 = 7;
+
+pub const NO_LIST_GOES_ON: u8 = 8;
+
+pub const ENDS_TOO_SOON: u8 = 9;
+
+pub const TOO_MANY_LEVELS: u8 = 10;
+
+pub const TOO_LITTLE_ROOM: u8 = 11;
+
+pub const DATE_FORM: u8 = 12;
+
+pub const BODY_OUT_OF_ORDER: u8 = 13;
+
+pub const DATE_IMPOSSIBLE: u8 = 14;
