@@ -1,0 +1,9 @@
+-- Laws of scanning.
+pub mod KindLaws
+pub mod CharacterLaws
+pub mod MoveLaws
+pub mod Meanings
+pub mod Unfolding
+pub mod Spans
+pub mod BodyChecks
+pub mod Examples

@@ -1,0 +1,266 @@
+-- What one character does in each state. Assumes nothing.
+use mathlib.Core.Path.{_≡_, refl, sym, ap, _∙_}
+use mathlib.Core.List.{List, [], _∷_, _++_}
+use Prim.Native.Nat.{ℕ, zero, suc, _+_, _-_, _≤_, _<_}
+use native.Mathlib.Numerals.{add-one}
+use native.Mathlib.Omega.{arith}
+use lib.ListN.{length, getD, take, drop, length-drop}
+use lib.Seq.{take-suc, getD-drop}
+use types.Run.{OneOf, miss}
+use denote.Enum.Declared.{tagOf}
+use Rattle.octets.specs.Numbers.{byteAbove127, strayControl}
+use Rattle.octets.specs.Text.{part}
+use Rattle.scanner.specs.Symbols.{Symbol}
+use Rattle.scanner.specs.Characters.{Character, character, charactersAt}
+use Rattle.scanner.specs.Scanning.{Scanned, next, faultAt, State, outside, inAtom, inQuoted, takingInQuoted, inComment, takingInComment, Move, go, halt, symbol, atom, single, move, moveInAtom, closed, atEnd, then, scanFrom, scanBy}
+use Rattle.scanner.specs.Scanning as scanning
+use Rattle.scanner.specs.Steps.{FirstCharacter, AtomEnds}
+use Rattle.scanner.specs.declared.Class.{Class}
+use Rattle.scanner.specs.declared.Class.the-variants.{Stray}
+use Rattle.scanner.specs.declared.Kind.{Kind}
+use Rattle.scanner.specs.declared.Kind.the-variants.{White, Control, Return, Plain, Open, Close, Quote, Backslash, Mark, Above}
+use Rattle.scanner.proofs.Kind.{the-type}
+
+-- a kind's place in its declaration
+abbrev pub tag : Kind → ℕ
+tag kind = tagOf the-type kind
+
+-- the text ends
+pub at-end : (classes text : List ℕ) (at : ℕ) (state : State) → charactersAt text at ≡ [] → scanFrom classes (charactersAt text at) state ≡ atEnd state
+unfolding scanFrom
+at-end classes text at state e = rw e
+
+-- a character makes its move
+pub moves : {classes text : List ℕ} {at : ℕ} {kind : Kind} {p q : ℕ} → FirstCharacter classes text at kind p q → (state : State) (m : Move) → move state kind (getD text p 0) p ≡ m
+    → scanFrom classes (charactersAt text at) state ≡ then m (λ state′. scanFrom classes (charactersAt text q) state′)
+unfolding scanFrom
+moves x state m e = rw (x .characters, ← (x .kind-is), e)
+
+-- ---- the kinds that an arm of the code stands for
+
+-- any but Plain
+abbrev pub NotPlain : Kind → Type 0
+NotPlain kind = OneOf (0 ∷ 1 ∷ 2 ∷ 4 ∷ 5 ∷ 6 ∷ 7 ∷ 8 ∷ 9 ∷ []) (tag kind)
+
+-- data of a quoted-string as they are
+abbrev pub Data : Kind → Type 0
+Data kind = OneOf (0 ∷ 1 ∷ 3 ∷ 4 ∷ 5 ∷ 8 ∷ []) (tag kind)
+
+-- text of a comment as it is
+abbrev pub Text : Kind → Type 0
+Text kind = OneOf (0 ∷ 1 ∷ 3 ∷ 6 ∷ 8 ∷ []) (tag kind)
+
+-- any but Above
+abbrev pub Taken : Kind → Type 0
+Taken kind = OneOf (0 ∷ 1 ∷ 2 ∷ 3 ∷ 4 ∷ 5 ∷ 6 ∷ 7 ∷ 8 ∷ []) (tag kind)
+
+ends-atom : (classes : List ℕ) (kind : Kind) (b p start end : ℕ) (t : List ℕ) (rest : State → Scanned) → NotPlain kind
+    → then (move (inAtom start end t) kind b p) rest ≡ next (atom start end t) (then (move outside kind b p) rest)
+ends-atom classes White b p start end t rest o = refl
+ends-atom classes Control b p start end t rest o = refl
+ends-atom classes Return b p start end t rest o = refl
+ends-atom classes Plain b p start end t rest o = absurd (miss (0 ∷ 1 ∷ 2 ∷ 4 ∷ 5 ∷ 6 ∷ 7 ∷ 8 ∷ 9 ∷ []) 3 tt o)
+ends-atom classes Open b p start end t rest o = refl
+ends-atom classes Close b p start end t rest o = refl
+ends-atom classes Quote b p start end t rest o = refl
+ends-atom classes Backslash b p start end t rest o = refl
+ends-atom classes (Mark class) b p start end t rest o = refl
+ends-atom classes Above b p start end t rest o = refl
+
+-- an atom ends before any other byte, which then does what it does outside
+pub atom-ends : {classes text : List ℕ} {at p q : ℕ} {kind : Kind} (start : ℕ) (t : List ℕ) → FirstCharacter classes text at kind p q → NotPlain kind
+    → scanFrom classes (charactersAt text at) (inAtom start at t) ≡ next (atom start at t) (scanBy classes text at)
+atom-ends {classes} {text} {at} {p} {q} {kind} start t x o =
+    moves x (inAtom start at t) _ refl ∙ ends-atom classes kind (getD text p 0) p start at t (λ s. scanFrom classes (charactersAt text q) s) o
+    ∙ ap (next (atom start at t)) (sym (moves x outside _ refl))
+
+pub quoted-data : (kind : Kind) (start : ℕ) (t : List ℕ) (b p : ℕ) → Data kind → move (inQuoted start t) kind b p ≡ go [] (inQuoted start (t ++ (b ∷ [])))
+quoted-data White start t b p o = refl
+quoted-data Control start t b p o = refl
+quoted-data Return start t b p o = absurd (miss (0 ∷ 1 ∷ 3 ∷ 4 ∷ 5 ∷ 8 ∷ []) 2 tt o)
+quoted-data Plain start t b p o = refl
+quoted-data Open start t b p o = refl
+quoted-data Close start t b p o = refl
+quoted-data Quote start t b p o = absurd (miss (0 ∷ 1 ∷ 3 ∷ 4 ∷ 5 ∷ 8 ∷ []) 6 tt o)
+quoted-data Backslash start t b p o = absurd (miss (0 ∷ 1 ∷ 3 ∷ 4 ∷ 5 ∷ 8 ∷ []) 7 tt o)
+quoted-data (Mark class) start t b p o = refl
+quoted-data Above start t b p o = absurd (miss (0 ∷ 1 ∷ 3 ∷ 4 ∷ 5 ∷ 8 ∷ []) 9 tt o)
+
+pub taken : (kind : Kind) (state : State) (p : ℕ) → Taken kind → scanning.take kind state p ≡ go [] state
+taken White state p o = refl
+taken Control state p o = refl
+taken Return state p o = refl
+taken Plain state p o = refl
+taken Open state p o = refl
+taken Close state p o = refl
+taken Quote state p o = refl
+taken Backslash state p o = refl
+taken (Mark class) state p o = refl
+taken Above state p o = absurd (miss (0 ∷ 1 ∷ 2 ∷ 3 ∷ 4 ∷ 5 ∷ 6 ∷ 7 ∷ 8 ∷ []) 9 tt o)
+
+pub comment-text : (kind : Kind) (depth start b p : ℕ) → Text kind → move (inComment depth start) kind b p ≡ go [] (inComment depth start)
+comment-text White depth start b p o = refl
+comment-text Control depth start b p o = refl
+comment-text Return depth start b p o = absurd (miss (0 ∷ 1 ∷ 3 ∷ 6 ∷ 8 ∷ []) 2 tt o)
+comment-text Plain depth start b p o = refl
+comment-text Open depth start b p o = absurd (miss (0 ∷ 1 ∷ 3 ∷ 6 ∷ 8 ∷ []) 4 tt o)
+comment-text Close depth start b p o = absurd (miss (0 ∷ 1 ∷ 3 ∷ 6 ∷ 8 ∷ []) 5 tt o)
+comment-text Quote depth start b p o = refl
+comment-text Backslash depth start b p o = absurd (miss (0 ∷ 1 ∷ 3 ∷ 6 ∷ 8 ∷ []) 7 tt o)
+comment-text (Mark class) depth start b p o = refl
+comment-text Above depth start b p o = absurd (miss (0 ∷ 1 ∷ 3 ∷ 6 ∷ 8 ∷ []) 9 tt o)
+
+-- a lone ")" or backslash
+stray : (kind : Kind) (b p : ℕ) → OneOf (5 ∷ 7 ∷ []) (tag kind) → move outside kind b p ≡ go (single Stray b p ∷ []) outside
+stray White b p o = absurd (miss (5 ∷ 7 ∷ []) 0 tt o)
+stray Control b p o = absurd (miss (5 ∷ 7 ∷ []) 1 tt o)
+stray Return b p o = absurd (miss (5 ∷ 7 ∷ []) 2 tt o)
+stray Plain b p o = absurd (miss (5 ∷ 7 ∷ []) 3 tt o)
+stray Open b p o = absurd (miss (5 ∷ 7 ∷ []) 4 tt o)
+stray Close b p o = refl
+stray Quote b p o = absurd (miss (5 ∷ 7 ∷ []) 6 tt o)
+stray Backslash b p o = refl
+stray (Mark class) b p o = absurd (miss (5 ∷ 7 ∷ []) 8 tt o)
+stray Above b p o = absurd (miss (5 ∷ 7 ∷ []) 9 tt o)
+
+-- a control byte outside
+stray-control : (kind : Kind) (b p : ℕ) → OneOf (1 ∷ 2 ∷ []) (tag kind) → move outside kind b p ≡ halt [] strayControl p
+stray-control White b p o = absurd (miss (1 ∷ 2 ∷ []) 0 tt o)
+stray-control Control b p o = refl
+stray-control Return b p o = refl
+stray-control Plain b p o = absurd (miss (1 ∷ 2 ∷ []) 3 tt o)
+stray-control Open b p o = absurd (miss (1 ∷ 2 ∷ []) 4 tt o)
+stray-control Close b p o = absurd (miss (1 ∷ 2 ∷ []) 5 tt o)
+stray-control Quote b p o = absurd (miss (1 ∷ 2 ∷ []) 6 tt o)
+stray-control Backslash b p o = absurd (miss (1 ∷ 2 ∷ []) 7 tt o)
+stray-control (Mark class) b p o = absurd (miss (1 ∷ 2 ∷ []) 8 tt o)
+stray-control Above b p o = absurd (miss (1 ∷ 2 ∷ []) 9 tt o)
+
+-- ---- an atom and its bytes
+
+part-more : (text : List ℕ) (start p : ℕ) → start ≤ p → p < length text → part text start p ++ (getD text p 0 ∷ []) ≡ part text start (p + 1)
+part-more text start p h k =
+    let e : p + 1 - start ≡ suc (p - start) = omega arith in
+    let n : start + (p - start) ≡ p = omega arith in
+    let g : getD (drop start text) (p - start) 0 ≡ getD text p 0 = rw (getD-drop, n) in
+    let j : p - start < length (drop start text) = rw length-drop (omega arith) in
+    rw e (sym (take-suc (drop start text) (p - start) 0 j ∙ rw g))
+
+part-none : (text : List ℕ) (start : ℕ) → part text start start ≡ []
+part-none text start = let e : start - start ≡ 0 = omega arith in rw e
+
+-- the part of one byte
+pub part-one : (text : List ℕ) (p q : ℕ) → q ≡ p + 1 → q ≤ length text → getD text p 0 ∷ [] ≡ part text p q
+part-one text p q e h = rw e (ap (λ l. l ++ (getD text p 0 ∷ [])) (sym (part-none text p)) ∙ part-more text p p (omega arith) (omega arith))
+
+plain-white : Plain ≡ White → ⊥
+plain-white e = let o : _≡_ {A = ℕ} 0 1 = cc in omega arith
+
+-- a plain byte goes on with the atom
+pub atom-on : {classes text : List ℕ} {at p q : ℕ} (start : ℕ) → start ≤ at → FirstCharacter classes text at Plain p q
+    → scanFrom classes (charactersAt text at) (inAtom start at (part text start at)) ≡ scanFrom classes (charactersAt text q) (inAtom start q (part text start q))
+atom-on {classes} {text} {at} {p} {q} start l x =
+    let e : p ≡ at = x .tight plain-white in
+    let n : q ≡ p + 1 = x .behind in
+    let w : q ≤ length text = x .within in
+    let k : part text start at ++ (getD text p 0 ∷ []) ≡ part text start q = rw (n, e) (part-more text start at l (omega arith)) in
+    moves x (inAtom start at (part text start at)) (go [] (inAtom start (p + 1) (part text start at ++ (getD text p 0 ∷ [])))) refl ∙ rw (k, ← n)
+
+-- a plain byte outside begins one
+pub atom-begins : {classes text : List ℕ} {at p q : ℕ} → FirstCharacter classes text at Plain p q
+    → scanBy classes text at ≡ scanFrom classes (charactersAt text q) (inAtom p q (part text p q))
+atom-begins {classes} {text} {at} {p} {q} x =
+    moves x outside (go [] (inAtom p (p + 1) (getD text p 0 ∷ []))) refl ∙ rw (part-one text p q (x .behind) (x .within), ← (x .behind))
+
+-- the text ends in an atom
+pub atom-last : (classes text : List ℕ) (start at : ℕ) (t : List ℕ) → charactersAt text at ≡ []
+    → scanFrom classes (charactersAt text at) (inAtom start at t) ≡ next (atom start at t) (scanBy classes text at)
+atom-last classes text start at t e = at-end classes text at (inAtom start at t) e ∙ ap (next (atom start at t)) (sym (at-end classes text at outside e))
+
+-- ---- a quoted-string
+
+-- from its opening quote scanning has come to a position inside it
+pub record Quoting (classes text : List ℕ) (start at p : ℕ) : Type 0 where
+  pub meaning : List ℕ
+  pub same : scanFrom classes (charactersAt text at) (inQuoted start []) ≡ scanFrom classes (charactersAt text p) (inQuoted start meaning)
+
+module _ {classes text : List ℕ} {start at p : ℕ} (w : Quoting classes text start at p) where
+  pub quoted-moves : {q r : ℕ} {kind : Kind} → FirstCharacter classes text p kind q r → (m : Move) → move (inQuoted start (w .meaning)) kind (getD text q 0) q ≡ m
+      → scanFrom classes (charactersAt text at) (inQuoted start []) ≡ then m (λ state. scanFrom classes (charactersAt text r) state)
+  quoted-moves x m e = w .same ∙ moves x (inQuoted start (w .meaning)) m e
+
+  -- data as they are
+  unfoldable pub quoted-on : {q r : ℕ} {kind : Kind} → FirstCharacter classes text p kind q r → Data kind → Quoting classes text start at r
+  quoted-on {q} {kind = kind} x o =
+      record { meaning = w .meaning ++ (getD text q 0 ∷ []); same = quoted-moves x (go [] (inQuoted start (w .meaning ++ (getD text q 0 ∷ [])))) (quoted-data kind start (w .meaning) (getD text q 0) q o) }
+
+  -- a backslash, and what comes of the character behind it
+  pub quoted-taking : {q r s u : ℕ} {kind : Kind} → FirstCharacter classes text p Backslash q r → FirstCharacter classes text r kind s u → (m : Move)
+      → scanning.take kind (inQuoted start (w .meaning ++ (getD text s 0 ∷ []))) s ≡ m
+      → scanFrom classes (charactersAt text at) (inQuoted start []) ≡ then m (λ state. scanFrom classes (charactersAt text u) state)
+  quoted-taking x y m e = quoted-moves x (go [] (takingInQuoted start (w .meaning))) refl ∙ moves y (takingInQuoted start (w .meaning)) m e
+
+  unfoldable pub quoted-taken : {q r s u : ℕ} {kind : Kind} → FirstCharacter classes text p Backslash q r → FirstCharacter classes text r kind s u → Taken kind → Quoting classes text start at u
+  quoted-taken {s = s} {kind = kind} x y o =
+      let t : List ℕ = w .meaning ++ (getD text s 0 ∷ []) in
+      record { meaning = t; same = quoted-taking x y (go [] (inQuoted start t)) (taken kind (inQuoted start t) s o) }
+
+-- ---- a comment
+
+-- from its outermost "(" scanning has come to a position inside it, `depth` comments lying around the one that is open there
+pub record Commenting (classes text : List ℕ) (start at depth p : ℕ) : Type 0 where
+  pub same : scanFrom classes (charactersAt text at) (inComment 0 start) ≡ scanFrom classes (charactersAt text p) (inComment depth start)
+
+closed-inner : (depth start : ℕ) → (depth ≡ 0 → ⊥) → closed depth start ≡ inComment (depth - 1) start
+closed-inner zero start n = absurd (n refl)
+closed-inner (suc depth) start n = let e : depth ≡ suc depth - 1 = omega arith in ap (λ (d : ℕ). inComment d start) e
+
+module _ {classes text : List ℕ} {start at depth p : ℕ} (w : Commenting classes text start at depth p) where
+  pub comment-moves : {q r : ℕ} {kind : Kind} → FirstCharacter classes text p kind q r → (m : Move) → move (inComment depth start) kind (getD text q 0) q ≡ m
+      → scanFrom classes (charactersAt text at) (inComment 0 start) ≡ then m (λ state. scanFrom classes (charactersAt text r) state)
+  comment-moves x m e = w .same ∙ moves x (inComment depth start) m e
+
+  -- text as it is
+  pub comment-on : {q r : ℕ} {kind : Kind} → FirstCharacter classes text p kind q r → Text kind → Commenting classes text start at depth r
+  comment-on {q} {kind = kind} x o = record { same = comment-moves x (go [] (inComment depth start)) (comment-text kind depth start (getD text q 0) q o) }
+
+  -- a comment in it opens
+  pub comment-opens : {q r : ℕ} → FirstCharacter classes text p Open q r → Commenting classes text start at (depth + 1) r
+  comment-opens x = record { same = comment-moves x (go [] (inComment (suc depth) start)) refl ∙ rw add-one }
+
+  -- a comment in it closes
+  pub comment-closes : {q r : ℕ} → FirstCharacter classes text p Close q r → (depth ≡ 0 → ⊥) → Commenting classes text start at (depth - 1) r
+  comment-closes x n = record { same = comment-moves x (go [] (closed depth start)) refl ∙ rw (closed-inner depth start n) }
+
+  -- it closes itself, and scanning goes on outside
+  pub comment-over : {q r : ℕ} → FirstCharacter classes text p Close q r → depth ≡ 0 → scanFrom classes (charactersAt text at) (inComment 0 start) ≡ scanBy classes text r
+  comment-over x e = comment-moves x (go [] (closed depth start)) refl ∙ rw e
+
+  -- a backslash, and what comes of the character behind it
+  pub comment-taking : {q r s u : ℕ} {kind : Kind} → FirstCharacter classes text p Backslash q r → FirstCharacter classes text r kind s u → (m : Move)
+      → scanning.take kind (inComment depth start) s ≡ m
+      → scanFrom classes (charactersAt text at) (inComment 0 start) ≡ then m (λ state. scanFrom classes (charactersAt text u) state)
+  comment-taking x y m e = comment-moves x (go [] (takingInComment depth start)) refl ∙ moves y (takingInComment depth start) m e
+
+  pub comment-taken : {q r s u : ℕ} {kind : Kind} → FirstCharacter classes text p Backslash q r → FirstCharacter classes text r kind s u → Taken kind → Commenting classes text start at depth u
+  comment-taken {s = s} {kind = kind} x y o =
+      record { same = comment-taking x y (go [] (inComment depth start)) (taken kind (inComment depth start) s o) }
+
+-- ---- symbols and faults of one character, outside
+
+module _ {classes text : List ℕ} {at p q : ℕ} where
+  -- a single byte that is a symbol
+  single-next : {kind : Kind} (class : Class) → FirstCharacter classes text at kind p q → move outside kind (getD text p 0) p ≡ go (single class (getD text p 0) p ∷ []) outside
+      → scanBy classes text at ≡ next (symbol class p q (getD text p 0 ∷ [])) (scanBy classes text q)
+  single-next class x e =
+      moves x outside (go (single class (getD text p 0) p ∷ []) outside) e
+      ∙ ap (λ (end : ℕ). next (symbol class p end (getD text p 0 ∷ [])) (scanBy classes text q)) (sym (x .behind))
+
+  pub mark-next : {class : Class} → FirstCharacter classes text at (Mark class) p q → scanBy classes text at ≡ next (symbol class p q (getD text p 0 ∷ [])) (scanBy classes text q)
+  mark-next {class} x = single-next class x refl
+
+  pub stray-next : {kind : Kind} → FirstCharacter classes text at kind p q → OneOf (5 ∷ 7 ∷ []) (tag kind) → scanBy classes text at ≡ next (symbol Stray p q (getD text p 0 ∷ [])) (scanBy classes text q)
+  stray-next {kind} x o = single-next Stray x (stray kind (getD text p 0) p o)
+
+  pub control-next : {kind : Kind} → FirstCharacter classes text at kind p q → OneOf (1 ∷ 2 ∷ []) (tag kind) → scanBy classes text at ≡ faultAt strayControl p
+  control-next {kind} x o = moves x outside (halt [] strayControl p) (stray-control kind (getD text p 0) p o)

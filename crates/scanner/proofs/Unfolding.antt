@@ -1,0 +1,391 @@
+-- What a text scans to is the unfolding of the next-symbol step: a symbol lies in the text, behind the position asked, and scanning goes on from its end.
+-- Assumes nothing.
+use mathlib.Core.Path.{_≡_, refl, sym, ap, _∙_}
+use mathlib.Core.Bool.{Bool, true, false}
+use mathlib.Core.List.{List, [], _∷_, _++_, append-assoc, append-nil}
+use Prim.Native.Nat.{ℕ, zero, suc, _+_, _-_, _≤_, _<_}
+use native.Mathlib.Decide.{decLt}
+use native.Mathlib.Omega.{arith}
+use lib.Dec.{eqb}
+use lib.ListN.{length, getD}
+use types.Run.{hit}
+use Rattle.octets.specs.Numbers.{quotedNotClosed, commentNotClosed, strayControl, byteAbove127}
+use Rattle.octets.specs.Choice.{pick}
+use Rattle.octets.specs.Classes.{white, control, openParenthesis, closeParenthesis, lessThan, greaterThan, atSign, comma, semicolon, colon, backslash, quote, above127}
+use Rattle.octets.specs.Letters.{sameLetters}
+use Rattle.octets.specs.Text.{bytes, part}
+use Rattle.scanner.specs.Symbols.{Symbol}
+use Rattle.scanner.specs.Kinds.{kindOfClass, kindOf, characterKind}
+use Rattle.scanner.specs.Characters.{charactersAt}
+use Rattle.scanner.specs.Scanning.{Scanned, ended, next, faultAt, outside, inAtom, inQuoted, takingInQuoted, inComment, takingInComment, go, halt, symbol, atom, atomClass, atEnd, scanFrom, scanBy}
+use Rattle.scanner.specs.Answers.{nextOf, faultOf}
+use Rattle.scanner.specs.Steps.{FirstCharacter, AtomEnds, CommentEnds}
+use Rattle.scanner.specs.declared.Class.{Class}
+use Rattle.scanner.specs.declared.Class.the-variants.{Atom, Quoted, At, LessThan, GreaterThan, Comma, Semicolon, Colon, Stray}
+use Rattle.scanner.specs.declared.Next.the-variants.{Found, Ended, Fault}
+use Rattle.scanner.specs.declared.Kind.{Kind}
+use Rattle.scanner.specs.declared.Kind.the-variants.{White, Control, Return, Plain, Open, Close, Quote, Backslash, Mark, Above}
+use Rattle.scanner.proofs.CharacterLaws.{View, over, one, view}
+use Rattle.scanner.proofs.MoveLaws.{tag, part-one, NotPlain, Data, Text, Taken, at-end, moves, atom-on, atom-begins, atom-ends, atom-last, Quoting, quoted-moves, quoted-on, quoted-taking, quoted-taken, Commenting, comment-moves, comment-on, comment-opens, comment-closes, comment-over, comment-taking, comment-taken, mark-next, stray-next, control-next}
+use Rattle.scanner.proofs.Meanings.{dataFrom, dataAt, meaningAt, data-on, data-backslash, data-taken, data-quote}
+
+module _ (classes text : List ℕ) where
+  -- ---- an atom ends
+
+  record Ends (start at : ℕ) : Type 0 where
+    end : ℕ
+    is : AtomEnds classes text start at end
+
+  atom-further : {start at p q : ℕ} → start ≤ at → FirstCharacter classes text at Plain p q → Ends start q → Ends start at
+  atom-further {start} l x e =
+      record { end = e .end; is = record { same = atom-on start l x ∙ e .is .same; from = omega (arith, x .from, x .behind, e .is .from); within = e .is .within } }
+
+  atom-here : {start at p q : ℕ} {kind : Kind} → at ≤ length text → FirstCharacter classes text at kind p q → NotPlain kind → Ends start at
+  atom-here {start} {at} h x o = record { end = at; is = record { same = atom-ends start (part text start at) x o; from = omega arith; within = h } }
+
+  atom-by : (start at : ℕ) {p q : ℕ} (kind : Kind) → start ≤ at → at ≤ length text → FirstCharacter classes text at kind p q → Ends start q → Ends start at
+  atom-by start at White l h x e = atom-here h x (hit (0 ∷ 1 ∷ 2 ∷ 4 ∷ 5 ∷ 6 ∷ 7 ∷ 8 ∷ 9 ∷ []) 0 tt)
+  atom-by start at Control l h x e = atom-here h x (hit (0 ∷ 1 ∷ 2 ∷ 4 ∷ 5 ∷ 6 ∷ 7 ∷ 8 ∷ 9 ∷ []) 1 tt)
+  atom-by start at Return l h x e = atom-here h x (hit (0 ∷ 1 ∷ 2 ∷ 4 ∷ 5 ∷ 6 ∷ 7 ∷ 8 ∷ 9 ∷ []) 2 tt)
+  atom-by start at Plain l h x e = atom-further l x e
+  atom-by start at Open l h x e = atom-here h x (hit (0 ∷ 1 ∷ 2 ∷ 4 ∷ 5 ∷ 6 ∷ 7 ∷ 8 ∷ 9 ∷ []) 4 tt)
+  atom-by start at Close l h x e = atom-here h x (hit (0 ∷ 1 ∷ 2 ∷ 4 ∷ 5 ∷ 6 ∷ 7 ∷ 8 ∷ 9 ∷ []) 5 tt)
+  atom-by start at Quote l h x e = atom-here h x (hit (0 ∷ 1 ∷ 2 ∷ 4 ∷ 5 ∷ 6 ∷ 7 ∷ 8 ∷ 9 ∷ []) 6 tt)
+  atom-by start at Backslash l h x e = atom-here h x (hit (0 ∷ 1 ∷ 2 ∷ 4 ∷ 5 ∷ 6 ∷ 7 ∷ 8 ∷ 9 ∷ []) 7 tt)
+  atom-by start at (Mark class) l h x e = atom-here h x (hit (0 ∷ 1 ∷ 2 ∷ 4 ∷ 5 ∷ 6 ∷ 7 ∷ 8 ∷ 9 ∷ []) 8 tt)
+  atom-by start at Above l h x e = atom-here h x (hit (0 ∷ 1 ∷ 2 ∷ 4 ∷ 5 ∷ 6 ∷ 7 ∷ 8 ∷ 9 ∷ []) 9 tt)
+
+  atom-view : (start at : ℕ) → start ≤ at → at ≤ length text → View classes text at → ((q : ℕ) → at < q → q ≤ length text → Ends start q) → Ends start at
+  atom-view start at l h (over e) f = record { end = at; is = record { same = atom-last classes text start at (part text start at) e; from = omega arith; within = h } }
+  atom-view start at l h (one {kind} {q = q} x) f = atom-by start at kind l h x (f q (omega (arith, x .from, x .behind)) (x .within))
+
+  -- from any position in an atom, with at most `n` bytes left
+  atom-run : (n start at : ℕ) → length text ≤ at + n → start ≤ at → at ≤ length text → Ends start at
+  atom-run zero start at m l h = atom-view start at l h (view classes text at) (λ q a b. absurd (omega arith))
+  atom-run (suc n) start at m l h = atom-view start at l h (view classes text at) (λ q a b. atom-run n start q (omega arith) (omega arith) b)
+
+  -- ---- a quoted-string closes, or there is a fault
+
+  data Closes (start at : ℕ) : Type 0 where
+    closes : (end : ℕ) → scanFrom classes (charactersAt text at) (inQuoted start []) ≡ next (symbol Quoted start end (dataAt classes text at)) (scanBy classes text end)
+        → at < end → end ≤ length text → Closes start at
+    faulty : (number p : ℕ) → scanFrom classes (charactersAt text at) (inQuoted start []) ≡ faultAt number p → Closes start at
+
+  -- scanning has come to p, and the data passed are those of the walk
+  record Passed (start at p : ℕ) : Type 0 where
+    quoting : Quoting classes text start at p
+    data-so-far : dataAt classes text at ≡ quoting .meaning ++ dataAt classes text p
+    from : at ≤ p
+
+  passed-data : {start at p q r : ℕ} {kind : Kind} → Passed start at p → FirstCharacter classes text p kind q r → Data kind → Passed start at r
+  unfolding quoted-on
+  passed-data {q = q} w x o =
+      record { quoting = quoted-on (w .quoting) x o; data-so-far = w .data-so-far ∙ rw (data-on x o, append-assoc); from = omega (arith, w .from, x .from, x .behind) }
+
+  passed-taken : {start at p q r s u : ℕ} {kind : Kind} → Passed start at p → FirstCharacter classes text p Backslash q r → FirstCharacter classes text r kind s u → Taken kind → Passed start at u
+  unfolding quoted-taken
+  passed-taken w x y o =
+      record {
+        quoting = quoted-taken (w .quoting) x y o;
+        data-so-far = w .data-so-far ∙ rw (data-backslash x, data-taken y, append-assoc);
+        from = omega (arith, w .from, x .from, x .behind, y .from, y .behind);
+      }
+
+  closing : {start at p q r : ℕ} → Passed start at p → FirstCharacter classes text p Quote q r → Closes start at
+  closing {start} {at} {p} {q} {r} w x =
+      let m : w .quoting .meaning ≡ dataAt classes text at = sym (w .data-so-far ∙ rw (data-quote x, append-nil)) in
+      closes r
+      (quoted-moves (w .quoting) x (go (symbol Quoted start (q + 1) (w .quoting .meaning) ∷ []) outside) refl ∙ rw (x .behind, m))
+      (omega (arith, w .from, x .from, x .behind)) (x .within)
+
+  -- the character behind a backslash
+  taking-by : (start at p : ℕ) {q r s u : ℕ} (kind : Kind) → Passed start at p → FirstCharacter classes text p Backslash q r → FirstCharacter classes text r kind s u → (Passed start at u → Closes start at) → Closes start at
+  taking-by start at p White w x y f = f (passed-taken w x y (hit (0 ∷ 1 ∷ 2 ∷ 3 ∷ 4 ∷ 5 ∷ 6 ∷ 7 ∷ 8 ∷ []) 0 tt))
+  taking-by start at p Control w x y f = f (passed-taken w x y (hit (0 ∷ 1 ∷ 2 ∷ 3 ∷ 4 ∷ 5 ∷ 6 ∷ 7 ∷ 8 ∷ []) 1 tt))
+  taking-by start at p Return w x y f = f (passed-taken w x y (hit (0 ∷ 1 ∷ 2 ∷ 3 ∷ 4 ∷ 5 ∷ 6 ∷ 7 ∷ 8 ∷ []) 2 tt))
+  taking-by start at p Plain w x y f = f (passed-taken w x y (hit (0 ∷ 1 ∷ 2 ∷ 3 ∷ 4 ∷ 5 ∷ 6 ∷ 7 ∷ 8 ∷ []) 3 tt))
+  taking-by start at p Open w x y f = f (passed-taken w x y (hit (0 ∷ 1 ∷ 2 ∷ 3 ∷ 4 ∷ 5 ∷ 6 ∷ 7 ∷ 8 ∷ []) 4 tt))
+  taking-by start at p Close w x y f = f (passed-taken w x y (hit (0 ∷ 1 ∷ 2 ∷ 3 ∷ 4 ∷ 5 ∷ 6 ∷ 7 ∷ 8 ∷ []) 5 tt))
+  taking-by start at p Quote w x y f = f (passed-taken w x y (hit (0 ∷ 1 ∷ 2 ∷ 3 ∷ 4 ∷ 5 ∷ 6 ∷ 7 ∷ 8 ∷ []) 6 tt))
+  taking-by start at p Backslash w x y f = f (passed-taken w x y (hit (0 ∷ 1 ∷ 2 ∷ 3 ∷ 4 ∷ 5 ∷ 6 ∷ 7 ∷ 8 ∷ []) 7 tt))
+  taking-by start at p (Mark class) w x y f = f (passed-taken w x y (hit (0 ∷ 1 ∷ 2 ∷ 3 ∷ 4 ∷ 5 ∷ 6 ∷ 7 ∷ 8 ∷ []) 8 tt))
+  taking-by start at p Above w x y f = faulty byteAbove127 _ (quoted-taking (w .quoting) x y (halt [] byteAbove127 _) refl)
+
+  taking-view : (start at p : ℕ) {q r : ℕ} → Passed start at p → FirstCharacter classes text p Backslash q r → View classes text r
+      → ((u : ℕ) → p < u → u ≤ length text → Passed start at u → Closes start at) → Closes start at
+  taking-view start at p {r = r} w x (over e) f =
+      faulty quotedNotClosed start (quoted-moves (w .quoting) x (go [] (takingInQuoted start (w .quoting .meaning))) refl ∙ at-end classes text r _ e)
+  taking-view start at p w x (one {kind} {q = u} y) f = taking-by start at p kind w x y (λ z. f u (omega (arith, x .from, x .behind, y .from, y .behind)) (y .within) z)
+
+  quoted-by : (start at p : ℕ) {q r : ℕ} (kind : Kind) → Passed start at p → FirstCharacter classes text p kind q r → View classes text r
+      → ((u : ℕ) → p < u → u ≤ length text → Passed start at u → Closes start at) → Closes start at
+  quoted-by start at p {r = r} White w x v f = f r (omega (arith, x .from, x .behind)) (x .within) (passed-data w x (hit (0 ∷ 1 ∷ 3 ∷ 4 ∷ 5 ∷ 8 ∷ []) 0 tt))
+  quoted-by start at p {r = r} Control w x v f = f r (omega (arith, x .from, x .behind)) (x .within) (passed-data w x (hit (0 ∷ 1 ∷ 3 ∷ 4 ∷ 5 ∷ 8 ∷ []) 1 tt))
+  quoted-by start at p {r = r} Return w x v f = faulty strayControl _ (quoted-moves (w .quoting) x (halt [] strayControl _) refl)
+  quoted-by start at p {r = r} Plain w x v f = f r (omega (arith, x .from, x .behind)) (x .within) (passed-data w x (hit (0 ∷ 1 ∷ 3 ∷ 4 ∷ 5 ∷ 8 ∷ []) 3 tt))
+  quoted-by start at p {r = r} Open w x v f = f r (omega (arith, x .from, x .behind)) (x .within) (passed-data w x (hit (0 ∷ 1 ∷ 3 ∷ 4 ∷ 5 ∷ 8 ∷ []) 4 tt))
+  quoted-by start at p {r = r} Close w x v f = f r (omega (arith, x .from, x .behind)) (x .within) (passed-data w x (hit (0 ∷ 1 ∷ 3 ∷ 4 ∷ 5 ∷ 8 ∷ []) 5 tt))
+  quoted-by start at p {r = r} Quote w x v f = closing w x
+  quoted-by start at p {r = r} Backslash w x v f = taking-view start at p w x v f
+  quoted-by start at p {r = r} (Mark class) w x v f = f r (omega (arith, x .from, x .behind)) (x .within) (passed-data w x (hit (0 ∷ 1 ∷ 3 ∷ 4 ∷ 5 ∷ 8 ∷ []) 8 tt))
+  quoted-by start at p {r = r} Above w x v f = faulty byteAbove127 _ (quoted-moves (w .quoting) x (halt [] byteAbove127 _) refl)
+
+  quoted-view : (start at p : ℕ) → Passed start at p → View classes text p → ((u : ℕ) → p < u → u ≤ length text → Passed start at u → Closes start at) → Closes start at
+  quoted-view start at p w (over e) f = faulty quotedNotClosed start (w .quoting .same ∙ at-end classes text p _ e)
+  quoted-view start at p w (one {kind} {q = r} x) f = quoted-by start at p kind w x (view classes text r) f
+
+  quoted-run : (n start at p : ℕ) → length text ≤ p + n → Passed start at p → Closes start at
+  quoted-run zero start at p m w = quoted-view start at p w (view classes text p) (λ u a b z. absurd (omega arith))
+  quoted-run (suc n) start at p m w = quoted-view start at p w (view classes text p) (λ u a b z. quoted-run n start at u (omega arith) z)
+
+  -- ---- a comment ends, or there is a fault
+
+  data Leaves (start at : ℕ) : Type 0 where
+    leaves : (end : ℕ) → CommentEnds classes text at start end → Leaves start at
+    faulty : (number p : ℕ) → scanFrom classes (charactersAt text at) (inComment 0 start) ≡ faultAt number p → Leaves start at
+
+  record Within (start at depth p : ℕ) : Type 0 where
+    commenting : Commenting classes text start at depth p
+    from : at ≤ p
+
+  leaving : (start at depth p : ℕ) {q r : ℕ} → Within start at depth p → FirstCharacter classes text p Close q r → ((depth′ : ℕ) → Within start at depth′ r → Leaves start at) → Leaves start at
+  leaving start at depth p {r = r} w x f =
+      elim (decLt 0 depth) [
+        | yes h ↦ f (depth - 1) record { commenting = comment-closes (w .commenting) x (λ e. absurd (omega arith)); from = omega (arith, w .from, x .from, x .behind) }
+        | no n ↦ leaves r record { same = comment-over (w .commenting) x (omega arith); from = omega (arith, w .from, x .from, x .behind); within = x .within }
+      ]
+
+  escaped-by : (start at depth p : ℕ) {q r s u : ℕ} (kind : Kind) → Within start at depth p → FirstCharacter classes text p Backslash q r → FirstCharacter classes text r kind s u
+      → (Within start at depth u → Leaves start at) → Leaves start at
+  escaped-by start at depth p White w x y f = f record { commenting = comment-taken (w .commenting) x y (hit (0 ∷ 1 ∷ 2 ∷ 3 ∷ 4 ∷ 5 ∷ 6 ∷ 7 ∷ 8 ∷ []) 0 tt); from = omega (arith, w .from, x .from, x .behind, y .from, y .behind) }
+  escaped-by start at depth p Control w x y f = f record { commenting = comment-taken (w .commenting) x y (hit (0 ∷ 1 ∷ 2 ∷ 3 ∷ 4 ∷ 5 ∷ 6 ∷ 7 ∷ 8 ∷ []) 1 tt); from = omega (arith, w .from, x .from, x .behind, y .from, y .behind) }
+  escaped-by start at depth p Return w x y f = f record { commenting = comment-taken (w .commenting) x y (hit (0 ∷ 1 ∷ 2 ∷ 3 ∷ 4 ∷ 5 ∷ 6 ∷ 7 ∷ 8 ∷ []) 2 tt); from = omega (arith, w .from, x .from, x .behind, y .from, y .behind) }
+  escaped-by start at depth p Plain w x y f = f record { commenting = comment-taken (w .commenting) x y (hit (0 ∷ 1 ∷ 2 ∷ 3 ∷ 4 ∷ 5 ∷ 6 ∷ 7 ∷ 8 ∷ []) 3 tt); from = omega (arith, w .from, x .from, x .behind, y .from, y .behind) }
+  escaped-by start at depth p Open w x y f = f record { commenting = comment-taken (w .commenting) x y (hit (0 ∷ 1 ∷ 2 ∷ 3 ∷ 4 ∷ 5 ∷ 6 ∷ 7 ∷ 8 ∷ []) 4 tt); from = omega (arith, w .from, x .from, x .behind, y .from, y .behind) }
+  escaped-by start at depth p Close w x y f = f record { commenting = comment-taken (w .commenting) x y (hit (0 ∷ 1 ∷ 2 ∷ 3 ∷ 4 ∷ 5 ∷ 6 ∷ 7 ∷ 8 ∷ []) 5 tt); from = omega (arith, w .from, x .from, x .behind, y .from, y .behind) }
+  escaped-by start at depth p Quote w x y f = f record { commenting = comment-taken (w .commenting) x y (hit (0 ∷ 1 ∷ 2 ∷ 3 ∷ 4 ∷ 5 ∷ 6 ∷ 7 ∷ 8 ∷ []) 6 tt); from = omega (arith, w .from, x .from, x .behind, y .from, y .behind) }
+  escaped-by start at depth p Backslash w x y f = f record { commenting = comment-taken (w .commenting) x y (hit (0 ∷ 1 ∷ 2 ∷ 3 ∷ 4 ∷ 5 ∷ 6 ∷ 7 ∷ 8 ∷ []) 7 tt); from = omega (arith, w .from, x .from, x .behind, y .from, y .behind) }
+  escaped-by start at depth p (Mark class) w x y f = f record { commenting = comment-taken (w .commenting) x y (hit (0 ∷ 1 ∷ 2 ∷ 3 ∷ 4 ∷ 5 ∷ 6 ∷ 7 ∷ 8 ∷ []) 8 tt); from = omega (arith, w .from, x .from, x .behind, y .from, y .behind) }
+  escaped-by start at depth p Above w x y f = faulty byteAbove127 _ (comment-taking (w .commenting) x y (halt [] byteAbove127 _) refl)
+
+  escaped-view : (start at depth p : ℕ) {q r : ℕ} → Within start at depth p → FirstCharacter classes text p Backslash q r → View classes text r
+      → ((u depth′ : ℕ) → p < u → u ≤ length text → Within start at depth′ u → Leaves start at) → Leaves start at
+  escaped-view start at depth p {r = r} w x (over e) f =
+      faulty commentNotClosed start (comment-moves (w .commenting) x (go [] (takingInComment depth start)) refl ∙ at-end classes text r _ e)
+  escaped-view start at depth p w x (one {kind} {q = u} y) f = escaped-by start at depth p kind w x y (λ z. f u depth (omega (arith, x .from, x .behind, y .from, y .behind)) (y .within) z)
+
+  comment-by : (start at depth p : ℕ) {q r : ℕ} (kind : Kind) → Within start at depth p → FirstCharacter classes text p kind q r → View classes text r
+      → ((u depth′ : ℕ) → p < u → u ≤ length text → Within start at depth′ u → Leaves start at) → Leaves start at
+  comment-by start at depth p {r = r} White w x v f = f r depth (omega (arith, x .from, x .behind)) (x .within) record { commenting = comment-on (w .commenting) x (hit (0 ∷ 1 ∷ 3 ∷ 6 ∷ 8 ∷ []) 0 tt); from = omega (arith, w .from, x .from, x .behind) }
+  comment-by start at depth p {r = r} Control w x v f = f r depth (omega (arith, x .from, x .behind)) (x .within) record { commenting = comment-on (w .commenting) x (hit (0 ∷ 1 ∷ 3 ∷ 6 ∷ 8 ∷ []) 1 tt); from = omega (arith, w .from, x .from, x .behind) }
+  comment-by start at depth p {r = r} Return w x v f = faulty strayControl _ (comment-moves (w .commenting) x (halt [] strayControl _) refl)
+  comment-by start at depth p {r = r} Plain w x v f = f r depth (omega (arith, x .from, x .behind)) (x .within) record { commenting = comment-on (w .commenting) x (hit (0 ∷ 1 ∷ 3 ∷ 6 ∷ 8 ∷ []) 3 tt); from = omega (arith, w .from, x .from, x .behind) }
+  comment-by start at depth p {r = r} Open w x v f = f r (depth + 1) (omega (arith, x .from, x .behind)) (x .within) record { commenting = comment-opens (w .commenting) x; from = omega (arith, w .from, x .from, x .behind) }
+  comment-by start at depth p {r = r} Close w x v f = leaving start at depth p w x (λ d z. f r d (omega (arith, x .from, x .behind)) (x .within) z)
+  comment-by start at depth p {r = r} Quote w x v f = f r depth (omega (arith, x .from, x .behind)) (x .within) record { commenting = comment-on (w .commenting) x (hit (0 ∷ 1 ∷ 3 ∷ 6 ∷ 8 ∷ []) 6 tt); from = omega (arith, w .from, x .from, x .behind) }
+  comment-by start at depth p {r = r} Backslash w x v f = escaped-view start at depth p w x v f
+  comment-by start at depth p {r = r} (Mark class) w x v f = f r depth (omega (arith, x .from, x .behind)) (x .within) record { commenting = comment-on (w .commenting) x (hit (0 ∷ 1 ∷ 3 ∷ 6 ∷ 8 ∷ []) 8 tt); from = omega (arith, w .from, x .from, x .behind) }
+  comment-by start at depth p {r = r} Above w x v f = faulty byteAbove127 _ (comment-moves (w .commenting) x (halt [] byteAbove127 _) refl)
+
+  comment-view : (start at depth p : ℕ) → Within start at depth p → View classes text p → ((u depth′ : ℕ) → p < u → u ≤ length text → Within start at depth′ u → Leaves start at) → Leaves start at
+  comment-view start at depth p w (over e) f = faulty commentNotClosed start (w .commenting .same ∙ at-end classes text p _ e)
+  comment-view start at depth p w (one {kind} {q = r} x) f = comment-by start at depth p kind w x (view classes text r) f
+
+  comment-run : (n start at depth p : ℕ) → length text ≤ p + n → Within start at depth p → Leaves start at
+  comment-run zero start at depth p m w = comment-view start at depth p w (view classes text p) (λ u d a b z. absurd (omega arith))
+  comment-run (suc n) start at depth p m w = comment-view start at depth p w (view classes text p) (λ u d a b z. comment-run n start at d u (omega arith) z)
+
+-- ---- meanings by place
+
+meaning-atom : (classes text : List ℕ) (start end : ℕ) (test : Bool) → meaningAt classes text (pick test At Atom) start end ≡ part text start end
+meaning-atom classes text start end true = refl
+meaning-atom classes text start end false = refl
+
+atom-not-quoted : (test : Bool) → pick test At Atom ≡ Quoted → ⊥
+atom-not-quoted true e = let z : _≡_ {A = ℕ} 0 1 = cc in omega arith
+atom-not-quoted false e = let z : _≡_ {A = ℕ} 0 1 = cc in omega arith
+
+-- no mark is a quoted-string
+abbrev Single : Class → Type 0
+Single Atom = Unit {0}
+Single Quoted = ⊥
+Single At = Unit {0}
+Single LessThan = Unit {0}
+Single GreaterThan = Unit {0}
+Single Comma = Unit {0}
+Single Semicolon = Unit {0}
+Single Colon = Unit {0}
+Single Stray = Unit {0}
+
+abbrev SingleMark : Kind → Type 0
+SingleMark White = Unit {0}
+SingleMark Control = Unit {0}
+SingleMark Return = Unit {0}
+SingleMark Plain = Unit {0}
+SingleMark Open = Unit {0}
+SingleMark Close = Unit {0}
+SingleMark Quote = Unit {0}
+SingleMark Backslash = Unit {0}
+SingleMark (Mark class) = Single class
+SingleMark Above = Unit {0}
+
+or-else : (test : Bool) (a b : Kind) → SingleMark a → SingleMark b → SingleMark (pick test a b)
+or-else true a b x y = x
+or-else false a b x y = y
+
+class-mark : (c : ℕ) → SingleMark (kindOfClass c)
+class-mark c =
+    or-else (eqb c white) _ _ tt (or-else (eqb c control) _ _ tt (or-else (eqb c openParenthesis) _ _ tt (or-else (eqb c closeParenthesis) _ _ tt
+    (or-else (eqb c lessThan) _ _ tt (or-else (eqb c greaterThan) _ _ tt (or-else (eqb c atSign) _ _ tt (or-else (eqb c comma) _ _ tt
+    (or-else (eqb c semicolon) _ _ tt (or-else (eqb c colon) _ _ tt (or-else (eqb c backslash) _ _ tt (or-else (eqb c quote) _ _ tt
+    (or-else (eqb c above127) _ _ tt tt))))))))))))
+
+character-mark : (classes : List ℕ) (b : ℕ) (folded : Bool) → SingleMark (characterKind classes b folded)
+unfolding kindOf
+character-mark classes b folded = or-else folded _ _ tt (or-else (eqb b 13) _ _ tt (class-mark (getD classes b 0)))
+
+meaning-single : (classes text : List ℕ) (class : Class) (p q : ℕ) → Single class → q ≡ p + 1 → q ≤ length text → getD text p 0 ∷ [] ≡ meaningAt classes text class p q
+meaning-single classes text Atom p q s e h = part-one text p q e h
+meaning-single classes text Quoted p q s e h = absurd s
+meaning-single classes text At p q s e h = part-one text p q e h
+meaning-single classes text LessThan p q s e h = part-one text p q e h
+meaning-single classes text GreaterThan p q s e h = part-one text p q e h
+meaning-single classes text Comma p q s e h = part-one text p q e h
+meaning-single classes text Semicolon p q s e h = part-one text p q e h
+meaning-single classes text Colon p q s e h = part-one text p q e h
+meaning-single classes text Stray p q s e h = part-one text p q e h
+
+-- ---- one step outside
+
+-- the first symbol at or after a position: it lies in the text, and scanning goes on from its end
+pub record SymbolAt (classes text : List ℕ) (at : ℕ) (class : Class) (start end : ℕ) : Type 0 where
+  pub same : scanBy classes text at ≡ next (symbol class start end (meaningAt classes text class start end)) (scanBy classes text end)
+  pub from : at ≤ start
+  pub starts : start < end
+  pub within : end ≤ length text
+  pub quotes : class ≡ Quoted → start + 2 ≤ end
+
+pub data Unfolded (classes text : List ℕ) (at : ℕ) : Type 0 where
+  no-symbol : scanBy classes text at ≡ ended → Unfolded classes text at
+  a-symbol : {class : Class} {start end : ℕ} → SymbolAt classes text at class start end → Unfolded classes text at
+  a-fault : {number p : ℕ} → scanBy classes text at ≡ faultAt number p → Unfolded classes text at
+
+module _ (classes text : List ℕ) where
+  later : {at q : ℕ} → at ≤ q → scanBy classes text at ≡ scanBy classes text q → Unfolded classes text q → Unfolded classes text at
+  later h e (no-symbol f) = no-symbol (e ∙ f)
+  later h e (a-symbol s) = a-symbol record { same = e ∙ s .same; from = omega (arith, s .from); starts = s .starts; within = s .within; quotes = s .quotes }
+  later h e (a-fault f) = a-fault (e ∙ f)
+
+  one-byte : {at p q : ℕ} {kind : Kind} {class : Class} → FirstCharacter classes text at kind p q → Single class
+      → scanBy classes text at ≡ next (symbol class p q (getD text p 0 ∷ [])) (scanBy classes text q) → Unfolded classes text at
+  one-byte {p = p} {q = q} {class = class} x s e =
+      a-symbol
+      record {
+        same = e ∙ ap (λ (m : List ℕ). next (symbol class p q m) (scanBy classes text q)) (meaning-single classes text class p q s (x .behind) (x .within));
+        from = x .from;
+        starts = omega (arith, x .behind);
+        within = x .within;
+        quotes = λ e. absurd (rw e at s);
+      }
+
+  in-atom : {at p q : ℕ} → FirstCharacter classes text at Plain p q → Ends classes text p q → Unfolded classes text at
+  in-atom {p = p} x e =
+      a-symbol
+      record {
+        same =
+            atom-begins x ∙ e .is .same
+            ∙ ap (λ (m : List ℕ). next (symbol (atomClass (part text p (e .end))) p (e .end) m) (scanBy classes text (e .end)))
+            (sym (meaning-atom classes text p (e .end) (sameLetters (part text p (e .end)) (bytes "at"))));
+        from = x .from;
+        starts = omega (arith, x .behind, e .is .from);
+        within = e .is .within;
+        quotes = λ q. absurd (atom-not-quoted (sameLetters (part text p (e .end)) (bytes "at")) q);
+      }
+
+  in-quoted : {at p q : ℕ} → FirstCharacter classes text at Quote p q → Closes classes text p q → Unfolded classes text at
+  in-quoted {at} {p} {q} x (closes end e l h) =
+      a-symbol
+      record {
+        same =
+            moves x outside (go [] (inQuoted p [])) refl ∙ e
+            ∙ ap (λ (i : ℕ). next (symbol Quoted p end (dataAt classes text i)) (scanBy classes text end)) (x .behind);
+        from = x .from;
+        starts = omega (arith, x .behind);
+        within = h;
+        quotes = λ q. omega (arith, x .behind);
+      }
+  in-quoted {p = p} x (faulty number r e) = a-fault (moves x outside (go [] (inQuoted p [])) refl ∙ e)
+
+  in-comment : {at p q : ℕ} → FirstCharacter classes text at Open p q → Leaves classes text p q → ((r : ℕ) → at < r → r ≤ length text → Unfolded classes text r) → Unfolded classes text at
+  in-comment {p = p} x (leaves end e) f =
+      later (omega (arith, x .from, x .behind, e .from)) (moves x outside (go [] (inComment 0 p)) refl ∙ e .same)
+      (f end (omega (arith, x .from, x .behind, e .from)) (e .within))
+  in-comment {p = p} x (faulty number r e) f = a-fault (moves x outside (go [] (inComment 0 p)) refl ∙ e)
+
+  outside-by : (at : ℕ) {p q : ℕ} (kind : Kind) → SingleMark kind → FirstCharacter classes text at kind p q → ((r : ℕ) → at < r → r ≤ length text → Unfolded classes text r) → Unfolded classes text at
+  outside-by at {q = q} White s x f = later (omega (arith, x .from, x .behind)) (moves x outside (go [] outside) refl) (f q (omega (arith, x .from, x .behind)) (x .within))
+  outside-by at Control s x f = a-fault (control-next x (hit (1 ∷ 2 ∷ []) 1 tt))
+  outside-by at Return s x f = a-fault (control-next x (hit (1 ∷ 2 ∷ []) 2 tt))
+  outside-by at {p = p} {q = q} Plain s x f = in-atom x (atom-run classes text (length text) p q (omega arith) (omega (arith, x .behind)) (x .within))
+  outside-by at {p = p} {q = q} Open s x f =
+      in-comment x (comment-run classes text (length text) p q 0 q (omega arith) record { commenting = record { same = refl }; from = omega arith }) f
+  outside-by at Close s x f = one-byte x tt (stray-next x (hit (5 ∷ 7 ∷ []) 5 tt))
+  outside-by at {p = p} {q = q} Quote s x f =
+      in-quoted x (quoted-run classes text (length text) p q q (omega arith) record { quoting = record { meaning = []; same = refl }; data-so-far = refl; from = omega arith })
+  outside-by at Backslash s x f = one-byte x tt (stray-next x (hit (5 ∷ 7 ∷ []) 7 tt))
+  outside-by at (Mark class) s x f = one-byte x s (mark-next x)
+  outside-by at {p = p} Above s x f = a-fault (moves x outside (halt [] byteAbove127 p) refl)
+
+  outside-view : (at : ℕ) → View classes text at → ((r : ℕ) → at < r → r ≤ length text → Unfolded classes text r) → Unfolded classes text at
+  outside-view at (over e) f = no-symbol (at-end classes text at outside e)
+  outside-view at (one {kind} {p = p} x) f = outside-by at kind (rw (x .kind-is) (character-mark classes (getD text p 0) (x .folded))) x f
+
+  outside-run : (n at : ℕ) → length text ≤ at + n → Unfolded classes text at
+  outside-run zero at m = outside-view at (view classes text at) (λ r a b. absurd (omega arith))
+  outside-run (suc n) at m = outside-view at (view classes text at) (λ r a b. outside-run n r (omega arith))
+
+  -- scanning from any position unfolds
+  pub unfolded : (at : ℕ) → Unfolded classes text at
+  unfolded at = outside-run (length text) at (omega arith)
+
+  -- the symbol that the next-symbol step finds
+  pub found : (at : ℕ) {class : Class} {start end : ℕ} → Found class start end ≡ nextOf (scanBy classes text at) → SymbolAt classes text at class start end
+  found at {class} {start} {end} e = by (unfolded at)
+    where
+      by : Unfolded classes text at → SymbolAt classes text at class start end
+      by (no-symbol f) = absurd (let z : _≡_ {A = ℕ} 0 1 = cc (ap nextOf f) in omega arith)
+      by (a-symbol {class = c} {start = s} {end = n} x) =
+          let f : Found class start end ≡ Found c s n = e ∙ ap nextOf (x .same) in
+          let p : class ≡ c = cc in
+          let q : start ≡ s = cc in
+          let r : end ≡ n = cc in
+          rw (p, q, r) x
+      by (a-fault f) = absurd (let z : _≡_ {A = ℕ} 0 1 = cc (ap nextOf f) in omega arith)
+
+  -- the end, and the fault
+  pub found-end : (at : ℕ) → Ended ≡ nextOf (scanBy classes text at) → scanBy classes text at ≡ ended
+  found-end at e = by (unfolded at)
+    where
+      by : Unfolded classes text at → scanBy classes text at ≡ ended
+      by (no-symbol f) = f
+      by (a-symbol x) = absurd (let z : _≡_ {A = ℕ} 0 1 = cc (ap nextOf (x .same)) in omega arith)
+      by (a-fault f) = absurd (let z : _≡_ {A = ℕ} 0 1 = cc (ap nextOf f) in omega arith)
+
+  pub found-fault : (at : ℕ) {number p : ℕ} → Fault number p ≡ nextOf (scanBy classes text at) → scanBy classes text at ≡ faultAt number p
+  found-fault at {number} {p} e = by (unfolded at)
+    where
+      by : Unfolded classes text at → scanBy classes text at ≡ faultAt number p
+      by (no-symbol f) = absurd (let z : _≡_ {A = ℕ} 0 1 = cc (ap nextOf f) in omega arith)
+      by (a-symbol x) = absurd (let z : _≡_ {A = ℕ} 0 1 = cc (ap nextOf (x .same)) in omega arith)
+      by (a-fault {number = m} {p = q} f) =
+          let g : Fault number p ≡ Fault m q = e ∙ ap nextOf f in
+          let i : number ≡ m = cc in
+          let j : p ≡ q = cc in
+          rw (i, j) f
+
+  -- ---- faults
+
+  -- up to a symbol's end there is no fault: the first fault is that from its end on
+  pub fault-on : {at : ℕ} {class : Class} {start end : ℕ} → SymbolAt classes text at class start end → faultOf (scanBy classes text at) ≡ faultOf (scanBy classes text end)
+  unfolding faultOf
+  fault-on x = rw (x .same)

@@ -1,0 +1,163 @@
+-- `scanner::next_by` meets its contract: scanning outside has come to the position reached without a symbol. Assumes nothing.
+use borrow.Author.Needs.{needs}
+use mathlib.Core.Path.{_≡_, refl, sym, ap, _∙_}
+use mathlib.Core.List.{List, [], _∷_}
+use native.Mathlib.Omega.{arith}
+use Prim.Native.Nat.{ℕ, suc, _+_, _-_, _≤_}
+use lib.ListN.{length, getD}
+use Rattle.octets.specs.Numbers.{byteAbove127, strayControl}
+use Rattle.octets.specs.Text.{part}
+use Rattle.scanner.specs.Scanning.{outside, inQuoted, inComment, atom, atomClass, single, go, halt, scanBy}
+use Rattle.scanner.specs.Answers.{nextOf}
+use Rattle.scanner.specs.Steps.{FirstCharacter, StepIs, AtomEnds, CommentIs, CommentEnds}
+use Rattle.scanner.specs.declared.Class.{Class}
+use Rattle.scanner.specs.declared.Class.the-variants.{Stray}
+use Rattle.scanner.specs.declared.Next.the-variants.{Found}
+use Rattle.scanner.proofs.MoveLaws.{at-end, moves, atom-begins, mark-next, stray-next, control-next}
+use Rattle.scanner.proofs.next_by.Statement.{statement}
+use Rattle.scanner.proofs.next_by.Tie as tie
+
+abbrev Inv-loop : tie.InvT-loop
+Inv-loop classes text at p₀ p =
+    scanBy classes text at ≡ scanBy classes text p
+
+abbrev μ-loop : tie.MeasureT-loop
+μ-loop classes text at p₀ p = length text - p
+
+-- the character that was read
+first : (c : tie.After-kind Inv-loop μ-loop) → (let f = c .kind .given .0 in let a = c .before .before .before .before .before .args in FirstCharacter (a .classes .now) (a .text .now) (c .before .before .before .loop .p) (f .0) (f .1 .0) (f .1 .1 .0))
+first c = rw (c .kind .given .1) at (c .before .before .character .ensures)
+
+loop-holds : tie.Need-loop-holds Inv-loop μ-loop
+loop-holds c = refl
+
+character-requires : tie.Need-character-requires Inv-loop μ-loop
+character-requires c κs = search needs
+
+enum-known-kind : tie.Need-enum-known-kind Inv-loop μ-loop
+enum-known-kind c = search needs
+
+enum-told : tie.Need-enum-told Inv-loop μ-loop
+enum-told c = search needs
+
+returns : tie.Need-returns Inv-loop μ-loop
+returns c =
+    let a = c .before .before .before .before .before .args in
+    let l = c .before .before .before .loop in
+    sym (ap nextOf (l .inv ∙ at-end (a .classes .now) (a .text .now) (l .p) _ (rw (c .enum-told .given .1) at (c .before .before .character .ensures))))
+
+enum-told-2 : tie.Need-enum-told-2 Inv-loop μ-loop
+enum-told-2 c = search needs
+
+loop-less : tie.Need-loop-less Inv-loop μ-loop
+loop-less c = let x = first (c .before .before .before) in omega (arith, x .from, x .behind, x .within)
+
+loop-again : tie.Need-loop-again Inv-loop μ-loop
+loop-again c = c .before .before .before .before .before .before .loop .inv ∙ moves (rw (c .enum-told2 .given .1) at (first (c .before .before .before))) outside (go [] outside) refl
+
+enum-told-3 : tie.Need-enum-told-3 Inv-loop μ-loop
+enum-told-3 c = search needs
+
+comment-end-requires : tie.Need-comment-end-requires Inv-loop μ-loop
+comment-end-requires c κs = first (c .before .before .before) .within
+
+enum-known-behind : tie.Need-enum-known-behind Inv-loop μ-loop
+enum-known-behind c = search needs
+
+loop-less-2 : tie.Need-loop-less-2 Inv-loop μ-loop
+loop-less-2 c =
+    let x = first (c .before .before .before .before .before .before .before) in
+    let y : CommentEnds _ _ _ _ _ = rw (c .before .behind .given .1) at (c .before .before .before .comment-end .ensures) in
+    omega (arith, x .from, x .behind, y .from, y .within)
+
+loop-again-2 : tie.Need-loop-again-2 Inv-loop μ-loop
+loop-again-2 c =
+    let y : CommentEnds _ _ _ _ _ = rw (c .before .behind .given .1) at (c .before .before .before .comment-end .ensures) in
+    c .before .before .before .before .before .before .before .before .before .before .loop .inv ∙ moves (rw (c .before .before .before .before .enum-told3 .given .1) at (first (c .before .before .before .before .before .before .before))) outside (go [] (inComment 0 _)) refl ∙ y .same
+
+enum-known-number : tie.Need-enum-known-number Inv-loop μ-loop
+enum-known-number c = search needs
+
+returns-2 : tie.Need-returns-2 Inv-loop μ-loop
+returns-2 c =
+    sym
+    (ap nextOf
+    (c .before .before .before .before .before .before .before .before .before .before .loop .inv ∙ moves (rw (c .before .before .before .before .enum-told3 .given .1) at (first (c .before .before .before .before .before .before .before))) outside (go [] (inComment 0 _)) refl ∙ (rw (c .before .number .given .1) at (c .before .before .before .comment-end .ensures))))
+
+enum-told-4 : tie.Need-enum-told-4 Inv-loop μ-loop
+enum-told-4 c = search needs
+
+quoted-end-requires : tie.Need-quoted-end-requires Inv-loop μ-loop
+quoted-end-requires c κs = first (c .before .before .before) .within
+
+returns-3 : tie.Need-returns-3 Inv-loop μ-loop
+returns-3 c =
+    c .quoted-end .ensures ∙ sym (ap nextOf (c .before .before .before .before .before .before .before .loop .inv ∙ moves (rw (c .before .enum-told4 .given .1) at (first (c .before .before .before .before))) outside (go [] (inQuoted _ [])) refl))
+
+enum-told-5 : tie.Need-enum-told-5 Inv-loop μ-loop
+enum-told-5 c = search needs
+
+atom-end-requires : tie.Need-atom-end-requires Inv-loop μ-loop
+atom-end-requires c κs = let x = first (c .before .before .before) in (omega (arith, x .behind), x .within)
+
+atom-class-requires : tie.Need-atom-class-requires Inv-loop μ-loop
+atom-class-requires c κs = let x = first (c .before .before .before .before) in let y = c .atom-end .ensures in (omega (arith, x .behind, y .from), y .within)
+
+returns-4 : tie.Need-returns-4 Inv-loop μ-loop
+returns-4 c =
+    let y = c .before .atom-end .ensures in
+    rw (c .atom-class .ensures) (sym (ap nextOf (c .before .before .before .before .before .before .before .before .loop .inv ∙ atom-begins (rw (c .before .before .enum-told5 .given .1) at (first (c .before .before .before .before .before))) ∙ y .same)))
+
+enum-known-kind-2 : tie.Need-enum-known-kind-2 Inv-loop μ-loop
+enum-known-kind-2 c = search needs
+
+returns-5 : tie.Need-returns-5 Inv-loop μ-loop
+returns-5 c = sym (ap nextOf (c .before .before .before .before .before .before .before .loop .inv ∙ mark-next (rw (c .before .kind2 .given .1) at (first (c .before .before .before .before)))))
+
+returns-6 : tie.Need-returns-6 Inv-loop μ-loop
+returns-6 c = sym (ap nextOf (c .before .before .before .before .before .loop .inv ∙ stray-next (first (c .before .before)) (c .match2 .keys6)))
+
+returns-7 : tie.Need-returns-7 Inv-loop μ-loop
+returns-7 c = sym (ap nextOf (c .before .before .before .before .before .loop .inv ∙ control-next (first (c .before .before)) (c .match2 .keys7)))
+
+enum-told-6 : tie.Need-enum-told-6 Inv-loop μ-loop
+enum-told-6 c = search needs
+
+returns-8 : tie.Need-returns-8 Inv-loop μ-loop
+returns-8 c =
+    sym (ap nextOf (c .before .before .before .before .before .before .loop .inv ∙ moves (rw (c .enum-told6 .given .1) at (first (c .before .before .before))) outside (halt [] byteAbove127 _) refl))
+
+pub next-by-spec : {M : Type 1} → statement M
+next-by-spec =
+    tie.close
+    (tie.spec
+    Inv-loop
+    μ-loop
+    loop-holds
+    character-requires
+    enum-known-kind
+    enum-told
+    returns
+    enum-told-2
+    loop-less
+    loop-again
+    enum-told-3
+    comment-end-requires
+    enum-known-behind
+    loop-less-2
+    loop-again-2
+    enum-known-number
+    returns-2
+    enum-told-4
+    quoted-end-requires
+    returns-3
+    enum-told-5
+    atom-end-requires
+    atom-class-requires
+    returns-4
+    enum-known-kind-2
+    returns-5
+    returns-6
+    returns-7
+    enum-told-6
+    returns-8)

@@ -1,0 +1,40 @@
+-- What the entry points answer, in document 01's order of checks: 1, 13, then the first fault of scanning.
+use Prim.Native.Nat.{ℕ}
+use mathlib.Core.List.{List}
+use lib.Dec.{ltb}
+use lib.ListN.{length, take}
+use Rattle.octets.specs.Choice.{pick, either}
+use Rattle.octets.specs.Numbers.{messageLimit, messageTooLong, bodyOutOfOrder}
+use Rattle.octets.specs.declared.answers.Answer.{Answer}
+use Rattle.octets.specs.declared.answers.Answer.the-variants.{Accepted, Refused}
+use Rattle.scanner.specs.Symbols.{Symbol}
+use Rattle.scanner.specs.Scanning.{Scanned, ended, next, faultAt, scan}
+use Rattle.scanner.specs.declared.Class.{Class}
+use Rattle.scanner.specs.declared.Next.{Next}
+use Rattle.scanner.specs.declared.Next.the-variants.{Found, Ended, Fault}
+
+-- the checks before a body is looked at, the numbers 1 and 13; where both pass, what else is answered
+abbrev pub bodyChecked : {A : Type 0} → (ℕ → ℕ → A) → List ℕ → ℕ → ℕ → A → A
+bodyChecked refused message start end otherwise =
+    pick (ltb messageLimit (length message)) (refused messageTooLong messageLimit)
+    (pick (either (ltb end start) (ltb (length message) end)) (refused bodyOutOfOrder 0) otherwise)
+
+-- the first fault of scanning, if there is one; nothing is lent, so the count is 0
+unfoldable pub faultOf : Scanned → Answer
+faultOf ended = Accepted 0
+faultOf (next x rest) = faultOf rest
+faultOf (faultAt number p) = Refused number p
+
+-- the answer of scanning the body of a message from `start` up to `end`
+abbrev pub bodyScanned : List ℕ → ℕ → ℕ → Answer
+bodyScanned message start end = bodyChecked Refused message start end (faultOf (scan (take end message) start))
+
+-- the first symbol, the end or the fault
+abbrev pub nextOf : Scanned → Next
+nextOf ended = Ended
+nextOf (next x rest) = Found (x .class) (x .lexeme .start) (x .lexeme .end)
+nextOf (faultAt number p) = Fault number p
+
+-- the next symbol at or after a position of a body that ends at `end`
+abbrev pub nextInBody : List ℕ → ℕ → ℕ → Next
+nextInBody message at end = bodyChecked Fault message at end (nextOf (scan (take end message) at))

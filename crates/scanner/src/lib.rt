@@ -1,0 +1,339 @@
+// The symbols of a structured body.
+//
+// The class table goes by reference through every function that looks at bytes.
+ghost use mathlib.Core.Path.{_≡_};
+ghost use Prim.Native.Nat.{_+_, _≤_, _<_};
+ghost use mathlib.Core.List.{[]};
+ghost use lib.ListN.{length};
+ghost use Rattle.scanner.specs.Kinds.{kindOf};
+ghost use Rattle.scanner.specs.Characters.{foldAt, charactersAt};
+ghost use Rattle.scanner.specs.Scanning.{inQuoted, atomClass, scanFrom, scanBy};
+ghost use Rattle.scanner.specs.Answers.{nextOf, nextInBody, faultOf, bodyScanned};
+ghost use Rattle.scanner.specs.Steps.{StepIs, AtomEnds, CommentIs};
+ghost use Rattle.octets.specs.Text.{part};
+use octets::answers::Answer;
+use octets::classes::CLASSES;
+use octets::numbers::BODY_OUT_OF_ORDER;
+use octets::numbers::BYTE_ABOVE_127;
+use octets::numbers::COMMENT_NOT_CLOSED;
+use octets::numbers::MESSAGE_LIMIT;
+use octets::numbers::MESSAGE_TOO_LONG;
+use octets::numbers::QUOTED_NOT_CLOSED;
+use octets::numbers::STRAY_CONTROL;
+
+// The classes of symbols: the words, "at" and "@", the marks of the address rules, and a symbol that fits no rule.
+pub enum Class {
+    Atom,
+    Quoted,
+    At,
+    LessThan,
+    GreaterThan,
+    Comma,
+    Semicolon,
+    Colon,
+    Stray,
+}
+
+// The next symbol: its class and its place, from its first byte to the position after its last.
+pub enum Next {
+    Found(Class, usize, usize),
+    Ended,
+    Fault(u8, usize),
+}
+
+// What the scanner tells apart in a byte.
+enum Kind {
+    White,
+    Control,
+    Return,
+    Plain,
+    Open,
+    Close,
+    Quote,
+    Backslash,
+    Mark(Class),
+    Above,
+}
+
+// The next character: its kind, its position and the position behind it.
+enum Step {
+    Done,
+    Byte(Kind, usize, usize),
+}
+
+// A comment: the position behind it, or the fault in it.
+enum Comment {
+    Past(usize),
+    Open(u8, usize),
+}
+
+// The kind of a byte.
+fn kind_of(classes: &[u8; 256], b: u8) -> Kind
+    ensures { λ r. ⌜ r ≡ kindOf (now (classes .entry)) b ⌝ }
+{
+    if b == b'\r' {
+        return Kind::Return;
+    }
+    let class = octets::classes::class_in(classes, b);
+    match class {
+        octets::classes::WHITE => Kind::White,
+        octets::classes::CONTROL => Kind::Control,
+        octets::classes::OPEN_PARENTHESIS => Kind::Open,
+        octets::classes::CLOSE_PARENTHESIS => Kind::Close,
+        octets::classes::LESS_THAN => Kind::Mark(Class::LessThan),
+        octets::classes::GREATER_THAN => Kind::Mark(Class::GreaterThan),
+        octets::classes::AT_SIGN => Kind::Mark(Class::At),
+        octets::classes::COMMA => Kind::Mark(Class::Comma),
+        octets::classes::SEMICOLON => Kind::Mark(Class::Semicolon),
+        octets::classes::COLON => Kind::Mark(Class::Colon),
+        octets::classes::BACKSLASH => Kind::Backslash,
+        octets::classes::QUOTE => Kind::Quote,
+        octets::classes::ABOVE_127 => Kind::Above,
+        _ => Kind::Plain,
+    }
+}
+
+// Whether a fold starts at a position.
+fn folds(text: &[u8], at: usize) -> bool
+    requires { ⌜ at < length (now text) ⌝ }
+    ensures { λ r. ⌜ r ≡ foldAt (now (text .entry)) at ⌝ }
+{
+    if text[at] != b'\r' {
+        return false;
+    }
+    if text.len() - at < 3 {
+        return false;
+    }
+    if text[at + 1] != b'\n' {
+        return false;
+    }
+    let white = text[at + 2];
+    if white == b' ' { true } else { white == b'\t' }
+}
+
+// The first character at or after a position, folds dropped.
+fn character(classes: &[u8; 256], text: &[u8], at: usize) -> Step
+    ensures { λ r. ⌜ StepIs (now (classes .entry)) (now (text .entry)) at r ⌝ }
+{
+    if text.len() <= at {
+        return Step::Done;
+    }
+    if folds(text, at) {
+        Step::Byte(Kind::White, at + 2, at + 3)
+    } else {
+        Step::Byte(kind_of(classes, text[at]), at, at + 1)
+    }
+}
+
+// The end of an atom that has run from start up to a position.
+fn atom_end(classes: &[u8; 256], text: &[u8], start: usize, at: usize) -> usize
+    requires { ⌜ (start ≤ at) × (at ≤ length (now text)) ⌝ }
+    ensures { λ r. ⌜ AtomEnds (now (classes .entry)) (now (text .entry)) start at r ⌝ }
+{
+    let mut p = at;
+    loop {
+        let Step::Byte(kind, here, q) = character(classes, text, p) else {
+            return p;
+        };
+        match kind {
+            Kind::Plain => {
+                p = q;
+            }
+            _ => {
+                return p;
+            }
+        }
+    }
+}
+
+// The class of the atom that stands from start to end.
+fn atom_class(text: &[u8], start: usize, end: usize) -> Class
+    requires { ⌜ (start ≤ end) × (end ≤ length (now text)) ⌝ }
+    ensures { λ r. ⌜ r ≡ atomClass (part (now (text .entry)) start end) ⌝ }
+{
+    let word = &text[start..end];
+    if octets::letters::same_letters(word, b"at") {
+        Class::At
+    } else {
+        Class::Atom
+    }
+}
+
+// The rest of a quoted-string whose opening quote stands at start.
+fn quoted_end(classes: &[u8; 256], text: &[u8], start: usize, at: usize) -> Next
+    requires { ⌜ at ≤ length (now text) ⌝ }
+    ensures { λ r. ⌜ r ≡ nextOf (scanFrom (now (classes .entry)) (charactersAt (now (text .entry)) at) (inQuoted start [])) ⌝ }
+{
+    let mut p = at;
+    loop {
+        let Step::Byte(kind, here, q) = character(classes, text, p) else {
+            return Next::Fault(QUOTED_NOT_CLOSED, start);
+        };
+        match kind {
+            Kind::Quote => {
+                return Next::Found(Class::Quoted, start, q);
+            }
+            Kind::Return => {
+                return Next::Fault(STRAY_CONTROL, here);
+            }
+            Kind::Above => {
+                return Next::Fault(BYTE_ABOVE_127, here);
+            }
+            Kind::Backslash => {
+                let Step::Byte(taken, place, behind) = character(classes, text, q) else {
+                    return Next::Fault(QUOTED_NOT_CLOSED, start);
+                };
+                if let Kind::Above = taken {
+                    return Next::Fault(BYTE_ABOVE_127, place);
+                }
+                p = behind;
+            }
+            _ => {
+                p = q;
+            }
+        }
+    }
+}
+
+// The rest of a comment whose "(" stands at start.
+fn comment_end(classes: &[u8; 256], text: &[u8], start: usize, at: usize) -> Comment
+    requires { ⌜ at ≤ length (now text) ⌝ }
+    ensures { λ r. ⌜ CommentIs (now (classes .entry)) (now (text .entry)) at start r ⌝ }
+{
+    let mut p = at;
+    let mut depth: usize = 0;
+    loop {
+        let Step::Byte(kind, here, q) = character(classes, text, p) else {
+            return Comment::Open(COMMENT_NOT_CLOSED, start);
+        };
+        match kind {
+            Kind::Open => {
+                depth += 1;
+                p = q;
+            }
+            Kind::Close => {
+                if depth == 0 {
+                    return Comment::Past(q);
+                }
+                depth -= 1;
+                p = q;
+            }
+            Kind::Return => {
+                return Comment::Open(STRAY_CONTROL, here);
+            }
+            Kind::Above => {
+                return Comment::Open(BYTE_ABOVE_127, here);
+            }
+            Kind::Backslash => {
+                let Step::Byte(taken, place, behind) = character(classes, text, q) else {
+                    return Comment::Open(COMMENT_NOT_CLOSED, start);
+                };
+                if let Kind::Above = taken {
+                    return Comment::Open(BYTE_ABOVE_127, place);
+                }
+                p = behind;
+            }
+            _ => {
+                p = q;
+            }
+        }
+    }
+}
+
+// The first symbol of a text at or after a position, by a table of classes that is handed on.
+pub fn next_by(classes: &[u8; 256], text: &[u8], at: usize) -> Next
+    ensures { λ r. ⌜ r ≡ nextOf (scanBy (now (classes .entry)) (now (text .entry)) at) ⌝ }
+{
+    let mut p = at;
+    loop {
+        let Step::Byte(kind, here, q) = character(classes, text, p) else {
+            return Next::Ended;
+        };
+        match kind {
+            Kind::White => {
+                p = q;
+            }
+            Kind::Open => match comment_end(classes, text, here, q) {
+                Comment::Past(behind) => {
+                    p = behind;
+                }
+                Comment::Open(number, place) => {
+                    return Next::Fault(number, place);
+                }
+            },
+            Kind::Quote => {
+                return quoted_end(classes, text, here, q);
+            }
+            Kind::Plain => {
+                let end = atom_end(classes, text, here, q);
+                return Next::Found(atom_class(text, here, end), here, end);
+            }
+            Kind::Mark(class) => {
+                return Next::Found(class, here, q);
+            }
+            Kind::Close | Kind::Backslash => {
+                return Next::Found(Class::Stray, here, q);
+            }
+            Kind::Control | Kind::Return => {
+                return Next::Fault(STRAY_CONTROL, here);
+            }
+            Kind::Above => {
+                return Next::Fault(BYTE_ABOVE_127, here);
+            }
+        }
+    }
+}
+
+// The next symbol at or after a position of a message's body that ends at end.
+pub fn next_symbol(message: &[u8], at: usize, end: usize) -> Next
+    ensures { λ r. ⌜ r ≡ nextInBody (now (message .entry)) at end ⌝ }
+{
+    if MESSAGE_LIMIT < message.len() {
+        return Next::Fault(MESSAGE_TOO_LONG, MESSAGE_LIMIT);
+    }
+    if end < at {
+        return Next::Fault(BODY_OUT_OF_ORDER, 0);
+    }
+    if message.len() < end {
+        return Next::Fault(BODY_OUT_OF_ORDER, 0);
+    }
+    let classes = &CLASSES;
+    next_by(classes, &message[..end], at)
+}
+
+// The first fault of a text from a position on, by a table of classes that is handed on.
+pub fn fault_by(classes: &[u8; 256], text: &[u8], at: usize) -> Answer
+    ensures { λ r. ⌜ r ≡ faultOf (scanBy (now (classes .entry)) (now (text .entry)) at) ⌝ }
+{
+    let mut p = at;
+    loop {
+        match next_by(classes, text, p) {
+            Next::Found(_, _, end) => {
+                p = end;
+            }
+            Next::Ended => {
+                return Answer::Accepted(0);
+            }
+            Next::Fault(number, place) => {
+                return Answer::Refused(number, place);
+            }
+        }
+    }
+}
+
+// Scan the body of a message from start up to end: accepted, or the first fault.
+pub fn scan_body(message: &[u8], start: usize, end: usize) -> Answer
+    ensures { λ r. ⌜ r ≡ bodyScanned (now (message .entry)) start end ⌝ }
+{
+    if MESSAGE_LIMIT < message.len() {
+        return Answer::Refused(MESSAGE_TOO_LONG, MESSAGE_LIMIT);
+    }
+    if end < start {
+        return Answer::Refused(BODY_OUT_OF_ORDER, 0);
+    }
+    if message.len() < end {
+        return Answer::Refused(BODY_OUT_OF_ORDER, 0);
+    }
+    let classes = &CLASSES;
+    fault_by(classes, &message[..end], start)
+}
