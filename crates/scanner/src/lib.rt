@@ -136,12 +136,8 @@ fn atom_end(classes: &[u8; 256], text: &[u8], start: usize, at: usize) -> usize
             return p;
         };
         match kind {
-            Kind::Plain => {
-                p = q;
-            }
-            _ => {
-                return p;
-            }
+            Kind::Plain => p = q,
+            _ => return p,
         }
     }
 }
@@ -170,15 +166,9 @@ fn quoted_end(classes: &[u8; 256], text: &[u8], start: usize, at: usize) -> Next
             return Next::Fault(QUOTED_NOT_CLOSED, start);
         };
         match kind {
-            Kind::Quote => {
-                return Next::Found(Class::Quoted, start, q);
-            }
-            Kind::Return => {
-                return Next::Fault(STRAY_CONTROL, here);
-            }
-            Kind::Above => {
-                return Next::Fault(BYTE_ABOVE_127, here);
-            }
+            Kind::Quote => return Next::Found(Class::Quoted, start, q),
+            Kind::Return => return Next::Fault(STRAY_CONTROL, here),
+            Kind::Above => return Next::Fault(BYTE_ABOVE_127, here),
             Kind::Backslash => {
                 let Step::Byte(taken, place, behind) = character(classes, text, q) else {
                     return Next::Fault(QUOTED_NOT_CLOSED, start);
@@ -188,9 +178,7 @@ fn quoted_end(classes: &[u8; 256], text: &[u8], start: usize, at: usize) -> Next
                 }
                 p = behind;
             }
-            _ => {
-                p = q;
-            }
+            _ => p = q,
         }
     }
 }
@@ -218,12 +206,8 @@ fn comment_end(classes: &[u8; 256], text: &[u8], start: usize, at: usize) -> Com
                 depth -= 1;
                 p = q;
             }
-            Kind::Return => {
-                return Comment::Open(STRAY_CONTROL, here);
-            }
-            Kind::Above => {
-                return Comment::Open(BYTE_ABOVE_127, here);
-            }
+            Kind::Return => return Comment::Open(STRAY_CONTROL, here),
+            Kind::Above => return Comment::Open(BYTE_ABOVE_127, here),
             Kind::Backslash => {
                 let Step::Byte(taken, place, behind) = character(classes, text, q) else {
                     return Comment::Open(COMMENT_NOT_CLOSED, start);
@@ -233,9 +217,7 @@ fn comment_end(classes: &[u8; 256], text: &[u8], start: usize, at: usize) -> Com
                 }
                 p = behind;
             }
-            _ => {
-                p = q;
-            }
+            _ => p = q,
         }
     }
 }
@@ -250,36 +232,20 @@ pub fn next_by(classes: &[u8; 256], text: &[u8], at: usize) -> Next
             return Next::Ended;
         };
         match kind {
-            Kind::White => {
-                p = q;
-            }
+            Kind::White => p = q,
             Kind::Open => match comment_end(classes, text, here, q) {
-                Comment::Past(behind) => {
-                    p = behind;
-                }
-                Comment::Open(number, place) => {
-                    return Next::Fault(number, place);
-                }
+                Comment::Past(behind) => p = behind,
+                Comment::Open(number, place) => return Next::Fault(number, place),
             },
-            Kind::Quote => {
-                return quoted_end(classes, text, here, q);
-            }
+            Kind::Quote => return quoted_end(classes, text, here, q),
             Kind::Plain => {
                 let end = atom_end(classes, text, here, q);
                 return Next::Found(atom_class(text, here, end), here, end);
             }
-            Kind::Mark(class) => {
-                return Next::Found(class, here, q);
-            }
-            Kind::Close | Kind::Backslash => {
-                return Next::Found(Class::Stray, here, q);
-            }
-            Kind::Control | Kind::Return => {
-                return Next::Fault(STRAY_CONTROL, here);
-            }
-            Kind::Above => {
-                return Next::Fault(BYTE_ABOVE_127, here);
-            }
+            Kind::Mark(class) => return Next::Found(class, here, q),
+            Kind::Close | Kind::Backslash => return Next::Found(Class::Stray, here, q),
+            Kind::Control | Kind::Return => return Next::Fault(STRAY_CONTROL, here),
+            Kind::Above => return Next::Fault(BYTE_ABOVE_127, here),
         }
     }
 }
@@ -308,15 +274,9 @@ pub fn fault_by(classes: &[u8; 256], text: &[u8], at: usize) -> Answer
     let mut p = at;
     loop {
         match next_by(classes, text, p) {
-            Next::Found(_, _, end) => {
-                p = end;
-            }
-            Next::Ended => {
-                return Answer::Accepted(0);
-            }
-            Next::Fault(number, place) => {
-                return Answer::Refused(number, place);
-            }
+            Next::Found(_, _, end) => p = end,
+            Next::Ended => return Answer::Accepted(0),
+            Next::Fault(number, place) => return Answer::Refused(number, place),
         }
     }
 }

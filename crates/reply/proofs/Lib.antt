@@ -1,0 +1,2 @@
+-- Laws of the reply body.
+pub mod ReplyLaws
