@@ -1,0 +1,155 @@
+-- Condition 3 for RFC 733: exactly one derivation; the machine's answer is right, and the only right one. Assumes nothing.
+use Prim.Native.Nat.{ℕ, _≤_}
+use native.Mathlib.Omega.{arith}
+use mathlib.Core.Path.{_≡_, refl, sym, ap, _∙_}
+use mathlib.Core.Option.{Option, none, some}
+use mathlib.Core.List.{List, [], _∷_}
+use Rattle.scanner.specs.declared.Class.{Class}
+use Rattle.scanner.specs.declared.Class.the-variants.{Atom, Quoted, At, LessThan, GreaterThan, Comma, Semicolon, Colon, Stray}
+use Rattle.grammar.specs.Grammar.{levels}
+use Rattle.grammar.specs.Language.{GoesOn, FirstRefused, unfit, unfinished, tooDeep, Verdict, accepted, refused, Right}
+use Rattle.grammar.specs.Rfc733.{Derivation, DerivedList, RightWithin}
+use Rattle.grammar.proofs.OnlyRight.{only-right}
+use Rattle.grammar.proofs.AnyMachine as any-machine
+use Rattle.grammar.proofs.AnyMachine.{Step, go, stop, Result, after, atEnd, not-too-deep}
+use Rattle.grammar.proofs.Trees.{Lexeme, Sym, of, atomWord, quotedWord, AddressList, listLevels, DerivedTree}
+use Rattle.grammar.proofs.AddressMachine.{State, complete, onWord, onAt, onComma, onGreaterThan, onSemicolon, stepOn, step, run, read, judge, finish, start}
+use Rattle.grammar.proofs.Steps.{machine}
+use Rattle.grammar.proofs.Rows.{asRow, row-levels, row-derived, tree-derived}
+
+-- ---- the executable answer
+
+abbrev pub asRows : Verdict Class AddressList → Verdict Class Derivation
+asRows (accepted l) = accepted (asRow l)
+asRows (refused why rest) = refused why rest
+
+-- the machine's verdict on these symbols, with at most `limit` levels
+abbrev pub answer : ℕ → List Sym → Verdict Class Derivation
+answer limit xs = asRows (read limit xs)
+
+-- ---- what is right of trees is right of derivations
+
+goes-on-row : (Levels : ℕ → Type 0) (xs : List Sym) → GoesOn DerivedTree listLevels Levels xs → GoesOn DerivedList levels Levels xs
+goes-on-row Levels xs g =
+    record { more = g .more; derivation = asRow (g .derivation); derived = row-derived (g .derived); counted = rw row-levels (g .counted) }
+
+goes-on-tree : (Levels : ℕ → Type 0) (xs : List Sym) → GoesOn DerivedList levels Levels xs → GoesOn DerivedTree listLevels Levels xs
+goes-on-tree Levels xs g =
+    let (l, e, d) = tree-derived (g .derived) in
+    record { more = g .more; derivation = l; derived = d; counted = rw row-levels at (rw e at (g .counted)) }
+
+-- what goes on alike is first refused alike
+module _ {T U : Type 0} (D : T → List Sym → Type 0) (n : T → ℕ) (E : U → List Sym → Type 0) (m : U → ℕ)
+    (to : (Levels : ℕ → Type 0) (xs : List Sym) → GoesOn D n Levels xs → GoesOn E m Levels xs) (back : (Levels : ℕ → Type 0) (xs : List Sym) → GoesOn E m Levels xs → GoesOn D n Levels xs) where
+  abbrev first-alike : {limit : ℕ} {xs rest : List Sym} → FirstRefused D n limit xs rest → FirstRefused E m limit xs rest
+  first-alike f =
+      record {
+        before = f .before;
+        x = f .x;
+        after = f .after;
+        place = f .place;
+        splits = f .splits;
+        earlier = λ p y q e. to _ _ (f .earlier p y q e);
+        here = λ g. f .here (back _ _ g);
+      }
+
+abbrev first-row : {limit : ℕ} {xs rest : List Sym} → FirstRefused DerivedTree listLevels limit xs rest → FirstRefused DerivedList levels limit xs rest
+first-row f = first-alike DerivedTree listLevels DerivedList levels goes-on-row goes-on-tree f
+
+none-row : {limit : ℕ} {xs : List Sym} → ((l : AddressList) → DerivedTree l xs → listLevels l ≤ limit → ⊥) → (k : Derivation) → DerivedList k xs → levels k ≤ limit → ⊥
+none-row {limit} f k d v =
+    let (l, e, d′) = tree-derived d in
+    let w : levels (asRow l) ≤ limit = rw e at v in
+    f l d′ (omega (arith, row-levels l))
+
+right-row : (limit : ℕ) (xs : List Sym) (v : Verdict Class AddressList) → Right DerivedTree listLevels limit xs v → RightWithin limit xs (asRows v)
+right-row limit xs (accepted l) r = (row-derived (r .0), omega (arith, row-levels l, r .1))
+right-row limit xs (refused unfinished rest) r =
+    (r .0, λ place f. r .1 place (first-alike DerivedList levels DerivedTree listLevels goes-on-tree goes-on-row f), none-row (r .2))
+right-row limit xs (refused unfit rest) r = (first-row (r .0), λ g. r .1 (goes-on-tree _ _ g))
+right-row limit xs (refused tooDeep rest) r = (first-row (r .0), goes-on-row _ _ (r .1))
+
+-- ---- condition 3
+
+-- the answer is right, for every list of symbols and every limit
+pub answer-right : (limit : ℕ) (xs : List Sym) → RightWithin limit xs (answer limit xs)
+answer-right limit xs = right-row limit xs (read limit xs) (any-machine.right DerivedTree listLevels step finish start machine limit xs)
+
+-- exactly one tree ..
+pub one-tree : {l l′ : AddressList} {xs : List Sym} → DerivedTree l xs → DerivedTree l′ xs → l ≡ l′
+one-tree {l} {l′} {xs} d e = any-machine.unique DerivedTree listLevels step finish start machine l l′ xs d e
+
+-- .. and exactly one derivation: two derivations of the same symbols are equal, whatever their levels
+pub one-derivation : {k k′ : Derivation} {xs : List Sym} → DerivedList k xs → DerivedList k′ xs → k ≡ k′
+one-derivation {k} {k′} {xs} d e =
+    let (l, p, d′) = tree-derived d in
+    let (l′, p′, e′) = tree-derived e in
+    p ∙ ap asRow (one-tree d′ e′) ∙ sym p′
+
+-- a right verdict is the only right one
+pub only-verdict : (limit : ℕ) (xs : List Sym) (v w : Verdict Class Derivation) → RightWithin limit xs v → RightWithin limit xs w → v ≡ w
+only-verdict limit xs = only-right DerivedList levels limit (λ k k′ ys d e. one-derivation d e) xs
+
+-- .. and it is the answer
+pub answer-only : (limit : ℕ) (xs : List Sym) (v : Verdict Class Derivation) → RightWithin limit xs v → v ≡ answer limit xs
+answer-only limit xs v r = only-verdict limit xs v (answer limit xs) r (answer-right limit xs)
+
+-- a derivation of at most `limit` levels is accepted as itself
+pub answer-accepts : (limit : ℕ) {k : Derivation} {xs : List Sym} → DerivedList k xs → levels k ≤ limit → answer limit xs ≡ accepted k
+answer-accepts limit {k} {xs} d v = sym (answer-only limit xs (accepted k) (d, v))
+
+-- .. and only that is accepted
+pub answer-derives : (limit : ℕ) {k : Derivation} {xs : List Sym} → answer limit xs ≡ accepted k → DerivedList k xs × (levels k ≤ limit)
+answer-derives limit {k} {xs} e = rw e at (answer-right limit xs)
+
+-- ---- the place of 10
+
+-- these symbols begin with "<" or ":"
+pub data BeginsLevel : List Sym → Type 0 where
+  less : (t : Lexeme) (xs : List Sym) → BeginsLevel (of LessThan t ∷ xs)
+  colon : (t : Lexeme) (xs : List Sym) → BeginsLevel (of Colon t ∷ xs)
+
+abbrev DeepAt : {T : Type 0} → Verdict Class T → Type 0
+DeepAt (accepted t) = Unit {0}
+DeepAt (refused unfit rest) = Unit {0}
+DeepAt (refused unfinished rest) = Unit {0}
+DeepAt (refused tooDeep rest) = BeginsLevel rest
+
+deep-after : (st : Step State) (go-on : State → Result Class State) (xs : List Sym) → (st ≡ stop tooDeep → BeginsLevel xs)
+    → ((s : State) → DeepAt (judge (go-on s))) → DeepAt (judge (after st go-on xs))
+deep-after (go s) go-on xs f g = g s
+deep-after (stop unfit) go-on xs f g = tt
+deep-after (stop unfinished) go-on xs f g = tt
+deep-after (stop tooDeep) go-on xs f g = f refl
+
+deep-end : (o : Option AddressList) → DeepAt (atEnd {C = Class} o)
+deep-end none = tt
+deep-end (some l) = tt
+
+-- only a step at "<" or ":" asks for a level
+deep-step : (n : ℕ) (s : State) (c : Class) (t : Lexeme) (xs : List Sym) → stepOn n s c t ≡ stop tooDeep → BeginsLevel (of c t ∷ xs)
+deep-step n s Atom t xs e = absurd (not-too-deep n (onWord s (atomWord t)) (machine .steady n s (of Atom t)) e)
+deep-step n s Quoted t xs e = absurd (not-too-deep n (onWord s (quotedWord t)) (machine .steady n s (of Quoted t)) e)
+deep-step n s At t xs e = absurd (not-too-deep n (onAt s t) (machine .steady n s (of At t)) e)
+deep-step n s LessThan t xs e = less t xs
+deep-step n s GreaterThan t xs e = absurd (not-too-deep n (onGreaterThan (complete s) t) (machine .steady n s (of GreaterThan t)) e)
+deep-step n s Comma t xs e = absurd (not-too-deep n (onComma (complete s) t) (machine .steady n s (of Comma t)) e)
+deep-step n s Semicolon t xs e = absurd (not-too-deep n (onSemicolon (complete s) t) (machine .steady n s (of Semicolon t)) e)
+deep-step n s Colon t xs e = colon t xs
+deep-step n s Stray t xs e = absurd (not-too-deep n (stop unfit) (machine .steady n s (of Stray t)) e)
+
+deep-run : (n : ℕ) (s : State) (xs : List Sym) → DeepAt (judge (run n s xs))
+deep-run n s [] = deep-end (finish s)
+deep-run n s (x ∷ xs) = deep-after (step n s x) (λ s′. run n s′ xs) (x ∷ xs) (deep-step n s (x .class) (x .lexeme) xs) (λ s′. deep-run n s′ xs)
+
+deep-rows : (v : Verdict Class AddressList) → DeepAt v → DeepAt (asRows v)
+deep-rows (accepted l) h = tt
+deep-rows (refused unfit rest) h = tt
+deep-rows (refused unfinished rest) h = tt
+deep-rows (refused tooDeep rest) h = h
+
+-- 10 is always at a "<" or ":"
+pub too-deep-at : (limit : ℕ) (xs rest : List Sym) → RightWithin limit xs (refused tooDeep rest) → BeginsLevel rest
+too-deep-at limit xs rest r =
+    let e : answer limit xs ≡ refused tooDeep rest = sym (answer-only limit xs (refused tooDeep rest) r) in
+    rw e at (deep-rows (read limit xs) (deep-run limit start xs))

@@ -1,0 +1,16 @@
+-- Laws of the grammar. `Condition3` has the theorems, `Readers` and `TreeRecords` what the readers rest on.
+pub mod OnlyRight
+pub mod AnyMachine
+pub mod Trees
+pub mod HouseRule
+pub mod AddressMachine
+pub mod Complete
+pub mod Sound
+pub mod Steps
+pub mod Rows
+pub mod Condition3
+pub mod Readers
+pub mod Records
+pub mod TreeRecords
+pub mod Order
+pub mod Examples

@@ -1,0 +1,274 @@
+-- Records of symbols that stand one after the other in a body: at most half as many as the body has bytes, their starts ascend,
+-- their spans and names lie in the body, and none is deeper than the levels. Assumes nothing.
+use Prim.Native.Nat.{ℕ, suc, _+_, _*_, max, _≤_, _<_}
+use native.Mathlib.Omega.{arith}
+use mathlib.Core.Path.{_≡_, refl, ap, _∙_}
+use mathlib.Core.List.{List, [], _∷_, _++_}
+use mathlib.Core.Option.{Option, none, some}
+use lib.ListN.{length}
+use Rattle.grammar.specs.Grammar.{levels}
+use Rattle.grammar.specs.Language.{accepted}
+use Rattle.grammar.specs.Records.{AddressRecord, count, records}
+use Rattle.grammar.specs.Rfc733.{Derivation, DerivedList, RightWithin}
+use Rattle.grammar.proofs.Records.{length-records}
+use Rattle.grammar.proofs.Trees.{Class, Atom, Quoted, At, LessThan, GreaterThan, Comma, Semicolon, Colon, Stray, Lexeme, Sym, of, Word, atomWord, quotedWord, Phrase, one, more, Nodes, first, next, Place, empty, comma, AddressList, idle, full, Address, mailbox, angle, group, quoted, typed, wordSymbol, phraseThen, nameThen, nodesThen, placeThen, listThen, addressThen, placeLevels, listLevels, addressLevels}
+use Rattle.grammar.proofs.Rows.{row-levels, tree-derived}
+use Rattle.grammar.proofs.TreeRecords.{wordLexeme, phraseStart, phraseEnd, nodesEnd, nameStart, nameEnd, addressEnd, addressRecord, placeCount, listCount, addressCount, placeRecords, listRecords, insideRecords, tree-records, tree-count}
+
+-- ---- symbols in order
+
+-- the fewest bytes of a symbol: a quoted-string has its quotes
+abbrev pub leastBytes : Class → ℕ
+leastBytes Atom = 1
+leastBytes Quoted = 2
+leastBytes At = 1
+leastBytes LessThan = 1
+leastBytes GreaterThan = 1
+leastBytes Comma = 1
+leastBytes Semicolon = 1
+leastBytes Colon = 1
+leastBytes Stray = 1
+
+-- the symbols stand one after the other between two positions
+abbrev pub InOrder : ℕ → ℕ → List Sym → Type 0
+InOrder from to [] = from ≤ to
+InOrder from to (x ∷ xs) = (from ≤ x .lexeme .start) × (x .lexeme .start + leastBytes (x .class) ≤ x .lexeme .end) × InOrder (x .lexeme .end) to xs
+
+-- ---- records in order
+
+-- a record's span lies between two positions, and its name in it
+pub record Lies (from to : ℕ) (r : AddressRecord) : Type 0 where
+  pub after-from : from ≤ r .start
+  pub name-after : r .start ≤ r .nameStart
+  pub name-order : r .nameStart ≤ r .nameEnd
+  pub name-before : r .nameEnd ≤ r .end
+  pub not-empty : r .start < r .end
+  pub before-to : r .end ≤ to
+
+-- records lie between two positions, and each starts behind the start of the one before
+abbrev pub Ascending : ℕ → ℕ → List AddressRecord → Type 0
+Ascending from to [] = from ≤ to
+Ascending from to (r ∷ rs) = Lies from to r × Ascending (suc (r .start)) to rs
+
+ascending-le : (from to : ℕ) (rs : List AddressRecord) → Ascending from to rs → from ≤ to
+ascending-le from to [] h = h
+ascending-le from to (r ∷ rs) h = omega (arith, h .0)
+
+lies-widen : (a b a′ b′ : ℕ) (r : AddressRecord) → Lies a b r → a′ ≤ a → b ≤ b′ → Lies a′ b′ r
+lies-widen a b a′ b′ r h p q =
+    record { after-from = omega (arith, h .after-from); name-after = h .name-after; name-order = h .name-order; name-before = h .name-before; not-empty = h .not-empty; before-to = omega (arith, h .before-to) }
+
+ascending-widen : (a b a′ b′ : ℕ) (rs : List AddressRecord) → Ascending a b rs → a′ ≤ a → b ≤ b′ → Ascending a′ b′ rs
+ascending-widen a b a′ b′ [] h p q = omega arith
+ascending-widen a b a′ b′ (r ∷ rs) h p q =
+    (lies-widen a b a′ b′ r (h .0) p q, ascending-widen (suc (r .start)) b (suc (r .start)) b′ rs (h .1) (omega arith) q)
+
+ascending-append : (a b c : ℕ) (rs ss : List AddressRecord) → Ascending a b rs → Ascending b c ss → Ascending a c (rs ++ ss)
+ascending-append a b c [] ss h g = ascending-widen b c a c ss g h (omega arith)
+ascending-append a b c (r ∷ rs) ss h g =
+    (lies-widen a b a c r (h .0) (omega arith) (ascending-le b c ss g), ascending-append (suc (r .start)) b c rs ss (h .1) g)
+
+-- ---- the parts of a list in order
+
+word-lies : (w : Word) (from to : ℕ) (xs : List Sym) → InOrder from to (wordSymbol w ∷ xs)
+    → (from ≤ wordLexeme w .start) × (wordLexeme w .start < wordLexeme w .end) × InOrder (wordLexeme w .end) to xs
+word-lies (atomWord t) from to xs h = (h .0, omega (arith, h .1), h .2)
+word-lies (quotedWord t) from to xs h = (h .0, omega (arith, h .1), h .2)
+
+phrase-lies : (p : Phrase) (from to : ℕ) (xs : List Sym) → InOrder from to (phraseThen p xs)
+    → (from ≤ phraseStart p) × (phraseStart p < phraseEnd p) × InOrder (phraseEnd p) to xs
+phrase-lies (one w) from to xs h = word-lies w from to xs h
+phrase-lies (more p w) from to xs h =
+    let f = phrase-lies p from to (wordSymbol w ∷ xs) h in
+    let g = word-lies w (phraseEnd p) to xs (f .2) in
+    (f .0, omega (arith, f .1, g .0, g .1), g .2)
+
+nodes-lies : (m : Nodes) (from to : ℕ) (xs : List Sym) → InOrder from to (nodesThen m xs) → (from + 2 ≤ nodesEnd m) × InOrder (nodesEnd m) to xs
+nodes-lies (first t w) from to xs h =
+    let g = word-lies w (t .end) to xs (h .2) in
+    (omega (arith, h .0, h .1, g .0, g .1), g .2)
+nodes-lies (next m t w) from to xs h =
+    let f = nodes-lies m from to (of At t ∷ wordSymbol w ∷ xs) h in
+    let g = word-lies w (t .end) to xs (f .1 .2) in
+    (omega (arith, f .0, f .1 .0, f .1 .1, g .0, g .1), g .2)
+
+-- a name, and the mark behind it
+name-lies : (o : Option Phrase) (from to : ℕ) (x : Sym) (xs : List Sym) → InOrder from to (nameThen o (x ∷ xs))
+    → (from ≤ nameStart o (x .lexeme)) × (nameStart o (x .lexeme) ≤ nameEnd o (x .lexeme)) × (nameEnd o (x .lexeme) ≤ x .lexeme .start)
+    × (x .lexeme .start + leastBytes (x .class) ≤ x .lexeme .end) × InOrder (x .lexeme .end) to xs
+name-lies none from to x xs h = (h .0, omega arith, omega arith, h .1, h .2)
+name-lies (some p) from to x xs h =
+    let f = phrase-lies p from to (x ∷ xs) h in
+    (f .0, omega (arith, f .1), f .2 .0, f .2 .1, f .2 .2)
+
+-- some addresses: what they take of the symbols, two bytes or more for each of them, and their records
+record Taken (from to n : ℕ) (xs : List Sym) (rs : ℕ → ℕ → ℕ → List AddressRecord) : Type 0 where
+  upTo : ℕ
+  wide : from + 2 * n ≤ upTo
+  rest : InOrder upTo to xs
+  ascending : (d par i : ℕ) → Ascending from upTo (rs d par i)
+
+-- .. and one address
+record TakenBy (a : Address) (from to : ℕ) (xs : List Sym) : Type 0 where
+  wide : from + 2 * addressCount a ≤ addressEnd a
+  rest : InOrder (addressEnd a) to xs
+  lies : (d par : ℕ) → Lies from (addressEnd a) (addressRecord a d par)
+  ascending : (d par e i : ℕ) → Ascending (suc (addressRecord a d par .start)) (addressEnd a) (insideRecords a e i)
+
+-- an address between an opening and a closing mark: the name before the opening one, and the list between them
+marked-lies : (from to : ℕ) (o : Option Phrase) (t u : Lexeme) (l : AddressList) (kind : ℕ) (xs : List Sym)
+    → (from ≤ nameStart o t) → (nameStart o t ≤ nameEnd o t) → (nameEnd o t ≤ t .start) → (t .start < t .end) → (u .start < u .end)
+    → (k : Taken (t .end) to (listCount l) xs (listRecords l)) → (k .upTo ≤ u .start)
+    → (d par : ℕ) → Lies from (u .end) record { kind = kind; depth = d; parent = par; start = nameStart o t; end = u .end; nameStart = nameStart o t; nameEnd = nameEnd o t }
+marked-lies from to o t u l kind xs a b c e f k g d par =
+    record { after-from = a; name-after = omega arith; name-order = b; name-before = omega (arith, k .wide); not-empty = omega (arith, k .wide); before-to = omega arith }
+
+mutual
+  place-taken : (r : Place) (from to : ℕ) (xs : List Sym) → InOrder from to (placeThen r xs) → Taken from to (placeCount r) xs (placeRecords r)
+  place-taken empty from to xs h = record { upTo = from; wide = omega arith; rest = h; ascending = λ d par i. omega arith }
+  place-taken (comma l t) from to xs h =
+      let k = list-taken l from to (of Comma t ∷ xs) h in
+      record {
+        upTo = t .end;
+        wide = omega (arith, k .wide, k .rest .0, k .rest .1);
+        rest = k .rest .2;
+        ascending = λ d par i. ascending-widen from (k .upTo) from (t .end) (listRecords l d par i) (k .ascending d par i) (omega arith) (omega (arith, k .rest .0, k .rest .1));
+      }
+
+  list-taken : (l : AddressList) (from to : ℕ) (xs : List Sym) → InOrder from to (listThen l xs) → Taken from to (listCount l) xs (listRecords l)
+  list-taken (idle r) from to xs h = place-taken r from to xs h
+  list-taken (full r a) from to xs h =
+      let k = place-taken r from to (addressThen a xs) h in
+      let b = address-taken a (k .upTo) to xs (k .rest) in
+      record {
+        upTo = addressEnd a;
+        wide = omega (arith, k .wide, b .wide);
+        rest = b .rest;
+        ascending = λ d par i.
+            ascending-append from (k .upTo) (addressEnd a) (placeRecords r d par i) _ (k .ascending d par i) (b .lies d par, b .ascending d par (suc d) (suc (i + placeCount r)));
+      }
+
+  address-taken : (a : Address) (from to : ℕ) (xs : List Sym) → InOrder from to (addressThen a xs) → TakenBy a from to xs
+  address-taken (mailbox p m) from to xs h =
+      let f = phrase-lies p from to (nodesThen m xs) h in
+      let g = nodes-lies m (phraseEnd p) to xs (f .2) in
+      record {
+        wide = omega (arith, f .0, f .1, g .0);
+        rest = g .1;
+        lies = λ d par. record { after-from = f .0; name-after = omega arith; name-order = omega (arith, f .1); name-before = omega (arith, g .0); not-empty = omega (arith, f .1, g .0); before-to = omega arith };
+        ascending = λ d par e i. omega (arith, f .1, g .0);
+      }
+  address-taken (angle o t l u) from to xs h =
+      let f = name-lies o from to (of LessThan t) (listThen l (of GreaterThan u ∷ xs)) h in
+      let k = list-taken l (t .end) to (of GreaterThan u ∷ xs) (f .4) in
+      let opened : t .start < t .end = omega (arith, f .3) in
+      let closed : u .start < u .end = omega (arith, k .rest .1) in
+      record {
+        wide = omega (arith, f .0, f .1, f .2, k .wide, k .rest .0);
+        rest = k .rest .2;
+        lies = marked-lies from to o t u l _ _ (f .0) (f .1) (f .2) opened closed k (k .rest .0);
+        ascending = λ d par e i. ascending-widen (t .end) (k .upTo) (suc (nameStart o t)) (u .end) (listRecords l e i i) (k .ascending e i i) (omega (arith, f .1, f .2)) (omega (arith, k .rest .0));
+      }
+  address-taken (group o t l u) from to xs h =
+      let f = name-lies o from to (of Colon t) (listThen l (of Semicolon u ∷ xs)) h in
+      let k = list-taken l (t .end) to (of Semicolon u ∷ xs) (f .4) in
+      let opened : t .start < t .end = omega (arith, f .3) in
+      let closed : u .start < u .end = omega (arith, k .rest .1) in
+      record {
+        wide = omega (arith, f .0, f .1, f .2, k .wide, k .rest .0);
+        rest = k .rest .2;
+        lies = marked-lies from to o t u l _ _ (f .0) (f .1) (f .2) opened closed k (k .rest .0);
+        ascending = λ d par e i. ascending-widen (t .end) (k .upTo) (suc (nameStart o t)) (u .end) (listRecords l e i i) (k .ascending e i i) (omega (arith, f .1, f .2)) (omega (arith, k .rest .0));
+      }
+  address-taken (quoted t) from to xs h =
+      record {
+        wide = omega (arith, h .0, h .1);
+        rest = h .2;
+        lies = λ d par. record { after-from = h .0; name-after = omega arith; name-order = omega (arith, h .1); name-before = omega arith; not-empty = omega (arith, h .1); before-to = omega arith };
+        ascending = λ d par e i. omega (arith, h .1);
+      }
+  address-taken (typed t a u b) from to xs h =
+      let k = address-taken b (u .end) to xs (h .2 .2 .2) in
+      let z : t .start + 3 ≤ u .end = omega (arith, h .1, h .2 .0, h .2 .1, h .2 .2 .0, h .2 .2 .1) in
+      record {
+        wide = omega (arith, h .0, k .wide);
+        rest = k .rest;
+        lies = λ d par. record { after-from = h .0; name-after = omega (arith, h .1, h .2 .0); name-order = omega (arith, h .2 .1); name-before = omega (arith, h .2 .2 .0, h .2 .2 .1, k .wide); not-empty = omega (arith, k .wide); before-to = omega arith };
+        ascending = λ d par e i. (lies-widen (u .end) (addressEnd b) (suc (t .start)) (addressEnd b) _ (k .lies e i) (omega arith) (omega arith), k .ascending e i (suc e) (suc i));
+      }
+
+-- ---- depth
+
+-- no record is deeper
+abbrev pub DepthsAtMost : ℕ → List AddressRecord → Type 0
+DepthsAtMost n [] = Unit {0}
+DepthsAtMost n (r ∷ rs) = (r .depth ≤ n) × DepthsAtMost n rs
+
+depths-widen : (n m : ℕ) (rs : List AddressRecord) → n ≤ m → DepthsAtMost n rs → DepthsAtMost m rs
+depths-widen n m [] h p = tt
+depths-widen n m (r ∷ rs) h p = (omega (arith, p .0), depths-widen n m rs h (p .1))
+
+depths-append : (n : ℕ) (rs ss : List AddressRecord) → DepthsAtMost n rs → DepthsAtMost n ss → DepthsAtMost n (rs ++ ss)
+depths-append n [] ss p q = q
+depths-append n (r ∷ rs) ss p q = (p .0, depths-append n rs ss (p .1) q)
+
+address-depth : (a : Address) (d par : ℕ) → addressRecord a d par .depth ≡ d
+address-depth (mailbox p m) d par = refl
+address-depth (angle o t l u) d par = refl
+address-depth (group o t l u) d par = refl
+address-depth (quoted t) d par = refl
+address-depth (typed t a u b) d par = refl
+
+mutual
+  place-depths : (r : Place) (d par i : ℕ) → DepthsAtMost (d + placeLevels r) (placeRecords r d par i)
+  place-depths empty d par i = tt
+  place-depths (comma l t) d par i = list-depths l d par i
+
+  list-depths : (l : AddressList) (d par i : ℕ) → DepthsAtMost (d + listLevels l) (listRecords l d par i)
+  list-depths (idle r) d par i = place-depths r d par i
+  list-depths (full r a) d par i =
+      depths-append (d + max (placeLevels r) (addressLevels a)) (placeRecords r d par i) _
+      (depths-widen (d + placeLevels r) (d + max (placeLevels r) (addressLevels a)) (placeRecords r d par i) (omega arith) (place-depths r d par i))
+      (omega (arith, address-depth a d par), depths-widen (d + addressLevels a) (d + max (placeLevels r) (addressLevels a)) (insideRecords a (suc d) (suc (i + placeCount r))) (omega arith) (inside-depths a d (suc (i + placeCount r))))
+
+  inside-depths : (a : Address) (d i : ℕ) → DepthsAtMost (d + addressLevels a) (insideRecords a (suc d) i)
+  inside-depths (mailbox p m) d i = tt
+  inside-depths (angle o t l u) d i = depths-widen (suc d + listLevels l) (d + suc (listLevels l)) (listRecords l (suc d) i i) (omega arith) (list-depths l (suc d) i i)
+  inside-depths (group o t l u) d i = depths-widen (suc d + listLevels l) (d + suc (listLevels l)) (listRecords l (suc d) i i) (omega arith) (list-depths l (suc d) i i)
+  inside-depths (quoted t) d i = tt
+  inside-depths (typed t a u b) d i =
+      (omega (arith, address-depth b (suc d) i), depths-widen (suc d + addressLevels b) (d + suc (addressLevels b)) (insideRecords b (suc (suc d)) (suc i)) (omega arith) (inside-depths b (suc d) (suc i)))
+
+-- ---- of a derivation
+
+-- the records lie in the body, in order of start
+pub records-ascend : {k : Derivation} {xs : List Sym} (from to : ℕ) → DerivedList k xs → InOrder from to xs → Ascending from to (records k)
+records-ascend {k} {xs} from to d h =
+    let (l, e, t) = tree-derived d in
+    let y = list-taken l from to [] (rw (t .yields) h) in
+    let q : records k ≡ listRecords l 0 0 0 = ap records e ∙ tree-records l in
+    rw q (ascending-widen from (y .upTo) from to (listRecords l 0 0 0) (y .ascending 0 0 0) (omega arith) (y .rest))
+
+-- there are at most half as many addresses as bytes
+pub count-half : {k : Derivation} {xs : List Sym} (from to : ℕ) → DerivedList k xs → InOrder from to xs → from + 2 * count k ≤ to
+count-half {k} {xs} from to d h =
+    let (l, e, t) = tree-derived d in
+    let y = list-taken l from to [] (rw (t .yields) h) in
+    let q : count k ≡ listCount l = ap count e ∙ tree-count l in
+    omega (arith, y .wide, y .rest)
+
+-- .. and so many records
+pub records-half : {k : Derivation} {xs : List Sym} (from to : ℕ) → DerivedList k xs → InOrder from to xs → from + 2 * length (records k) ≤ to
+records-half {k} from to d h = omega (arith, length-records k, count-half from to d h)
+
+-- a record is at most as deep as the derivation has levels
+pub depth-levels : {k : Derivation} {xs : List Sym} → DerivedList k xs → DepthsAtMost (levels k) (records k)
+depth-levels {k} {xs} d =
+    let (l, e, t) = tree-derived d in
+    let q : records k ≡ listRecords l 0 0 0 = ap records e ∙ tree-records l in
+    let v : levels k ≡ listLevels l = ap levels e ∙ row-levels l in
+    rw (q, v) (depths-widen (0 + listLevels l) (listLevels l) (listRecords l 0 0 0) (omega arith) (list-depths l 0 0 0))
+
+-- .. so one that is accepted with a limit is at most so deep
+pub depth-limit : (limit : ℕ) {k : Derivation} {xs : List Sym} → RightWithin limit xs (accepted k) → DepthsAtMost limit (records k)
+depth-limit limit {k} r = depths-widen (levels k) limit (records k) (r .1) (depth-levels (r .0))

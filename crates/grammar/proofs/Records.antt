@@ -1,0 +1,87 @@
+-- Laws of records and their bytes, over any grammar. Assumes nothing.
+use Prim.Native.Nat.{ℕ, zero, suc, _+_, _*_, _≤_, _<_}
+use native.Mathlib.Omega.{arith}
+use mathlib.Core.Path.{_≡_, refl, sym, ap, _∙_}
+use mathlib.Core.List.{List, [], _∷_, _++_, append-assoc}
+use mathlib.Core.Option.{Option, none, some}
+use lib.ListN.{length, getD, length-append}
+use Rattle.octets.specs.Numbers.{addressRecordSize}
+use Rattle.grammar.specs.Grammar.{Makes, Rule, Row, nil, leaf, branch}
+use Rattle.grammar.specs.Records.{AddressRecord, count, recordsFrom, records, recordBytes, tableBytes}
+
+-- ---- a parent's number is smaller than its child's
+
+-- these records, the first of them numbered `next`, have parents of smaller numbers: the parent's number plus 1 is at most the record's own number
+abbrev pub ParentsBefore : ℕ → List AddressRecord → Type 0
+ParentsBefore next [] = Unit {0}
+ParentsBefore next (r ∷ rs) = (r .parent ≤ next) × ParentsBefore (suc next) rs
+
+parents-append : (next : ℕ) (rs ss : List AddressRecord) → ParentsBefore next rs → ParentsBefore (next + length rs) ss → ParentsBefore next (rs ++ ss)
+parents-append next [] ss p q = let e : next + 0 ≡ next = omega arith in rw e at q
+parents-append next (r ∷ rs) ss p q =
+    let e : next + suc (length rs) ≡ suc next + length rs = omega arith in
+    (p .0, parents-append (suc next) rs ss (p .1) (rw e at q))
+
+parent-at : (rs : List AddressRecord) (next i : ℕ) (r : AddressRecord) → ParentsBefore next rs → i < length rs → getD rs i r .parent ≤ next + i
+parent-at [] next i r p h = absurd (omega arith)
+parent-at (s ∷ rs) next zero r p h = omega arith
+parent-at (s ∷ rs) next (suc i) r p h = omega (arith, parent-at rs (suc next) i r (p .1) (omega arith))
+
+module _ {C N : Type 0} where
+  -- ---- the count is the number of records
+
+  length-branch : (rule : Rule C N) (parts row : Row C N) (depth parent next : ℕ)
+      → ((d p i : ℕ) → length (recordsFrom parts d p i) ≡ count parts) → ((d p i : ℕ) → length (recordsFrom row d p i) ≡ count row)
+      → length (recordsFrom (branch rule parts row) depth parent next) ≡ count (branch rule parts row)
+  length-branch rule parts row depth parent next a b = by (rule .makes) refl
+    where
+      by : (o : Option Makes) → rule .makes ≡ o → length (recordsFrom (branch rule parts row) depth parent next) ≡ count (branch rule parts row)
+      by none e = rw e (simp (length-append, a, b) (omega arith))
+      by (some makes) e = rw e (simp (length-append, a, b) (omega arith))
+
+  pub length-from : (row : Row C N) (depth parent next : ℕ) → length (recordsFrom row depth parent next) ≡ count row
+  length-from nil depth parent next = refl
+  length-from (leaf x row) depth parent next = length-from row depth parent next
+  length-from (branch rule parts row) depth parent next = length-branch rule parts row depth parent next (λ d p i. length-from parts d p i) (λ d p i. length-from row d p i)
+
+  pub length-records : (row : Row C N) → length (records row) ≡ count row
+  length-records row = length-from row 0 0 0
+
+  parents-branch : (rule : Rule C N) (parts row : Row C N) (depth parent next : ℕ) → parent ≤ next
+      → ((d p i : ℕ) → p ≤ i → ParentsBefore i (recordsFrom parts d p i)) → ((d p i : ℕ) → p ≤ i → ParentsBefore i (recordsFrom row d p i))
+      → ParentsBefore next (recordsFrom (branch rule parts row) depth parent next)
+  parents-branch rule parts row depth parent next h a b = by (rule .makes) refl
+    where
+      by : (o : Option Makes) → rule .makes ≡ o → ParentsBefore next (recordsFrom (branch rule parts row) depth parent next)
+      by none e =
+          rw e (parents-append next (recordsFrom parts depth parent next) (recordsFrom row depth parent (next + count parts))
+          (a depth parent next h) (rw (length-from parts depth parent next) (b depth parent (next + count parts) (omega arith))))
+      by (some makes) e =
+          rw e (
+            h,
+            parents-append (suc next) (recordsFrom parts (suc depth) (suc next) (suc next)) (recordsFrom row depth parent (suc next + count parts))
+                (a (suc depth) (suc next) (suc next) (omega arith)) (rw (length-from parts (suc depth) (suc next) (suc next)) (b depth parent (suc next + count parts) (omega arith))),
+          )
+
+  pub parents-from : (row : Row C N) (depth parent next : ℕ) → parent ≤ next → ParentsBefore next (recordsFrom row depth parent next)
+  parents-from nil depth parent next h = tt
+  parents-from (leaf x row) depth parent next h = parents-from row depth parent next h
+  parents-from (branch rule parts row) depth parent next h =
+      parents-branch rule parts row depth parent next h (λ d p i g. parents-from parts d p i g) (λ d p i g. parents-from row d p i g)
+
+  -- the record numbered `i` has as parent, plus 1, at most `i`
+  pub parent-smaller : (row : Row C N) (i : ℕ) (r : AddressRecord) → i < length (records row) → getD (records row) i r .parent ≤ i
+  parent-smaller row i r h = omega (arith, parent-at (records row) 0 i r (parents-from row 0 0 0 (omega arith)) h)
+
+-- ---- bytes
+
+pub length-recordBytes : (r : AddressRecord) → length (recordBytes r) ≡ addressRecordSize
+length-recordBytes r = refl
+
+pub length-tableBytes : (rs : List AddressRecord) → length (tableBytes rs) ≡ addressRecordSize * length rs
+length-tableBytes [] = refl
+length-tableBytes (r ∷ rs) = omega (arith, length-append (recordBytes r) (tableBytes rs), length-recordBytes r, length-tableBytes rs)
+
+pub tableBytes-append : (rs ss : List AddressRecord) → tableBytes (rs ++ ss) ≡ tableBytes rs ++ tableBytes ss
+tableBytes-append [] ss = refl
+tableBytes-append (r ∷ rs) ss = ap (λ t. recordBytes r ++ t) (tableBytes-append rs ss) ∙ sym (append-assoc (recordBytes r) (tableBytes rs) (tableBytes ss))
