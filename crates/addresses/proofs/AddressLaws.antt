@@ -1,0 +1,146 @@
+-- Addresses without a list of their own: a mailbox, and one quoted-string alone. Assumes nothing.
+use mathlib.Core.Path.{_≡_, refl, sym, ap, _∙_}
+use mathlib.Core.Logic.{_⊎_, inl, inr}
+use mathlib.Core.Bool.{Bool, true, false, true≢false}
+use mathlib.Core.List.{List, [], _∷_}
+use mathlib.Core.Option.{Option, none, some}
+use Prim.Native.Nat.{ℕ, suc, _+_, _*_, _-_, _≤_, _<_}
+use native.Mathlib.Omega.{arith}
+use lib.ListN.{length}
+use lib.Seq.{sets}
+use Rattle.octets.specs.Numbers.{noListGoesOn, endsTooSoon}
+use Rattle.scanner.specs.declared.Next.{Next}
+use Rattle.scanner.specs.declared.Next.the-variants.{Found, Ended, Fault}
+use Rattle.grammar.specs.Language.{Refusal, unfit, unfinished, tooDeep, refused, number, positionOf}
+use Rattle.grammar.specs.Records.{recordBytes, tableBytes}
+use Rattle.grammar.proofs.Trees.{Class, Atom, Quoted, At, LessThan, GreaterThan, Comma, Semicolon, Colon, Stray, Lexeme, Sym, of, Word, atomWord, quotedWord, Phrase, one, more, Address, mailbox, quoted, phraseThen, nodesThen, atomColon}
+use Rattle.grammar.proofs.AddressMachine.{Here, inList, inTyped, phrase, firstAt, lone, levelsHere, fresh, run, judge, Spot}
+use Rattle.grammar.proofs.Complete.{begin, Clear, run-phrase, run-mailbox}
+use Rattle.grammar.proofs.Readers.{AddressEnds, endsAddress, at-unfit}
+use Rattle.grammar.proofs.TreeRecords.{phraseStart, phraseEnd, nodesEnd, recordBy}
+use Rattle.addresses.specs.Steps.{endsAddressNext, refusedNext, loneQuoted, symbolsFrom, lexemeAt, symbolAt, symbolsAhead, Standing, Ahead, NodesEnd, Stops, NodesContext, NodesIs, AddressRead, AddressStops, AddressIs, Ready, Opened, Named, NoMark, followsPhrase, Lone}
+use Rattle.addresses.specs.declared.Frame.{Frame}
+use Rattle.addresses.specs.declared.Span.{Span}
+use Rattle.addresses.specs.declared.Reading.the-variants.{Read, Refused}
+
+-- what ends an address, of what comes next
+pub ends-next : (classes text : List ℕ) (low : ℕ) (ahead : Next) → Ahead classes text low ahead → endsAddressNext ahead ≡ true → AddressEnds (symbolsAhead classes text ahead)
+ends-next classes text low (Found class start end) o e = e
+ends-next classes text low Ended o e = tt
+ends-next classes text low (Fault number p) o e = absurd o
+
+module _ (classes text : List ℕ) where
+  -- ---- a mailbox
+
+  pub mailbox-read : {xs : List Sym} {p : Phrase} {a b last : ℕ} {span : Span} {frame : Frame} (table after : List ℕ) (ahead : Next) → Named classes text xs span p (Found At a b) → NodesEnd classes text a b ahead last
+      → Opened classes text a b span frame → after ≡ sets table (frame .number * 12) (recordBytes (recordBy 1 (64 - frame .levels) (frame .parent) (span .start) last (span .start) (span .end)))
+      → AddressRead classes text xs frame (span .start) table after ahead last (frame .number + 1)
+  mailbox-read {xs} {p} {a} {b} {last} {span} {frame} table after ahead n m o e =
+      record {
+        tree = mailbox p (m .nodes);
+        reads = λ h c. ap (run (levelsHere h + frame .levels) (begin h)) (n .yields ∙ ap (phraseThen p) (m .yields)) ∙ run-mailbox (levelsHere h + frame .levels) h p (m .nodes) (symbolsAhead classes text ahead);
+        ends = m .ends;
+        ahead-ok = m .ahead-ok;
+        last-is = sym (m .end-is);
+        count = refl;
+        stored = rw (n .start-is, n .end-is, m .end-is) e;
+        from = omega (arith, o .behind, o .stands .starts, m .from);
+        within = m .within;
+        free-low = omega (arith, o .behind, o .stands .starts, m .from, o .ready .number-low);
+      }
+
+  pub mailbox-stops : {xs : List Sym} {p : Phrase} {a b number-told place : ℕ} {span : Span} (frame : Frame) → Named classes text xs span p (Found At a b)
+      → Stops classes text (λ (c : NodesContext classes text) why rest. judge (run (c .limit) (firstAt (c .here) (c .phrase) (lexemeAt classes text At a b)) (symbolsFrom classes text b)) ≡ refused why rest) number-told place
+      → AddressStops classes text xs frame number-told place
+  mailbox-stops {xs} {p} frame n s =
+      record {
+        why = s .why;
+        rest = s .rest;
+        number-is = s .number-is;
+        place-is = s .place-is;
+        stops = λ h c. ap judge (ap (run (levelsHere h + frame .levels) (begin h)) (n .yields) ∙ run-phrase (levelsHere h + frame .levels) h p _) ∙ s .stops record { limit = levelsHere h + frame .levels; here = h; phrase = p };
+      }
+
+  -- ---- one quoted-string alone
+
+  pub lone-read : {xs : List Sym} (p : Phrase) {span : Span} {frame : Frame} (table after : List ℕ) (ahead : Next) → Named classes text xs span p ahead → loneQuoted p ≡ true → endsAddressNext ahead ≡ true → Lone classes text ahead span frame
+      → after ≡ sets table (frame .number * 12) (recordBytes (recordBy 4 (64 - frame .levels) (frame .parent) (span .start) (span .end) (span .start) (span .end)))
+      → AddressRead classes text xs frame (span .start) table after ahead (span .end) (frame .number + 1)
+  lone-read (one (atomWord t)) table after ahead n q z o e = absurd (true≢false (sym q))
+  lone-read {xs} (one (quotedWord t)) {span} {frame} table after ahead n q z o e =
+      record {
+        tree = quoted t;
+        reads = λ h c. ap (run (levelsHere h + frame .levels) (begin h)) (n .yields) ∙ run-phrase (levelsHere h + frame .levels) h (one (quotedWord t)) (symbolsAhead classes text ahead);
+        ends = ends-next classes text (span .end) ahead (o .ahead-ok) z;
+        ahead-ok = o .ahead-ok;
+        last-is = sym (n .end-is);
+        count = refl;
+        stored = rw (n .start-is, n .end-is) e;
+        from = o .not-empty;
+        within = o .within;
+        free-low = omega (arith, o .not-empty, o .ready .number-low);
+      }
+  lone-read (more p w) table after ahead n q z o e = absurd (true≢false (sym q))
+
+  not-lone : (h : Here) (p : Phrase) → loneQuoted p ≡ false → lone h p ≡ none
+  not-lone h (one (atomWord t)) e = refl
+  not-lone h (one (quotedWord t)) e = absurd (true≢false e)
+  not-lone h (more p w) e = refl
+
+  -- a phrase with nothing behind it that goes on, and no lone quoted-string, or with something that fits no rule
+  behind-phrase : (n : ℕ) (h : Here) (p : Phrase) (class : Class) (t : Lexeme) (ys : List Sym) → followsPhrase classes text class ≡ false → (loneQuoted p ≡ false) ⊎ (endsAddress class ≡ false)
+      → judge (run n (phrase h p) (of class t ∷ ys)) ≡ refused unfit (of class t ∷ ys)
+  behind-phrase n h p Atom t ys f o = absurd (true≢false f)
+  behind-phrase n h p Quoted t ys f o = absurd (true≢false f)
+  behind-phrase n h p At t ys f o = absurd (true≢false f)
+  behind-phrase n h p LessThan t ys f o = absurd (true≢false f)
+  behind-phrase n h p GreaterThan t ys f (inl e) = rw (not-lone h p e)
+  behind-phrase n h p GreaterThan t ys f (inr e) = absurd (true≢false e)
+  behind-phrase n h p Comma t ys f (inl e) = rw (not-lone h p e)
+  behind-phrase n h p Comma t ys f (inr e) = absurd (true≢false e)
+  behind-phrase n h p Semicolon t ys f (inl e) = rw (not-lone h p e)
+  behind-phrase n h p Semicolon t ys f (inr e) = absurd (true≢false e)
+  behind-phrase n h p Colon t ys f o = absurd (true≢false f)
+  behind-phrase n h p Stray t ys f o = refl
+
+  end-phrase : (n : ℕ) (h : Here) (p : Phrase) → loneQuoted p ≡ false → judge (run n (phrase h p) []) ≡ refused unfinished []
+  end-phrase n h p e = rw (not-lone h p e)
+
+  pub lone-stops : {xs : List Sym} (p : Phrase) {span : Span} (frame : Frame) (start : ℕ) (table after : List ℕ) (ahead : Next) → Named classes text xs span p ahead → NoMark classes text ahead
+      → (loneQuoted p ≡ false) ⊎ (endsAddressNext ahead ≡ false) → AddressIs classes text xs frame start table after (refusedNext (length text) ahead)
+  lone-stops {xs} p frame start table after (Found class a b) n f o =
+      record {
+        why = unfit;
+        rest = symbolsAhead classes text (Found class a b);
+        number-is = refl;
+        place-is = refl;
+        stops = λ h c. ap judge (ap (run (levelsHere h + frame .levels) (begin h)) (n .yields) ∙ run-phrase (levelsHere h + frame .levels) h p _)
+            ∙ behind-phrase (levelsHere h + frame .levels) h p class (lexemeAt classes text class a b) (symbolsFrom classes text b) f o;
+      }
+  lone-stops p frame start table after Ended n f (inr e) = absurd (true≢false e)
+  lone-stops {xs} p frame start table after Ended n f (inl e) =
+      record {
+        why = unfinished;
+        rest = [];
+        number-is = refl;
+        place-is = refl;
+        stops = λ h c. ap judge (ap (run (levelsHere h + frame .levels) (begin h)) (n .yields) ∙ run-phrase (levelsHere h + frame .levels) h p []) ∙ end-phrase (levelsHere h + frame .levels) h p e;
+      }
+  lone-stops p frame start table after (Fault number q) n f o = absurd f
+
+  -- ---- a symbol that begins no address
+
+  -- "at", or what fits no rule
+  begins-none : (n : ℕ) (h : Here) (class : Class) (t : Lexeme) (ys : List Sym) → (class ≡ At) ⊎ (class ≡ Stray) → judge (run n (begin h) (of class t ∷ ys)) ≡ refused unfit (of class t ∷ ys)
+  begins-none n h class t ys (inl e) = rw e (ap judge (at-unfit n t ys h))
+  begins-none n h class t ys (inr e) = rw e refl
+
+  pub none-begins : (class : Class) (a b : ℕ) (frame : Frame) → (class ≡ At) ⊎ (class ≡ Stray) → AddressStops classes text (symbolsAhead classes text (Found class a b)) frame noListGoesOn a
+  none-begins class a b frame o =
+      record {
+        why = unfit;
+        rest = symbolsAhead classes text (Found class a b);
+        number-is = refl;
+        place-is = refl;
+        stops = λ h c. begins-none (levelsHere h + frame .levels) h class (lexemeAt classes text class a b) (symbolsFrom classes text b) o;
+      }

@@ -1,0 +1,12 @@
+-- Laws of reading addresses.
+pub mod ClassCases
+pub mod NextLaws
+pub mod PhraseLaws
+pub mod NodesLaws
+pub mod TypedLaws
+pub mod RecordLaws
+pub mod AddressLaws
+pub mod EnclosedLaws
+pub mod ListLaws
+pub mod NamedLaws
+pub mod WholeLaws

@@ -1,0 +1,153 @@
+-- A list, address by address. Assumes nothing.
+use mathlib.Core.Path.{_≡_, refl, sym, ap, _∙_}
+use mathlib.Core.Bool.{Bool, true, false, true≢false}
+use mathlib.Core.List.{List, [], _∷_, _++_}
+use mathlib.Core.Option.{Option, none, some}
+use Prim.Native.Nat.{ℕ, suc, _+_, _*_, _-_, _≤_, _<_}
+use native.Mathlib.Omega.{arith}
+use lib.ListN.{length, length-append}
+use lib.Seq.{sets}
+use Rattle.octets.proofs.Parts.{sets-append}
+use Rattle.scanner.specs.declared.Next.{Next}
+use Rattle.scanner.specs.declared.Next.the-variants.{Found, Ended, Fault}
+use Rattle.grammar.specs.Records.{AddressRecord, tableBytes}
+use Rattle.grammar.proofs.Records.{length-tableBytes, tableBytes-append}
+use Rattle.grammar.proofs.Trees.{Class, Comma, Lexeme, Sym, of, Place, empty, comma, AddressList, idle, full, Address, mailbox, angle, group, quoted, typed, atomColon}
+use Rattle.grammar.proofs.AddressMachine.{inList, Level, list, levelsAt, nameless, fresh, run, judge}
+use Rattle.grammar.proofs.Complete.{doneList, Clear, complete-doneList}
+use Rattle.grammar.proofs.Readers.{AddressEnds, ListEnds, endsAddress}
+use Rattle.grammar.proofs.TreeRecords.{placeCount, listCount, addressCount, placeRecords, listRecords, insideRecords, addressRecords}
+use Rattle.addresses.specs.Steps.{symbolsFrom, lexemeAt, symbolAt, symbolsAhead, Faultless, Standing, Ahead, Stops, AddressRead, AddressStops, Ready, ListRead, ListStops, Entered}
+use Rattle.addresses.specs.declared.Frame.{Frame}
+use Rattle.addresses.proofs.NextLaws.{NextIs}
+
+-- ---- as many records as addresses
+
+mutual
+  place-length : (r : Place) (d p i : ℕ) → length (placeRecords r d p i) ≡ placeCount r
+  place-length empty d p i = refl
+  place-length (comma l t) d p i = list-length l d p i
+
+  list-length : (l : AddressList) (d p i : ℕ) → length (listRecords l d p i) ≡ listCount l
+  list-length (idle r) d p i = place-length r d p i
+  list-length (full r a) d p i = simp length-append (omega (arith, place-length r d p i, inside-length a (suc d) (suc (i + placeCount r))))
+
+  inside-length : (a : Address) (d i : ℕ) → suc (length (insideRecords a d i)) ≡ addressCount a
+  inside-length (mailbox p m) d i = refl
+  inside-length (angle o t l u) d i = omega (arith, list-length l d i i)
+  inside-length (group o t l u) d i = omega (arith, list-length l d i i)
+  inside-length (quoted t) d i = refl
+  inside-length (typed t a u b) d i = omega (arith, inside-length b (suc d) (suc i))
+
+-- ---- the machine in a list
+
+run-comma : (n : ℕ) (k : Level) (l : AddressList) (t : Lexeme) (ys : List Sym) → run n (doneList k l) (of Comma t ∷ ys) ≡ run n (list k (idle (comma l t))) ys
+run-comma n k l t ys = rw (complete-doneList k l)
+
+-- an address may begin at a place
+abbrev ClearAt : Level → AddressList → List Sym → Type 0
+ClearAt k (idle r) ys = Clear (fresh (inList k r)) (atomColon ys)
+ClearAt k (full r a) ys = Unit {0}
+
+-- behind an address only what ends it stands
+abbrev Behind : AddressList → List Sym → Type 0
+Behind (idle r) ys = Unit {0}
+Behind (full r a) ys = AddressEnds ys
+
+-- the records of one address more, behind those of a place
+stored-behind : (table now after : List ℕ) (first : ℕ) (r : Place) (a : Address) (free depth parent : ℕ) → free ≡ first + placeCount r → now ≡ sets table (first * 12) (tableBytes (placeRecords r depth parent first))
+    → after ≡ sets now (free * 12) (tableBytes (addressRecords a depth parent free)) → after ≡ sets table (first * 12) (tableBytes (listRecords (full r a) depth parent first))
+stored-behind table now after first r a free depth parent e f g =
+    let rs = placeRecords r depth parent first in
+    let n : length (tableBytes rs) ≡ 12 * placeCount r = omega (arith, length-tableBytes rs, place-length r depth parent first) in
+    let q : free * 12 ≡ first * 12 + length (tableBytes rs) = omega arith in
+    let k : after ≡ sets (sets table (first * 12) (tableBytes rs)) (first * 12 + length (tableBytes rs)) (tableBytes (addressRecords a depth parent (first + placeCount r))) =
+    rw (← q, ← f, ← e) g in
+    k ∙ sym (ap (sets table (first * 12)) (tableBytes-append rs (addressRecords a depth parent (first + placeCount r))) ∙ sets-append (tableBytes rs) _ table (first * 12))
+
+module _ (classes text : List ℕ) where
+  -- the list so far
+  pub record ListSoFar (at : ℕ) (frame : Frame) (table after : List ℕ) (ahead : Next) (last free : ℕ) : Type 0 where
+    pub tree : AddressList
+    pub reads : (k : Level) → Clear (nameless k) (atomColon (symbolsFrom classes text at)) → run (levelsAt k + frame .levels) (list k (idle empty)) (symbolsFrom classes text at) ≡ run (levelsAt k + frame .levels) (doneList k tree) (symbolsAhead classes text ahead)
+    pub clear : (k : Level) → Clear (nameless k) (atomColon (symbolsFrom classes text at)) → ClearAt k tree (symbolsAhead classes text ahead)
+    pub behind : Behind tree (symbolsAhead classes text ahead)
+    pub ahead-ok : Ahead classes text last ahead
+    pub count : free ≡ frame .number + listCount tree
+    pub stored : after ≡ sets table (frame .number * 12) (tableBytes (listRecords tree (64 - frame .levels) (frame .parent) (frame .number)))
+    pub from : at ≤ last
+    pub within : last ≤ length text
+    pub free-low : free ≤ last
+
+  pub list-start : {at : ℕ} {frame : Frame} (table : List ℕ) (ahead : Next) → Entered classes text at frame → NextIs classes text at ahead → ListSoFar at frame table table ahead at (frame .number)
+  list-start {at} {frame} table ahead e x =
+      record {
+        tree = idle empty;
+        reads = λ k c. ap (run (levelsAt k + frame .levels) (list k (idle empty))) (x .same);
+        clear = λ k c. rw (← (x .same)) c;
+        behind = tt;
+        ahead-ok = x .ok;
+        count = omega arith;
+        stored = refl;
+        from = omega arith;
+        within = e .inside;
+        free-low = e .ready .number-low;
+      }
+
+  module _ {at : ℕ} {frame : Frame} {table now : List ℕ} where
+    pub list-comma : {a b last free : ℕ} (ahead : Next) → ListSoFar at frame table now (Found Comma a b) last free → NextIs classes text b ahead → ListSoFar at frame table now ahead b free
+    list-comma {a} {b} ahead w x =
+        record {
+          tree = idle (comma (w .tree) (lexemeAt classes text Comma a b));
+          reads = λ k c. w .reads k c ∙ run-comma (levelsAt k + frame .levels) k (w .tree) (lexemeAt classes text Comma a b) (symbolsFrom classes text b)
+              ∙ ap (run (levelsAt k + frame .levels) (list k (idle (comma (w .tree) (lexemeAt classes text Comma a b))))) (x .same);
+          clear = λ k c. tt;
+          behind = tt;
+          ahead-ok = x .ok;
+          count = w .count;
+          stored = w .stored;
+          from = omega (arith, w .from, w .ahead-ok .0, w .ahead-ok .1 .starts);
+          within = w .ahead-ok .1 .within;
+          free-low = omega (arith, w .free-low, w .ahead-ok .0, w .ahead-ok .1 .starts);
+        }
+
+    -- one address more
+    pub list-address : {class : Class} {a b last free last′ free′ : ℕ} (after : List ℕ) (ahead : Next) → ListSoFar at frame table now (Found class a b) last free → endsAddress class ≡ false
+        → AddressRead classes text (symbolsAhead classes text (Found class a b)) record { levels = frame .levels; parent = frame .parent; number = free } a now after ahead last′ free′
+        → ListSoFar at frame table after ahead last′ free′
+    list-address {class} {a} {b} {last} {free} {last′} {free′} after ahead w f r = by (w .tree) (w .reads) (w .clear) (w .behind) (w .count) (w .stored)
+      where
+        by : (l : AddressList)
+            → ((k : Level) → Clear (nameless k) (atomColon (symbolsFrom classes text at)) → run (levelsAt k + frame .levels) (list k (idle empty)) (symbolsFrom classes text at) ≡ run (levelsAt k + frame .levels) (doneList k l) (symbolsAhead classes text (Found class a b)))
+            → ((k : Level) → Clear (nameless k) (atomColon (symbolsFrom classes text at)) → ClearAt k l (symbolsAhead classes text (Found class a b)))
+            → Behind l (symbolsAhead classes text (Found class a b)) → free ≡ frame .number + listCount l
+            → now ≡ sets table (frame .number * 12) (tableBytes (listRecords l (64 - frame .levels) (frame .parent) (frame .number))) → ListSoFar at frame table after ahead last′ free′
+        by (idle p) reads clear behind count stored =
+            record {
+              tree = full p (r .tree);
+              reads = λ k c. reads k c ∙ r .reads (inList k p) (clear k c);
+              clear = λ k c. tt;
+              behind = r .ends;
+              ahead-ok = r .ahead-ok;
+              count = omega (arith, r .count);
+              stored = stored-behind table now after (frame .number) p (r .tree) free (64 - frame .levels) (frame .parent) count stored (r .stored);
+              from = omega (arith, w .from, w .ahead-ok .0, r .from);
+              within = r .within;
+              free-low = r .free-low;
+            }
+        by (full p x) reads clear behind count stored = absurd (true≢false (sym behind ∙ f))
+
+    pub list-stops : {class : Class} {a b last free number-told place : ℕ} → ListSoFar at frame table now (Found class a b) last free → endsAddress class ≡ false
+        → AddressStops classes text (symbolsAhead classes text (Found class a b)) record { levels = frame .levels; parent = frame .parent; number = free } number-told place → ListStops classes text at frame number-told place
+    list-stops {class} {a} {b} {last} {free} {number-told} {place} w f s =
+        record { why = s .why; rest = s .rest; number-is = s .number-is; place-is = s .place-is; stops = λ k c. by k (w .tree) (w .reads k c) (w .clear k c) (w .behind) }
+      where
+        by : (k : Level) (l : AddressList) → run (levelsAt k + frame .levels) (list k (idle empty)) (symbolsFrom classes text at) ≡ run (levelsAt k + frame .levels) (doneList k l) (symbolsAhead classes text (Found class a b))
+            → ClearAt k l (symbolsAhead classes text (Found class a b)) → Behind l (symbolsAhead classes text (Found class a b))
+            → judge (run (levelsAt k + frame .levels) (list k (idle empty)) (symbolsFrom classes text at)) ≡ Rattle.grammar.specs.Language.refused (s .why) (s .rest)
+        by k (idle p) reads clear behind = ap judge reads ∙ s .stops (inList k p) clear
+        by k (full p x) reads clear behind = absurd (true≢false (sym behind ∙ f))
+
+    pub list-end : {last free : ℕ} (ahead : Next) → ListSoFar at frame table now ahead last free → ListEnds (symbolsAhead classes text ahead) → ListRead classes text at frame table now ahead last free
+    list-end ahead w e =
+        record { tree = w .tree; reads = w .reads; ends = e; ahead-ok = w .ahead-ok; count = w .count; stored = w .stored; from = w .from; within = w .within; free-low = w .free-low }

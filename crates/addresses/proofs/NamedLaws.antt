@@ -1,0 +1,72 @@
+-- An address that begins with a phrase. Assumes nothing.
+use mathlib.Core.Path.{_≡_, refl, sym, ap, _∙_}
+use mathlib.Core.Bool.{Bool, true, false, true≢false}
+use mathlib.Core.List.{List, [], _∷_}
+use mathlib.Core.Option.{some}
+use Prim.Native.Nat.{ℕ}
+use types.Run.{OneOf, miss}
+use denote.Enum.Declared.{tagOf}
+use Rattle.scanner.proofs.Next as next-declared
+use Rattle.scanner.specs.declared.Next.{Next}
+use Rattle.scanner.specs.declared.Next.the-variants.{Found, Ended, Fault}
+use Rattle.grammar.proofs.Trees.{Class, Atom, Quoted, At, LessThan, GreaterThan, Comma, Semicolon, Colon, Stray, Lexeme, Sym, of, Phrase, one, phraseThen}
+use Rattle.grammar.proofs.TreeRecords.{phraseStart, phraseEnd}
+use Rattle.addresses.specs.Steps.{isWord, isQuoted, followsPhrase, loneQuoted, opening, House, symbolsFrom, lexemeAt, symbolAt, symbolsAhead, Ahead, FirstWord, WordsIs, NoMark, Named, Opening}
+use Rattle.addresses.specs.declared.Words.{Words}
+use Rattle.addresses.specs.declared.Span.{Span}
+use Rattle.addresses.specs.declared.Enclosure.{Enclosure}
+use Rattle.addresses.specs.declared.Enclosure.the-variants.{Angle, Group}
+use Rattle.addresses.proofs.ClassCases.{tag}
+use Rattle.addresses.proofs.PhraseLaws.{wordOf, word-symbol, word-lexeme, word-lone}
+
+-- a symbol behind a phrase that is no word and none of the marks of an address
+pub no-mark-found : (classes text : List ℕ) (class : Class) → OneOf (0 ∷ 1 ∷ 4 ∷ 5 ∷ 6 ∷ 8 ∷ []) (tag class) → isWord class ≡ false → followsPhrase classes text class ≡ false
+no-mark-found classes text Atom o e = absurd (true≢false e)
+no-mark-found classes text Quoted o e = absurd (true≢false e)
+no-mark-found classes text At o e = absurd (miss (0 ∷ 1 ∷ 4 ∷ 5 ∷ 6 ∷ 8 ∷ []) 2 tt o)
+no-mark-found classes text LessThan o e = absurd (miss (0 ∷ 1 ∷ 4 ∷ 5 ∷ 6 ∷ 8 ∷ []) 3 tt o)
+no-mark-found classes text GreaterThan o e = refl
+no-mark-found classes text Comma o e = refl
+no-mark-found classes text Semicolon o e = refl
+no-mark-found classes text Colon o e = absurd (miss (0 ∷ 1 ∷ 4 ∷ 5 ∷ 6 ∷ 8 ∷ []) 7 tt o)
+no-mark-found classes text Stray o e = refl
+
+module _ (classes text : List ℕ) where
+  pub no-mark-left : (low : ℕ) (r : Next) → Ahead classes text low r → OneOf (1 ∷ 2 ∷ []) (tagOf next-declared.the-type r) → NoMark classes text r
+  no-mark-left low (Found class start end) a o = absurd (miss (1 ∷ 2 ∷ []) 0 tt o)
+  no-mark-left low Ended a o = tt
+  no-mark-left low (Fault number p) a o = a
+
+  -- the phrase that begins with a word
+  abbrev pub phraseOf : (class : Class) (start end : ℕ) {lone : Bool} {r : Words} → WordsIs classes text end lone r → Phrase
+  phraseOf class start end w = w .grow (one (wordOf class (lexemeAt classes text class start end)))
+
+  pub named-is : (class : Class) {start end : ℕ} {lone : Bool} {r : Words} → FirstWord classes text class start end → (w : WordsIs classes text end lone r)
+      → Named classes text (symbolsAhead classes text (Found class start end)) record { start = start; end = r .end } (phraseOf class start end w) (r .ahead)
+  named-is class {start} {end} f w =
+      let t = lexemeAt classes text class start end in
+      let q = one (wordOf class t) in
+      record {
+        yields = ap (λ (x : Sym). x ∷ symbolsFrom classes text end) (sym (word-symbol class t (f .word))) ∙ w .yields q;
+        start-is = w .start-is q ∙ ap (λ (l : Lexeme). l .start) (word-lexeme class t);
+        end-is = w .end-is q (ap (λ (l : Lexeme). l .end) (word-lexeme class t));
+      }
+
+  pub named-lone : (class : Class) (start end : ℕ) {lone : Bool} {r : Words} → lone ≡ isQuoted class → (w : WordsIs classes text end lone r) → r .lone ≡ loneQuoted (phraseOf class start end w)
+  named-lone class start end e w = let t = lexemeAt classes text class start end in w .lone-is (one (wordOf class t)) (e ∙ word-lone class t)
+
+  house-named : (e : Enclosure) (p : Phrase) (ys : List Sym) → House e (some p) ys
+  house-named Angle p ys = tt
+  house-named Group p ys = tt
+
+  -- a phrase before the mark of an enclosed list is its name
+  pub named-opening : (e : Enclosure) {xs : List Sym} {span : Span} {p : Phrase} {a b : ℕ} → Named classes text xs span p (Found (opening e) a b) → Opening classes text e xs a b span
+  named-opening e {p = p} {b = b} n =
+      record { name = some p; yields = n .yields; start-is = sym (n .start-is); end-is = sym (n .end-is); house = house-named e p (symbolsFrom classes text b) }
+
+  -- the mark that stands behind a phrase
+  pub named-before : {xs : List Sym} {span : Span} {p : Phrase} {r s : Next} → Named classes text xs span p r → r ≡ s → Named classes text xs span p s
+  named-before {p = p} n e = record { yields = n .yields ∙ ap (λ (a : Next). phraseThen p (symbolsAhead classes text a)) e; start-is = n .start-is; end-is = n .end-is }
+
+  pub named-mark : {xs : List Sym} {span : Span} {p : Phrase} {r : Next} {c d : Class} {a b : ℕ} → Named classes text xs span p r → r ≡ Found c a b → c ≡ d → Named classes text xs span p (Found d a b)
+  named-mark {a = a} {b = b} n e f = named-before n (e ∙ ap (λ (m : Class). Found m a b) f)

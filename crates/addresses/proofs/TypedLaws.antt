@@ -1,0 +1,37 @@
+-- Whether an atom and ":" follow a ":". Assumes nothing.
+use mathlib.Core.Path.{_≡_, refl, sym, ap, _∙_}
+use mathlib.Core.Bool.{Bool, true, false, true≢false}
+use mathlib.Core.List.{List, [], _∷_}
+use Prim.Native.Nat.{ℕ}
+use native.Mathlib.Omega.{arith}
+use Rattle.octets.specs.Choice.{both}
+use Rattle.scanner.specs.declared.Next.the-variants.{Found}
+use Rattle.grammar.specs.Rfc733.{sameClass}
+use Rattle.grammar.proofs.Trees.{Class, Atom, Colon, atomColon}
+use Rattle.addresses.specs.Steps.{symbolsFrom, symbolsAhead, lexemeAt, TypedFollows}
+use Rattle.addresses.proofs.NextLaws.{NextIs}
+
+module _ (classes text : List ℕ) where
+  pub nothing : (at : ℕ) → symbolsFrom classes text at ≡ [] → atomColon (symbolsFrom classes text at) ≡ false
+  nothing at e = ap atomColon e
+
+  pub no-atom : {at a b : ℕ} {class : Class} → NextIs classes text at (Found class a b) → sameClass Atom class ≡ false → atomColon (symbolsFrom classes text at) ≡ false
+  no-atom {at} {a} {b} {class} x f = ap atomColon (x .same) ∙ rw f
+
+  pub nothing-behind : {at a b : ℕ} → NextIs classes text at (Found Atom a b) → symbolsFrom classes text b ≡ [] → atomColon (symbolsFrom classes text at) ≡ false
+  nothing-behind x e = ap atomColon (x .same) ∙ rw e
+
+  pub no-colon : {at a b i j : ℕ} {class : Class} → NextIs classes text at (Found Atom a b) → NextIs classes text b (Found class i j) → sameClass Colon class ≡ false → atomColon (symbolsFrom classes text at) ≡ false
+  no-colon x y f = ap atomColon (x .same) ∙ rw (y .same, f)
+
+  pub typed-follows : {at a b i j : ℕ} → NextIs classes text at (Found Atom a b) → NextIs classes text b (Found Colon i j) → TypedFollows classes text at a b j
+  typed-follows {at} {a} {b} {i} {j} x y =
+      record {
+        colon = lexemeAt classes text Colon i j;
+        yields = x .same ∙ ap (λ ys. Rattle.addresses.specs.Steps.symbolAt classes text Atom a b ∷ ys) (y .same);
+        from = x .ok .0;
+        atom-starts = x .ok .1 .starts;
+        end-before = omega (arith, y .ok .0, y .ok .1 .starts);
+        within = y .ok .1 .within;
+        faultless = y .ok .1 .faultless;
+      }

@@ -1,0 +1,191 @@
+-- A whole body: the verdict, and what follows from it for the answer and the table. Assumes nothing.
+use mathlib.Core.Path.{_≡_, refl, sym, ap, _∙_}
+use mathlib.Core.Bool.{Bool, true, false, true≢false}
+use mathlib.Core.List.{List, [], _∷_, _++_}
+use Prim.Native.Nat.{ℕ, _+_, _*_, _-_, _/_, _≤_, _<_}
+use native.Mathlib.Omega.{arith}
+use borrow.Author.Tests.{lt-ltb, le-ltb}
+use lib.ListN.{length, take}
+use lib.Seq.{sets, length-take-le}
+use types.Run.{OneOf, miss}
+use denote.Enum.Declared.{tagOf}
+use Rattle.octets.proofs.answers.Answer as answer-declared
+use Rattle.octets.specs.Classes.{classTable}
+use Rattle.octets.specs.Numbers.{messageLimit, levelLimit, noListGoesOn}
+use Rattle.octets.specs.declared.answers.Answer.{Answer}
+use Rattle.octets.specs.declared.answers.Answer.the-variants.{Accepted, Refused, NoRoom}
+use Rattle.scanner.specs.Scanning.{Scanned, ended, next, faultAt, scan, scanBy, symbolsOf}
+use Rattle.scanner.specs.Answers.{faultOf}
+use Rattle.scanner.specs.declared.Next.{Next}
+use Rattle.scanner.specs.declared.Next.the-variants.{Found, Ended, Fault}
+use Rattle.scanner.proofs.BodyChecks.{in-order}
+use Rattle.grammar.specs.Grammar.{levels}
+use Rattle.grammar.specs.Language.{Refusal, unfit, Verdict, accepted, refused, number, positionOf}
+use Rattle.grammar.specs.Records.{count, records, tableBytes}
+use Rattle.grammar.specs.Rfc733.{Derivation, DerivedList, RightVerdict}
+use Rattle.grammar.proofs.Condition3.{asRows, answer, answer-right, answer-accepts, answer-derives}
+use Rattle.grammar.proofs.Rows.{asRow}
+use Rattle.grammar.proofs.Trees.{Class, Atom, Quoted, At, LessThan, GreaterThan, Comma, Semicolon, Colon, Stray, Lexeme, Sym, of, AddressList}
+use Rattle.grammar.proofs.AddressMachine.{top, start, run, judge, read}
+use Rattle.grammar.proofs.Complete.{doneList, complete-doneList}
+use Rattle.grammar.proofs.Readers.{ListEnds}
+use Rattle.grammar.proofs.TreeRecords.{listCount, tree-records, tree-count}
+use Rattle.addresses.specs.Outcome.{Outcome, refusal, room, derived, decided, unlessFault, bodySymbols, outcome}
+use Rattle.addresses.specs.Condition3.{IsList, RightlyRefused, Settled, Condition3}
+use Rattle.addresses.specs.Steps.{symbolsFrom, symbolsAhead, lexemeAt, ListRead, ListStops}
+use Rattle.addresses.specs.Whole.{IsListed, IsRefused, TwiceIs, TextIs}
+use Rattle.addresses.specs.declared.Frame.{Frame}
+
+-- the outermost list
+abbrev pub outermost : Frame
+outermost = record { levels = 64; parent = 0; number = 0 }
+
+-- ---- the verdict
+
+at-the-end : (l : AddressList) → judge (run 64 (doneList top l) []) ≡ accepted l
+at-the-end l = rw (complete-doneList top l)
+
+-- a closing mark closes nothing there
+not-closed : (l : AddressList) (class : Class) (u : Lexeme) (ys : List Sym) → ListEnds (of class u ∷ ys) → judge (run 64 (doneList top l) (of class u ∷ ys)) ≡ refused unfit (of class u ∷ ys)
+not-closed l Atom u ys v = absurd (true≢false (sym v))
+not-closed l Quoted u ys v = absurd (true≢false (sym v))
+not-closed l At u ys v = absurd (true≢false (sym v))
+not-closed l LessThan u ys v = absurd (true≢false (sym v))
+not-closed l GreaterThan u ys v = rw (complete-doneList top l)
+not-closed l Comma u ys v = absurd (true≢false (sym v))
+not-closed l Semicolon u ys v = rw (complete-doneList top l)
+not-closed l Colon u ys v = absurd (true≢false (sym v))
+not-closed l Stray u ys v = absurd (true≢false (sym v))
+
+module _ (classes text : List ℕ) where
+  pub whole-listed : {at last free : ℕ} {table after : List ℕ} (ahead : Next) → ListRead classes text at outermost table after ahead last free → symbolsAhead classes text ahead ≡ [] → IsListed classes text at table after free
+  whole-listed {at} {table = table} ahead l e =
+      record {
+        derivation = asRow (l .tree);
+        verdict = ap asRows (ap judge (l .reads top tt ∙ ap (run 64 (doneList top (l .tree))) e) ∙ at-the-end (l .tree));
+        count-is = omega (arith, l .count, tree-count (l .tree));
+        stored = l .stored ∙ ap (λ rs. sets table 0 (tableBytes rs)) (sym (tree-records (l .tree)));
+      }
+
+  pub whole-stops : {at number-told place : ℕ} → ListStops classes text at outermost number-told place → IsRefused classes text at number-told place
+  whole-stops s = record { why = s .why; rest = s .rest; verdict = ap asRows (s .stops top tt); number-is = s .number-is; place-is = s .place-is }
+
+  pub whole-closed : {at last free a b : ℕ} {class : Class} {table after : List ℕ} → ListRead classes text at outermost table after (Found class a b) last free → IsRefused classes text at noListGoesOn a
+  whole-closed {a = a} {b = b} {class = class} l =
+      record {
+        why = unfit;
+        rest = symbolsAhead classes text (Found class a b);
+        verdict = ap asRows (ap judge (l .reads top tt) ∙ not-closed (l .tree) class (lexemeAt classes text class a b) (symbolsFrom classes text b) (l .ends));
+        number-is = refl;
+        place-is = refl;
+      }
+
+  -- ---- the outcome
+
+  module _ {at : ℕ} (table : List ℕ) where
+    pub twice-refused : {number-told place : ℕ} → IsRefused classes text at number-told place → TwiceIs classes text at table table (Refused number-told place)
+    twice-refused s = record { answer-is = rw (s .verdict, s .number-is, s .place-is); table-is = rw (s .verdict) }
+
+    pub twice-no-room : {dry after : List ℕ} {n : ℕ} → IsListed classes text at dry after n → length table / 12 < n → TwiceIs classes text at table table (NoRoom n)
+    twice-no-room l h =
+        let q : room table < count (l .derivation) = rw (← (l .count-is)) h in
+        record { answer-is = rw (l .verdict, lt-ltb (room table) (count (l .derivation)) q, l .count-is); table-is = rw (l .verdict, lt-ltb (room table) (count (l .derivation)) q) }
+
+    pub twice-accepted : {dry half after : List ℕ} {n m : ℕ} → IsListed classes text at dry half n → n ≤ length table / 12 → IsListed classes text at table after m → TwiceIs classes text at table after (Accepted m)
+    twice-accepted d h l =
+        let e : accepted (d .derivation) ≡ accepted (l .derivation) = sym (d .verdict) ∙ l .verdict in
+        let k : d .derivation ≡ l .derivation = cc in
+        let q : count (l .derivation) ≤ room table = rw (← k, ← (d .count-is)) h in
+        record { answer-is = rw (l .verdict, le-ltb (room table) (count (l .derivation)) q, l .count-is); table-is = l .stored ∙ rw (l .verdict, le-ltb (room table) (count (l .derivation)) q) }
+
+    -- a second run does not refuse what the first did not
+    pub twice-never : {dry half : List ℕ} {n number-told place : ℕ} {A : Type 0} → IsListed classes text at dry half n → IsRefused classes text at number-told place → A
+    twice-never d s =
+        let e : accepted (d .derivation) ≡ refused (s .why) (s .rest) = sym (d .verdict) ∙ s .verdict in
+        absurd (let z : _≡_ {A = ℕ} 0 1 = cc in omega arith)
+
+  -- where there is a fault, and where there is none
+  pub unless-refused : (table : List ℕ) (s : Scanned) (otherwise : Outcome) {number-told place : ℕ} → Refused number-told place ≡ faultOf s → unlessFault table s otherwise ≡ refusal table number-told place
+  unfolding unlessFault faultOf
+  unless-refused table ended otherwise e = absurd (let z : _≡_ {A = ℕ} 0 1 = cc in omega arith)
+  unless-refused table (next x rest) otherwise e = unless-refused table rest otherwise e
+  unless-refused table (faultAt n p) otherwise e = ap (refusal-of table) (sym e)
+    where
+      refusal-of : List ℕ → Answer → Outcome
+      refusal-of t (Accepted w) = refusal t 0 0
+      refusal-of t (Refused m q) = refusal t m q
+      refusal-of t (NoRoom w) = refusal t 0 0
+
+  pub unless-none : (table : List ℕ) (s : Scanned) (otherwise : Outcome) → faultOf s ≡ Accepted 0 → unlessFault table s otherwise ≡ otherwise
+  unfolding unlessFault faultOf
+  unless-none table ended otherwise e = refl
+  unless-none table (next x rest) otherwise e = unless-none table rest otherwise e
+  unless-none table (faultAt n p) otherwise e = absurd (let z : _≡_ {A = ℕ} 0 1 = cc in omega arith)
+
+-- a scan gives the first fault or none
+pub fault-or-none : (s : Scanned) → (r : Answer) → r ≡ faultOf s → OneOf (0 ∷ 2 ∷ []) (tagOf answer-declared.the-type r) → faultOf s ≡ Accepted 0
+unfolding faultOf
+fault-or-none ended r e o = refl
+fault-or-none (next x rest) r e o = fault-or-none rest r e o
+fault-or-none (faultAt n p) r e o = absurd (miss (0 ∷ 2 ∷ []) 1 tt (rw e at o))
+
+-- ---- condition 3
+
+module _ (symbols : List Sym) (end : ℕ) (table : List ℕ) where
+  by-verdict : (v : Verdict Class Derivation) → answer levelLimit symbols ≡ v → Settled symbols end table (decided end table v .answer) (decided end table v .table)
+  by-verdict (accepted k) e =
+      record {
+        with-room = λ k′ d h. let q = same k′ d in (rw (le-ltb (room table) (count k) (rw q h)) (ap (λ z. Accepted (count z)) q), rw (le-ltb (room table) (count k) (rw q h)) (ap (λ z. sets table 0 (tableBytes (records z))) q));
+        without-room = λ k′ d h. let q = same k′ d in (rw (lt-ltb (room table) (count k) (rw q h)) (ap (λ z. NoRoom (count z)) q), rw (lt-ltb (room table) (count k) (rw q h)));
+        no-list = λ f. absurd (f k (record { derived = answer-derives levelLimit {xs = symbols} e .0; within = answer-derives levelLimit {xs = symbols} e .1 }));
+      }
+    where
+      same : (k′ : Derivation) → IsList symbols k′ → k ≡ k′
+      same k′ d = let f : accepted k ≡ accepted k′ = sym e ∙ answer-accepts levelLimit (d .derived) (d .within) in cc
+  by-verdict (refused why rest) e =
+      record {
+        with-room = λ k d h. absurd (never k d);
+        without-room = λ k d h. absurd (never k d);
+        no-list = λ f. (record { why = why; rest = rest; right = rw e at (answer-right levelLimit symbols); answer = refl }, refl);
+      }
+    where
+      never : (k : Derivation) → IsList symbols k → ⊥
+      never k d =
+          let f : refused why rest ≡ accepted k = sym e ∙ answer-accepts levelLimit (d .derived) (d .within) in
+          let z : _≡_ {A = ℕ} 0 1 = cc in
+          omega arith
+
+-- what the outcome says, condition 3 says
+pub settles : (message : List ℕ) (start end : ℕ) (table : List ℕ) (r : Answer) (after : List ℕ) → r ≡ outcome message start end table .answer → after ≡ outcome message start end table .table
+    → Condition3 message start end table r after
+settles message start end table r after e f h k l n =
+    let o : outcome message start end table ≡ decided end table (answer levelLimit (bodySymbols message start end)) =
+    in-order (refusal table) message start end _ h k l ∙ unless-none classTable message table (scan (take end message) start) _ n in
+    rw (e, f, o) (by-verdict (bodySymbols message start end) end table (answer levelLimit (bodySymbols message start end)) refl)
+
+-- a run on the empty part of a table leaves it as it was
+pub untouched : (part table : List ℕ) → length part ≡ 0 → part ++ table ≡ table
+untouched [] table e = refl
+untouched (b ∷ part) table e = absurd (omega arith)
+
+-- the two promises of the entry point
+abbrev pub Promised : List ℕ → ℕ → ℕ → List ℕ → Answer → List ℕ → Type 0
+Promised message start end table r after =
+    ((r ≡ outcome message start end table .answer) × (after ≡ outcome message start end table .table)) × Condition3 message start end table r after
+
+pub promised : (message : List ℕ) (start end : ℕ) (table : List ℕ) (o : Outcome) → outcome message start end table ≡ o → Promised message start end table (o .answer) (o .table)
+promised message start end table o e =
+    let p : o .answer ≡ outcome message start end table .answer = ap (λ (z : Outcome). z .answer) (sym e) in
+    let q : o .table ≡ outcome message start end table .table = ap (λ (z : Outcome). z .table) (sym e) in
+    ((p, q), settles message start end table (o .answer) (o .table) p q)
+
+pub text-promised : (message : List ℕ) (start end : ℕ) (table after : List ℕ) (r : Answer) → length message ≤ messageLimit → start ≤ end → end ≤ length message
+    → TextIs classTable (take end message) start table after r → Promised message start end table r after
+text-promised message start end table after r h k l x =
+    let text = take end message in
+    let z = answer levelLimit (bodySymbols message start end) in
+    let e : unlessFault table (scan text start) (decided (length text) table z) ≡ outcome message start end table =
+    ap (λ (n : ℕ). unlessFault table (scan text start) (decided n table z)) (length-take-le end message l) ∙ sym (in-order (refusal table) message start end _ h k l) in
+    let p : r ≡ outcome message start end table .answer = x .answer-is ∙ ap (λ (o : Outcome). o .answer) e in
+    let q : after ≡ outcome message start end table .table = x .table-is ∙ ap (λ (o : Outcome). o .table) e in
+    ((p, q), settles message start end table r after p q)

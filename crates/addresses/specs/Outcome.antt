@@ -1,0 +1,59 @@
+-- What the address reader answers and leaves in the lent table, in document 01's order of checks: 1, 13, the faults of scanning, 8, 9 or 10, then 11.
+-- The verdict is that of the machine which the crate `grammar` proves right; `Condition3` says the same without it.
+use Prim.Native.Nat.{ℕ, _/_}
+use mathlib.Core.List.{List}
+use lib.Dec.{ltb}
+use lib.ListN.{length, take}
+use lib.Seq.{sets}
+use Rattle.octets.specs.Choice.{pick}
+use Rattle.octets.specs.Numbers.{levelLimit, addressRecordSize}
+use Rattle.octets.specs.declared.answers.Answer.{Answer}
+use Rattle.octets.specs.declared.answers.Answer.the-variants.{Accepted, Refused, NoRoom}
+use Rattle.scanner.specs.Symbols.{Symbol}
+use Rattle.scanner.specs.Scanning.{Scanned, ended, next, faultAt, scan, symbolsOf}
+use Rattle.scanner.specs.Answers.{bodyChecked}
+use Rattle.scanner.specs.declared.Class.{Class}
+use Rattle.grammar.specs.Language.{Verdict, accepted, refused, number, positionOf}
+use Rattle.grammar.specs.Records.{count, records, tableBytes}
+use Rattle.grammar.specs.Rfc733.{Derivation}
+use Rattle.grammar.proofs.Condition3.{answer}
+
+-- an answer, and the table afterwards
+pub record Outcome : Type 0 where
+  pub answer : Answer
+  pub table : List ℕ
+
+-- a refusal leaves the table as it was
+abbrev pub refusal : List ℕ → ℕ → ℕ → Outcome
+refusal table number position = record { answer = Refused number position; table = table }
+
+-- room in a table is the whole number of records that fit
+abbrev pub room : List ℕ → ℕ
+room table = length table / addressRecordSize
+
+-- a derivation: its records at the front of the table, or 11 with their count where there is too little room
+abbrev pub derived : List ℕ → Derivation → Outcome
+derived table k =
+    pick (ltb (room table) (count k)) (record { answer = NoRoom (count k); table = table })
+    (record { answer = Accepted (count k); table = sets table 0 (tableBytes (records k)) })
+
+-- a verdict on a body with this end
+abbrev pub decided : ℕ → List ℕ → Verdict Class Derivation → Outcome
+decided end table (accepted k) = derived table k
+decided end table (refused why rest) = refusal table (number why) (positionOf end rest)
+
+-- the first fault of scanning, else what is decided
+unfoldable pub unlessFault : List ℕ → Scanned → Outcome → Outcome
+unlessFault table ended otherwise = otherwise
+unlessFault table (next x rest) otherwise = unlessFault table rest otherwise
+unlessFault table (faultAt number position) otherwise = refusal table number position
+
+-- the symbols of the body of a message from `start` up to `end`
+abbrev pub bodySymbols : List ℕ → ℕ → ℕ → List (Symbol Class)
+bodySymbols message start end = symbolsOf (scan (take end message) start)
+
+-- the outcome for any message, positions and table
+abbrev pub outcome : List ℕ → ℕ → ℕ → List ℕ → Outcome
+outcome message start end table =
+    bodyChecked (refusal table) message start end
+    (unlessFault table (scan (take end message) start) (decided end table (answer levelLimit (bodySymbols message start end))))

@@ -1,0 +1,51 @@
+-- What the functions that read a whole body answer. Nothing here needs to be believed.
+use mathlib.Core.Path.{_≡_}
+use mathlib.Core.List.{List}
+use Prim.Native.Nat.{ℕ, _≤_}
+use lib.ListN.{length}
+use lib.Seq.{sets}
+use Rattle.octets.specs.Numbers.{messageLimit, levelLimit}
+use Rattle.octets.specs.declared.answers.Answer.{Answer}
+use Rattle.scanner.specs.Scanning.{scanBy}
+use Rattle.grammar.specs.Language.{Refusal, accepted, refused, number, positionOf}
+use Rattle.grammar.specs.Records.{count, records, tableBytes}
+use Rattle.grammar.specs.Rfc733.{Derivation}
+use Rattle.grammar.proofs.Condition3.{answer}
+use Rattle.grammar.proofs.Trees.{Sym}
+use Rattle.addresses.specs.Outcome.{decided, unlessFault}
+use Rattle.addresses.specs.Steps.{symbolsFrom, Faultless}
+use Rattle.addresses.specs.declared.Whole.{Whole}
+use Rattle.addresses.specs.declared.Whole.the-variants.{Listed, Refused}
+
+module _ (classes text : List ℕ) where
+  pub record Body (at : ℕ) : Type 0 where
+    pub inside : at ≤ length text
+    pub short : length text ≤ messageLimit
+    pub faultless : Faultless classes text at
+
+  pub record IsListed (at : ℕ) (table after : List ℕ) (n : ℕ) : Type 0 where
+    pub derivation : Derivation
+    pub verdict : answer levelLimit (symbolsFrom classes text at) ≡ accepted derivation
+    pub count-is : n ≡ count derivation
+    pub stored : after ≡ sets table 0 (tableBytes (records derivation))
+
+  pub record IsRefused (at number-told place : ℕ) : Type 0 where
+    pub why : Refusal
+    pub rest : List Sym
+    pub verdict : answer levelLimit (symbolsFrom classes text at) ≡ refused why rest
+    pub number-is : number-told ≡ number why
+    pub place-is : place ≡ positionOf (length text) rest
+
+  abbrev pub WholeIs : ℕ → List ℕ → List ℕ → Whole → Type 0
+  WholeIs at table after (Listed n) = IsListed at table after n
+  WholeIs at table after (Refused number-told place) = IsRefused at number-told place
+
+  -- what is decided of the symbols from a position on
+  pub record TwiceIs (at : ℕ) (table after : List ℕ) (r : Answer) : Type 0 where
+    pub answer-is : r ≡ decided (length text) table (answer levelLimit (symbolsFrom classes text at)) .answer
+    pub table-is : after ≡ decided (length text) table (answer levelLimit (symbolsFrom classes text at)) .table
+
+  -- .. unless there is a fault
+  pub record TextIs (at : ℕ) (table after : List ℕ) (r : Answer) : Type 0 where
+    pub answer-is : r ≡ unlessFault table (scanBy classes text at) (decided (length text) table (answer levelLimit (symbolsFrom classes text at))) .answer
+    pub table-is : after ≡ unlessFault table (scanBy classes text at) (decided (length text) table (answer levelLimit (symbolsFrom classes text at))) .table
