@@ -1,5 +1,6 @@
 #!/usr/bin/env python3
-"""Every public function has no `requires` and at least one `ensures`; no function is longer than 40 lines."""
+"""Every public function has no `requires`, and an `ensures` unless it returns nothing and changes nothing lent (it prints).
+No function is longer than 40 lines, its contract apart."""
 import pathlib
 import re
 import sys
@@ -17,13 +18,15 @@ for path in sorted(root.glob("crates/*/src/**/*.rt")):
         text = lines[i:end + 1]
         clauses = [line.strip() for line in text if line.strip().startswith(("requires", "ensures"))]
         body = len(text) - len(clauses)
+        header = " ".join(text[:next(k for k, line in enumerate(text) if line.strip() in ("{", ") {") or line.endswith("{"))+ 1])
+        promises_nothing = "->" not in header and "&mut" not in header
         place = f"{path.relative_to(root)}:{i + 1}: fn {name}"
         seen += 1
         if body > 40:
             faults.append(f"{place}: {body} lines")
         if public and any(c.startswith("requires") for c in clauses):
             faults.append(f"{place}: a public function with a requires")
-        if public and not any(c.startswith("ensures") for c in clauses):
+        if public and not promises_nothing and not any(c.startswith("ensures") for c in clauses):
             faults.append(f"{place}: a public function with no ensures")
 for fault in faults:
     print(fault)

@@ -1,0 +1,89 @@
+-- Which bytes a name holds, and where CRLF and a body's end stand, from tests of single bytes. Assumes nothing.
+use mathlib.Core.Path.{_≡_, refl, _∙_}
+use mathlib.Core.Bool.{Bool, true, false, not}
+use mathlib.Core.List.{List}
+use Prim.Native.Nat.{ℕ, _+_, _≤_, _<_}
+use native.Mathlib.Nat.{add-zero}
+use native.Mathlib.Omega.{arith}
+use borrow.Author.Tests.{le-leb, lt-leb, eq-eqb, ne-eqb}
+use lib.Dec.{eqb}
+use lib.ListN.{length, drop, getD, List·getD-eq-default}
+use lib.Seq.{getD-drop}
+use Rattle.octets.specs.Choice.{both}
+use Rattle.octets.specs.Classes.{isWhite}
+use Rattle.header.specs.Fields.{carriageReturn, lineFeed, colonByte, nameHolds, nameStartsWith, crlf, endsBody}
+
+both-true : (t : Bool) → both t true ≡ t
+both-true true = refl
+both-true false = refl
+
+both-false : (t : Bool) → both t false ≡ false
+both-false true = refl
+both-false false = refl
+
+module _ (b : ℕ) where
+  -- SPACE, else HTAB
+  pub white-space : b ≡ 32 → isWhite b ≡ true
+  white-space e = rw (eq-eqb b 32 e)
+
+  pub white-else : (b ≡ 32 → ⊥) → isWhite b ≡ eqb b 9
+  white-else n = rw (ne-eqb b 32 n)
+
+  -- a name holds white space and does not start with it
+  pub holds-white : isWhite b ≡ true → nameHolds b ≡ true
+  unfolding nameHolds
+  holds-white w = rw w
+
+  pub starts-white : isWhite b ≡ true → nameStartsWith b ≡ false
+  unfolding nameStartsWith
+  starts-white w = rw w (both-false (nameHolds b))
+
+  module _ (n : isWhite b ≡ false) where
+    -- any other byte by its range
+    pub holds-below : b < 33 → nameHolds b ≡ false
+    unfolding nameHolds
+    holds-below h = rw (n, lt-leb 33 b h)
+
+    pub holds-above : 126 < b → nameHolds b ≡ false
+    unfolding nameHolds
+    holds-above h = rw (n, le-leb 33 b (omega arith), lt-leb b 126 h)
+
+    pub holds-between : 33 ≤ b → b ≤ 126 → nameHolds b ≡ not (eqb b colonByte)
+    unfolding nameHolds
+    holds-between h k = rw (n, le-leb 33 b h, le-leb b 126 k)
+
+    pub starts-else : nameStartsWith b ≡ nameHolds b
+    unfolding nameStartsWith
+    starts-else = rw n (both-true (nameHolds b))
+
+module _ (message : List ℕ) (at : ℕ) where
+  -- the first byte from a position on is the one there
+  pub first-byte : getD (drop at message) 0 0 ≡ getD message at 0
+  first-byte = rw (getD-drop, add-zero)
+
+  two-bytes : crlf (drop at message) ≡ both (eqb (getD message at 0) carriageReturn) (eqb (getD message (at + 1) 0) lineFeed)
+  unfolding crlf
+  two-bytes = simp (getD-drop, add-zero)
+
+  -- CRLF at a position: CR there, and LF after it
+  pub crlf-other : (getD message at 0 ≡ carriageReturn → ⊥) → crlf (drop at message) ≡ false
+  crlf-other n = two-bytes ∙ rw (ne-eqb _ _ n)
+
+  pub crlf-last : length message ≤ at + 1 → crlf (drop at message) ≡ false
+  crlf-last h = two-bytes ∙ rw (List·getD-eq-default message 0 h) (both-false (eqb (getD message at 0) carriageReturn))
+
+  pub crlf-second : getD message at 0 ≡ carriageReturn → crlf (drop at message) ≡ eqb (getD message (at + 1) 0) lineFeed
+  crlf-second e = two-bytes ∙ rw (eq-eqb _ _ e)
+
+  -- a body's end at a position: CRLF, and no white space after it
+  pub body-other : crlf (drop at message) ≡ false → endsBody (drop at message) ≡ false
+  unfolding endsBody
+  body-other n = rw n
+
+  module _ (e : crlf (drop at message) ≡ true) where
+    pub body-third : endsBody (drop at message) ≡ not (isWhite (getD message (at + 2) 0))
+    unfolding endsBody
+    body-third = rw (e, getD-drop)
+
+    pub body-last : length message ≤ at + 2 → endsBody (drop at message) ≡ true
+    body-last h = body-third ∙ rw (List·getD-eq-default message 0 h)

@@ -1,0 +1,9 @@
+-- Laws of headers that crates above cite.
+pub mod ByteLaws
+pub mod HeaderLaws
+pub mod FieldLaws
+pub mod RecordLaws
+pub mod ReadBack
+pub mod StepLaws
+pub mod SplitLaws
+pub mod NameLaws

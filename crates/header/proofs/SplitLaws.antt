@@ -1,0 +1,96 @@
+-- Splitting a message goes field by field: the header, answered and stored, is what is left of it. Assumes nothing.
+use mathlib.Core.Path.{_≡_, refl, sym, ap, _∙_}
+use mathlib.Core.List.{List, [], _∷_, _++_}
+use Prim.Native.Nat.{ℕ, _+_, _*_, _≤_, _<_}
+use native.Mathlib.Omega.{arith}
+use borrow.Author.Tests.{lt-ltb, le-ltb}
+use lib.ListN.{length}
+use lib.Seq.{sets, length-sets}
+use Rattle.octets.specs.Numbers.{messageLimit, fieldRecordSize, messageTooLong}
+use Rattle.octets.specs.declared.answers.Answer.{Answer}
+use Rattle.octets.specs.declared.answers.Answer.the-variants.{Accepted, Refused, NoRoom}
+use Rattle.header.specs.Fields.{fieldOf, Header, ended, fault, lineStart, headerAt, headerOf}
+use Rattle.header.specs.Split.{recordOf, recordsOf, answerIn, roomOf, splitAnswer, tableAfter, splitTable}
+use Rattle.header.proofs.RecordLaws.{records-stored}
+use Rattle.header.proofs.StepLaws.{Gave}
+
+-- what is left at a position, after `count` fields
+pub record Left (message : List ℕ) (room : ℕ) (lent table : List ℕ) (at count : ℕ) : Type 0 where
+  pub within : at ≤ length message
+  pub few : count ≤ at
+  pub same-length : length table ≡ length lent
+  pub answer : answerIn room 0 (headerOf message) ≡ answerIn room count (headerAt message at lineStart)
+  pub stored : sets lent 0 (recordsOf (headerOf message)) ≡ sets table (count * fieldRecordSize) (recordsOf (headerAt message at lineStart))
+
+-- the whole header is answered and stored
+abbrev pub Done : List ℕ → ℕ → List ℕ → Answer → List ℕ → Type 0
+Done message room lent r table = (r ≡ answerIn room 0 (headerOf message)) × (table ≡ sets lent 0 (recordsOf (headerOf message)))
+
+pub at-start : (message : List ℕ) (room : ℕ) (lent : List ℕ) → Left message room lent lent 0 0
+at-start message room lent = record { within = omega arith; few = omega arith; same-length = refl; answer = refl; stored = refl }
+
+module _ {message : List ℕ} {room : ℕ} {lent table : List ℕ} {at count : ℕ} (left : Left message room lent table at count) where
+  -- a field is stored
+  pub after-field : {a b c d : ℕ} {next : List ℕ} → Gave message at a b c d (headerAt message at lineStart)
+      → next ≡ sets table (count * fieldRecordSize) (recordOf (fieldOf a b c d)) → Left message room lent next (d + 2) (count + 1)
+  unfolding answerIn
+  after-field {a} {b} {c} {d} gave e =
+      record {
+        within = gave .within;
+        few = omega arith;
+        same-length = ap length e ∙ simp length-sets (left .same-length);
+        answer = left .answer ∙ ap (λ (h : Header). answerIn room count h) (gave .is);
+        stored =
+            left .stored
+            ∙ rw (gave .is) (records-stored table count (fieldOf a b c d) (headerAt message (d + 2) lineStart) ∙ rw (sym e));
+      }
+
+  -- nothing more is stored at the header's end and at a fault
+  pub at-no-room : headerAt message at lineStart ≡ ended → room < count → Done message room lent (NoRoom count) table
+  unfolding answerIn recordsOf
+  at-no-room e h = (sym (left .answer ∙ rw (e, lt-ltb room count h)), sym (left .stored ∙ rw e))
+
+  pub at-accepted : headerAt message at lineStart ≡ ended → count ≤ room → Done message room lent (Accepted count) table
+  unfolding answerIn recordsOf
+  at-accepted e h = (sym (left .answer ∙ rw (e, le-ltb room count h)), sym (left .stored ∙ rw e))
+
+  pub at-fault : {n p : ℕ} → headerAt message at lineStart ≡ fault n p → Done message room lent (Refused n p) table
+  unfolding answerIn recordsOf
+  at-fault e = (sym (left .answer ∙ rw e), sym (left .stored ∙ rw e))
+
+-- a part of no bytes in front of the rest changes nothing
+pub no-front : (front rest : List ℕ) → length front ≡ 0 → front ++ rest ≡ rest
+no-front [] rest e = refl
+no-front (b ∷ front) rest e = absurd (omega arith)
+
+-- the answer of splitting, and the table afterwards
+abbrev pub Split : List ℕ → List ℕ → Answer → List ℕ → Type 0
+Split message table r after = (r ≡ splitAnswer message table) × (after ≡ splitTable message table)
+
+module _ (message table : List ℕ) where
+  settled : (r : Answer) → splitAnswer message table ≡ r → Split message table r (tableAfter r message table)
+  settled r e = (sym e, rw e)
+
+  pub too-long : messageLimit < length message → Split message table (Refused messageTooLong messageLimit) table
+  unfolding splitAnswer
+  too-long h = settled (Refused messageTooLong messageLimit) (rw (lt-ltb _ _ h))
+
+  module _ (h : length message ≤ messageLimit) where
+    within-limit : {r : Answer} → r ≡ answerIn (roomOf table) 0 (headerOf message) → splitAnswer message table ≡ r
+    unfolding splitAnswer
+    within-limit e = rw (le-ltb _ _ h) (sym e)
+
+    pub refused : {n p : ℕ} {after : List ℕ} → after ≡ table → Refused n p ≡ answerIn (roomOf table) 0 (headerOf message)
+        → Split message table (Refused n p) after
+    refused {n} {p} same e = let (r, t) = settled (Refused n p) (within-limit e) in (r, same ∙ t)
+
+    pub no-room : {n : ℕ} {after : List ℕ} → after ≡ table → NoRoom n ≡ answerIn (roomOf table) 0 (headerOf message)
+        → Split message table (NoRoom n) after
+    no-room {n} same e = let (r, t) = settled (NoRoom n) (within-limit e) in (r, same ∙ t)
+
+    -- accepted by the first run, and stored by the second
+    pub accepted : {n : ℕ} {before after : List ℕ} {r : Answer} → before ≡ table
+        → Accepted n ≡ answerIn (roomOf table) 0 (headerOf message) → Done message (roomOf table) before r after → Split message table r after
+    accepted {n} same e done =
+        let (a, t) = settled (Accepted n) (within-limit e) in
+        (done .0 ∙ sym e ∙ a, done .1 ∙ rw same t)

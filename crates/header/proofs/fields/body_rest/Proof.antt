@@ -1,0 +1,83 @@
+-- `header::fields::body_rest` meets its contract: the bytes passed are the body's, so it goes on from here. Assumes nothing.
+use Prim.Native.Nat.{_≤_, _-_}
+use native.Mathlib.Omega.{arith}
+use mathlib.Core.Path.{_≡_, refl, sym, ap, _∙_}
+use lib.ListN.{length}
+use Rattle.header.specs.Fields.{inBody, headerAt}
+use Rattle.header.specs.Steps.{firstOf}
+use Rattle.header.proofs.HeaderLaws.{ends, body-fault, body-ends, body-goes}
+use Rattle.header.proofs.fields.body_rest.Statement.{statement}
+use Rattle.header.proofs.fields.body_rest.Tie as tie
+
+abbrev Inv-loop : tie.InvT-loop
+Inv-loop message name end start at₀ at =
+    (at ≤ length message) × (headerAt message start (inBody name end start) ≡ headerAt message at (inBody name end start))
+
+abbrev μ-loop : tie.MeasureT-loop
+μ-loop message name end start at₀ at = length message - at
+
+loop-holds : tie.Need-loop-holds Inv-loop μ-loop
+loop-holds c = (omega arith, refl)
+
+shared-slice-read-if1 : tie.Need-shared-slice-read-if1 Inv-loop μ-loop
+shared-slice-read-if1 c = omega arith
+
+returns : tie.Need-returns Inv-loop μ-loop
+unfolding firstOf
+returns c =
+    let l = c .before .before .before .loop in
+    let a = c .before .before .before .before .before .args in
+    sym (ap firstOf (l .inv .1 ∙ body-fault (a .message .now) (l .at) (omega arith) (a .name-start) (a .name-end) (a .body-start) (omega arith)))
+
+ends-body-requires : tie.Need-ends-body-requires Inv-loop μ-loop
+ends-body-requires c κs = omega arith
+
+returns-2 : tie.Need-returns-2 Inv-loop μ-loop
+unfolding firstOf
+returns-2 c =
+    let l = c .before .before .before .before .before .loop in
+    let a = c .before .before .before .before .before .before .before .args in
+    sym
+    (ap firstOf
+    (l .inv .1
+    ∙ body-ends (a .message .now) (l .at) (omega arith) (a .name-start) (a .name-end) (a .body-start) (omega arith)
+    (sym (c .before .ends-body .ensures) ∙ c .if2 .taken)))
+
+add-at : tie.Need-add-at Inv-loop μ-loop
+add-at c = omega arith
+
+loop-less : tie.Need-loop-less Inv-loop μ-loop
+loop-less c = omega arith
+
+loop-again : tie.Need-loop-again Inv-loop μ-loop
+loop-again c =
+    let l = c .before .before .before .before .before .loop in
+    let a = c .before .before .before .before .before .before .before .args in (
+      omega arith,
+      l .inv .1
+          ∙ body-goes (a .message .now) (l .at) (omega arith) (a .name-start) (a .name-end) (a .body-start) (omega arith)
+          (sym (c .before .ends-body .ensures) ∙ c .if2 .left),
+    )
+
+returns-3 : tie.Need-returns-3 Inv-loop μ-loop
+unfolding firstOf
+returns-3 c =
+    let l = c .before .loop in
+    let a = c .before .before .before .args in
+    sym (ap firstOf (l .inv .1 ∙ ends (a .message .now) (l .at) (inBody (a .name-start) (a .name-end) (a .body-start)) (omega arith)))
+
+pub body-rest-spec : {M : Type 1} → statement M
+body-rest-spec =
+    tie.close
+    (tie.spec
+    Inv-loop
+    μ-loop
+    loop-holds
+    shared-slice-read-if1
+    returns
+    ends-body-requires
+    returns-2
+    add-at
+    loop-less
+    loop-again
+    returns-3)

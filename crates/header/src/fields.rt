@@ -1,0 +1,231 @@
+// Splitting a message into its header fields.
+ghost use mathlib.Core.Path.{_≡_};
+ghost use Prim.Native.Nat.{_+_, _*_, _≤_, _<_};
+ghost use lib.ListN.{length, drop};
+ghost use lib.Seq.{sets};
+ghost use Rattle.octets.specs.Classes.{isWhite};
+ghost use Rattle.octets.specs.Numbers.{messageLimit, fieldRecordSize};
+ghost use Rattle.header.specs.Fields.{nameHolds, nameStartsWith, crlf, endsBody, lineStart, inName, inBody, fieldOf, headerAt, headerOf};
+ghost use Rattle.header.specs.Split.{recordOf, recordsOf, answerIn, splitAnswer, splitTable};
+ghost use Rattle.header.specs.Steps.{firstOf};
+use octets::answers::Answer;
+use octets::numbers::BYTE_ABOVE_127;
+use octets::numbers::FIELD_RECORD_SIZE;
+use octets::numbers::HEADER_NOT_ENDED;
+use octets::numbers::MESSAGE_LIMIT;
+use octets::numbers::MESSAGE_TOO_LONG;
+use octets::numbers::NAME_FAULT;
+use octets::stored::store_two;
+
+// What stands at a line start.
+enum Next {
+    // A field: name start, name end, body start, body end.
+    Field(usize, usize, usize, usize),
+    // The header's end.
+    End,
+    // A fault: its number and position.
+    Fault(u8, usize),
+}
+
+const CR: u8 = 13;
+
+const LF: u8 = 10;
+
+// The bytes of a position in a record.
+const POSITION_WIDTH: usize = 2;
+
+// Where the second, third and fourth position of a record stand.
+const SECOND: usize = POSITION_WIDTH;
+
+const THIRD: usize = 2 * POSITION_WIDTH;
+
+const FOURTH: usize = 3 * POSITION_WIDTH;
+
+// Whether a byte is SPACE or HTAB.
+fn is_white(b: u8) -> bool
+    ensures { λ r. ⌜ r ≡ isWhite b ⌝ }
+{
+    if b == b' ' {
+        return true;
+    }
+    b == b'\t'
+}
+
+// Whether a name may hold a byte.
+fn name_holds(b: u8) -> bool
+    ensures { λ r. ⌜ r ≡ nameHolds b ⌝ }
+{
+    if is_white(b) {
+        return true;
+    }
+    if b < 33 {
+        return false;
+    }
+    if 126 < b {
+        return false;
+    }
+    b != b':'
+}
+
+// Whether a name may start with a byte.
+fn name_starts_with(b: u8) -> bool
+    ensures { λ r. ⌜ r ≡ nameStartsWith b ⌝ }
+{
+    if is_white(b) {
+        return false;
+    }
+    name_holds(b)
+}
+
+// Whether CR and LF stand at a position.
+fn is_crlf(message: &[u8], at: usize) -> bool
+    requires { ⌜ at < length (now message) ⌝ }
+    ensures { λ r. ⌜ r ≡ crlf (drop at (now (message .entry))) ⌝ }
+{
+    if message[at] != CR {
+        return false;
+    }
+    if message.len() <= at + 1 {
+        return false;
+    }
+    message[at + 1] == LF
+}
+
+// Whether CR and LF stand there that SPACE or HTAB does not follow.
+fn ends_body(message: &[u8], at: usize) -> bool
+    requires { ⌜ at < length (now message) ⌝ }
+    ensures { λ r. ⌜ r ≡ endsBody (drop at (now (message .entry))) ⌝ }
+{
+    if is_crlf(message, at) {
+        if message.len() - at <= 2 {
+            return true;
+        }
+        return !is_white(message[at + 2]);
+    }
+    false
+}
+
+// The field whose body starts at a position.
+fn body_rest(message: &[u8], name_start: usize, name_end: usize, body_start: usize) -> Next
+    requires { ⌜ «body_start» ≤ length (now message) ⌝ }
+    ensures { λ r. ⌜ r ≡ firstOf (headerAt (now (message .entry)) «body_start» (inBody «name_start» «name_end» «body_start»)) ⌝ }
+{
+    let mut at = body_start;
+    while at < message.len() {
+        if 127 < message[at] {
+            return Next::Fault(BYTE_ABOVE_127, at);
+        }
+        if ends_body(message, at) {
+            return Next::Field(name_start, name_end, body_start, at);
+        }
+        at += 1;
+    }
+    Next::Fault(HEADER_NOT_ENDED, at)
+}
+
+// The field whose name starts at a position.
+fn name_rest(message: &[u8], start: usize) -> Next
+    requires { ⌜ start < length (now message) ⌝ }
+    ensures { λ r. ⌜ r ≡ firstOf (headerAt (now (message .entry)) (start + 1) (inName start (start + 1))) ⌝ }
+{
+    let mut at = start + 1;
+    let mut end = at;
+    while at < message.len() {
+        let b = message[at];
+        if b == b':' {
+            return body_rest(message, start, end, at + 1);
+        }
+        if !name_holds(b) {
+            return Next::Fault(NAME_FAULT, at);
+        }
+        at += 1;
+        if !is_white(b) {
+            end = at;
+        }
+    }
+    Next::Fault(HEADER_NOT_ENDED, at)
+}
+
+// What stands at a line start.
+fn next_field(message: &[u8], at: usize) -> Next
+    requires { ⌜ at ≤ length (now message) ⌝ }
+    ensures { λ r. ⌜ r ≡ firstOf (headerAt (now (message .entry)) at lineStart) ⌝ }
+{
+    if message.len() <= at {
+        return Next::End;
+    }
+    if is_crlf(message, at) {
+        return Next::End;
+    }
+    if name_starts_with(message[at]) {
+        return name_rest(message, at);
+    }
+    Next::Fault(NAME_FAULT, at)
+}
+
+// Store a field's record from a place on; past the end nothing is stored.
+fn store_record(
+    table: &mut [u8],
+    place: usize,
+    name_start: usize,
+    name_end: usize,
+    body_start: usize,
+    body_end: usize,
+)
+    requires { ⌜ place ≤ fieldRecordSize * messageLimit ⌝ }
+    ensures { λ _. ⌜ now (table .exit) ≡ sets (now (table .entry)) place (recordOf (fieldOf «name_start» «name_end» «body_start» «body_end»)) ⌝ }
+{
+    store_two(table, place, name_start);
+    store_two(table, place + SECOND, name_end);
+    store_two(table, place + THIRD, body_start);
+    store_two(table, place + FOURTH, body_end);
+}
+
+// Store the records of the fields up to the header's end or its fault, and answer as for a table in which `room` records fit.
+fn store_fields(message: &[u8], room: usize, table: &mut [u8]) -> Answer
+    requires { ⌜ length (now message) ≤ messageLimit ⌝ }
+    ensures { λ r. ⌜ (r ≡ answerIn room 0 (headerOf (now (message .entry)))) × (now (table .exit) ≡ sets (now (table .entry)) 0 (recordsOf (headerOf (now (message .entry))))) ⌝ }
+{
+    let mut at: usize = 0;
+    let mut count: usize = 0;
+    loop {
+        match next_field(message, at) {
+            Next::Field(name_start, name_end, body_start, body_end) => {
+                store_record(
+                    table,
+                    count * FIELD_RECORD_SIZE,
+                    name_start,
+                    name_end,
+                    body_start,
+                    body_end,
+                );
+                count += 1;
+                at = body_end + 2;
+            }
+            Next::End => {
+                if room < count {
+                    return Answer::NoRoom(count);
+                }
+                return Answer::Accepted(count);
+            }
+            Next::Fault(number, position) => {
+                return Answer::Refused(number, position);
+            }
+        }
+    }
+}
+
+// Split a message into its fields, and store their records in the table.
+pub fn split(message: &[u8], table: &mut [u8]) -> Answer
+    ensures { λ r. ⌜ (r ≡ splitAnswer (now (message .entry)) (now (table .entry))) × (now (table .exit) ≡ splitTable (now (message .entry)) (now (table .entry))) ⌝ }
+{
+    if MESSAGE_LIMIT < message.len() {
+        return Answer::Refused(MESSAGE_TOO_LONG, MESSAGE_LIMIT);
+    }
+    let room = table.len() / FIELD_RECORD_SIZE;
+    match store_fields(message, room, &mut table[..0]) {
+        Answer::Accepted(_) => store_fields(message, room, table),
+        Answer::Refused(number, position) => Answer::Refused(number, position),
+        Answer::NoRoom(needed) => Answer::NoRoom(needed),
+    }
+}

@@ -1,0 +1,3 @@
+// The header of a message: its fields, and the known field names.
+pub mod fields;
+pub mod names;

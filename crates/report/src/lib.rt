@@ -1,0 +1,56 @@
+// What the programs that run vectors print.
+use octets::answers::Answer;
+use octets::answers::count;
+use octets::answers::number;
+use octets::answers::position;
+use octets::stored::load_byte;
+use octets::stored::load_two;
+
+// A text on standard output.
+pub fn text(part: &[u8]) {
+    io::write_all(1, part);
+}
+
+// A number with a space before it.
+pub fn decimal(n: usize) {
+    text(b" ");
+    io::print_decimal(1, n as u64);
+}
+
+// The number, position and count of an answer.
+pub fn answer(given: Answer) {
+    decimal(number(given) as usize);
+    decimal(position(given));
+    decimal(count(given));
+}
+
+// A label, and the number, position and count of an answer.
+pub fn line(label: &[u8], given: Answer) {
+    text(label);
+    text(b":");
+    answer(given);
+    text(b"\n");
+}
+
+// So many numbers of two bytes from a place of a table on.
+pub fn numbers(table: &[u8], at: usize, many: usize) {
+    let mut i: usize = 0;
+    let mut p = at;
+    while i < many {
+        if table.len() <= p {
+            return;
+        }
+        decimal(load_two(table, p));
+        p += 2;
+        i += 1;
+    }
+}
+
+// Each byte of a table.
+pub fn bytes(table: &[u8]) {
+    let mut i: usize = 0;
+    while i < table.len() {
+        decimal(load_byte(table, i) as usize);
+        i += 1;
+    }
+}
