@@ -10,3 +10,4 @@ pub mod EnclosedLaws
 pub mod ListLaws
 pub mod NamedLaws
 pub mod WholeLaws
+pub mod Judgements

@@ -18,12 +18,12 @@ use Rattle.grammar.specs.Records.{count, records, tableBytes}
 use Rattle.grammar.specs.Rfc733.{Derivation}
 use Rattle.grammar.proofs.Condition3.{answer}
 
--- an answer, and the table afterwards
+-- an answer, and the lent bytes afterwards
 pub record Outcome : Type 0 where
   pub answer : Answer
   pub table : List ℕ
 
--- a refusal leaves the table as it was
+-- a refusal leaves the lent bytes as they were
 abbrev pub refusal : List ℕ → ℕ → ℕ → Outcome
 refusal table number position = record { answer = Refused number position; table = table }
 
@@ -37,10 +37,14 @@ derived table k =
     pick (ltb (room table) (count k)) (record { answer = NoRoom (count k); table = table })
     (record { answer = Accepted (count k); table = sets table 0 (tableBytes (records k)) })
 
--- a verdict on a body with this end
+-- a verdict on a body with this end: what is written of a derivation, or the refusal
+abbrev pub decidedBy : (List ℕ → Derivation → Outcome) → ℕ → List ℕ → Verdict Class Derivation → Outcome
+decidedBy written end lent (accepted k) = written lent k
+decidedBy written end lent (refused why rest) = refusal lent (number why) (positionOf end rest)
+
+-- .. where its records are written
 abbrev pub decided : ℕ → List ℕ → Verdict Class Derivation → Outcome
-decided end table (accepted k) = derived table k
-decided end table (refused why rest) = refusal table (number why) (positionOf end rest)
+decided end table verdict = decidedBy derived end table verdict
 
 -- the first fault of scanning, else what is decided
 unfoldable pub unlessFault : List ℕ → Scanned → Outcome → Outcome
@@ -52,8 +56,12 @@ unlessFault table (faultAt number position) otherwise = refusal table number pos
 abbrev pub bodySymbols : List ℕ → ℕ → ℕ → List (Symbol Class)
 bodySymbols message start end = symbolsOf (scan (take end message) start)
 
+-- the outcome for any message, positions and lent bytes, where this is written of a derivation
+abbrev pub outcomeBy : (List ℕ → Derivation → Outcome) → List ℕ → ℕ → ℕ → List ℕ → Outcome
+outcomeBy written message start end lent =
+    bodyChecked (refusal lent) message start end
+    (unlessFault lent (scan (take end message) start) (decidedBy written end lent (answer levelLimit (bodySymbols message start end))))
+
 -- the outcome for any message, positions and table
 abbrev pub outcome : List ℕ → ℕ → ℕ → List ℕ → Outcome
-outcome message start end table =
-    bodyChecked (refusal table) message start end
-    (unlessFault table (scan (take end message) start) (decided end table (answer levelLimit (bodySymbols message start end))))
+outcome message start end table = outcomeBy derived message start end table

@@ -537,11 +537,11 @@ fn read_typed(
     if ends_address(ahead) {
         return refuse(text, ahead);
     }
-    let below = frame.number + 1;
+    let child = frame.number + 1;
     let inner = Frame {
         levels: levels - 1,
-        parent: below,
-        number: below,
+        parent: child,
+        number: child,
     };
     match read_address(classes, text, table, class, first, last, inner) {
         Reading::Refused(number, place) => Reading::Refused(number, place),

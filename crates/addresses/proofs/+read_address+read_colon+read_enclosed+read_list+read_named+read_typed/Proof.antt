@@ -1046,7 +1046,7 @@ read-typed-returns-3 : (t : ℕ) → read-typed-lts.Need-returns-3 (
 ) (read-typed-at t) read-typed.Post
 read-typed-returns-3 t c = rw (c .refuse2 .ensures) (typed-wanted _ _ (c .before .before .before .before .before .before .before .before .before .before .pre .1) (c .before .before .before .before .before .before .before .if1 .left) _ (rw (c .before .before .before .before .ahead .given .1) at (next-is _ _ _ (c .before .before .before .before .before .before .next-by .result) (c .before .before .before .before .before .before .before .before .before .before .pre .1 .follows .faultless) (c .before .before .before .before .before .before .next-by .ensures))) 0 [] [] (λ class i j e. ap endsAddress (class-found e) ∙ sym (c .before .before .ends-address .ensures) ∙ c .before .if2 .taken))
 
-read-typed-add-below : (t : ℕ) → read-typed-lts.Need-add-below (
+read-typed-add-child : (t : ℕ) → read-typed-lts.Need-add-child (
   next-by-reads.Asked,
   next-by-reads.Learnt,
   refuse-reads.Asked,
@@ -1060,7 +1060,7 @@ read-typed-add-below : (t : ℕ) → read-typed-lts.Need-add-below (
   put-record-reads.Asked,
   put-record-reads.Learnt,
 ) (read-typed-at t) read-typed.Post
-read-typed-add-below t c = let r = c .before .before .before .before .before .before .before .before .before .before .pre .1 in omega (arith, r .first .ready .number-low, r .first .ready .short, r .first .stands .starts, r .first .stands .within)
+read-typed-add-child t c = let r = c .before .before .before .before .before .before .before .before .before .before .pre .1 in omega (arith, r .first .ready .number-low, r .first .ready .short, r .first .stands .starts, r .first .stands .within)
 
 read-typed-sub-t25 : (t : ℕ) → read-typed-lts.Need-sub-t25 (
   next-by-reads.Asked,
@@ -1436,7 +1436,7 @@ pub +read-address+read-colon+read-enclosed+read-list+read-named+read-typed-spec 
     (read-typed-ends-address-requires t)
     (read-typed-refuse-requires-2 t)
     (read-typed-returns-3 t)
-    (read-typed-add-below t)
+    (read-typed-add-child t)
     (read-typed-sub-t25 t)
     (read-typed-read-address-requires t)
     (read-typed-enum-known-number t)

@@ -1,0 +1,134 @@
+-- The walk, symbol by symbol, as the code goes. Assumes nothing.
+use mathlib.Core.Path.{_≡_, refl, sym, ap, _∙_}
+use mathlib.Core.Bool.{Bool, false}
+use mathlib.Core.List.{List, [], _∷_}
+use Prim.Native.Nat.{ℕ, suc, _+_, _*_, _-_, _≤_, _<_}
+use native.Mathlib.Omega.{arith}
+use lib.ListN.{length}
+use lib.Seq.{sets}
+use types.Run.{OneOf, miss}
+use denote.Enum.Declared.{tagOf}
+use Rattle.scanner.proofs.Class.{the-type as class-type}
+use Rattle.scanner.proofs.Next.{the-type as next-type}
+use Rattle.grammar.specs.Rfc733.{sameClass}
+use Rattle.scanner.specs.Scanning.{Scanned, ended, next, faultAt, symbolsOf, scanBy}
+use Rattle.scanner.specs.Answers.{nextOf}
+use Rattle.scanner.specs.declared.Class.{Class}
+use Rattle.scanner.specs.declared.Class.the-variants.{Atom, Quoted, At, LessThan, GreaterThan, Comma, Semicolon, Colon, Stray}
+use Rattle.scanner.specs.declared.Next.{Next}
+use Rattle.scanner.specs.declared.Next.the-variants.{Found, Ended, Fault}
+use Rattle.scanner.proofs.Meanings.{meaningAt}
+use Rattle.scanner.proofs.Unfolding.{SymbolAt, Unfolded, no-symbol, a-symbol, a-fault, unfolded, found}
+use Rattle.plain.specs.Walking.{symbolText, after, colonNext, walkText, textFrom, writtenText}
+use Rattle.plain.specs.Writing.{textLimit, Wrote, isColon}
+use Rattle.plain.specs.declared.places.Place.{Place}
+use Rattle.plain.specs.declared.places.Place.the-variants.{Start}
+
+-- ---- the next symbol
+
+colon-of : (s : Scanned) → isColon (nextOf s) ≡ colonNext (symbolsOf s)
+unfolding symbolsOf
+colon-of ended = refl
+colon-of (next x rest) = refl
+colon-of (faultAt number p) = refl
+
+-- a class that is not ":"
+pub not-colon : (class : Class) → OneOf (0 ∷ 1 ∷ 2 ∷ 3 ∷ 4 ∷ 5 ∷ 6 ∷ 8 ∷ []) (tagOf class-type class) → false ≡ sameClass Colon class
+not-colon Atom o = refl
+not-colon Quoted o = refl
+not-colon At o = refl
+not-colon LessThan o = refl
+not-colon GreaterThan o = refl
+not-colon Comma o = refl
+not-colon Semicolon o = refl
+not-colon Colon o = absurd (miss (0 ∷ 1 ∷ 2 ∷ 3 ∷ 4 ∷ 5 ∷ 6 ∷ 8 ∷ []) 7 tt o)
+not-colon Stray o = refl
+
+-- no symbol comes
+abbrev pub NoneComes : Next → Type 0
+NoneComes (Found class start end) = ⊥
+NoneComes Ended = Unit {0}
+NoneComes (Fault number p) = Unit {0}
+
+pub none-comes : (coming : Next) → OneOf (1 ∷ 2 ∷ []) (tagOf next-type coming) → NoneComes coming
+none-comes (Found class start end) o = absurd (miss (1 ∷ 2 ∷ []) 0 tt o)
+none-comes Ended o = tt
+none-comes (Fault number p) o = tt
+
+pub not-found : (coming : Next) → OneOf (1 ∷ 2 ∷ []) (tagOf next-type coming) → false ≡ isColon coming
+not-found (Found class start end) o = absurd (miss (1 ∷ 2 ∷ []) 0 tt o)
+not-found Ended o = refl
+not-found (Fault number p) o = refl
+
+nothing-of : (place : Place) (s : Scanned) → NoneComes (nextOf s) → walkText place (symbolsOf s) ≡ []
+unfolding symbolsOf
+nothing-of place ended h = refl
+nothing-of place (next x rest) h = absurd h
+nothing-of place (faultAt number p) h = refl
+
+text-one : {classes text : List ℕ} {at : ℕ} {class : Class} {start end : ℕ} (place : Place) → SymbolAt classes text at class start end
+    → textFrom classes text place at
+    ≡ symbolText class (meaningAt classes text class start end) place (colonNext (symbolsOf (scanBy classes text end))) (textFrom classes text (after class place (colonNext (symbolsOf (scanBy classes text end)))) end)
+unfolding symbolsOf
+text-one place x = rw (x .same)
+
+-- what is left of the text, by the next symbol
+abbrev pub behind : ℕ → Next → ℕ
+behind length′ (Found class start end) = suc length′ - start
+behind length′ Ended = 0
+behind length′ (Fault number p) = 0
+
+less-by : {classes text : List ℕ} {at : ℕ} {class : Class} {first end : ℕ} → SymbolAt classes text at class first end → Unfolded classes text end
+    → behind (length text) (nextOf (scanBy classes text end)) < suc (length text) - first
+less-by x (no-symbol e) = rw e (omega (arith, x .starts, x .within))
+less-by x (a-symbol y) = rw (y .same) (omega (arith, x .starts, x .within, y .from, y .starts, y .within))
+less-by x (a-fault e) = rw e (omega (arith, x .starts, x .within))
+
+-- it falls
+pub behind-less : {classes text : List ℕ} {at : ℕ} {class : Class} {first end : ℕ} {coming later : Next} → SymbolAt classes text at class first end → coming ≡ Found class first end
+    → later ≡ nextOf (scanBy classes text end) → behind (length text) later < behind (length text) coming
+behind-less {classes} {text} {end = end} x e k = rw (e, k) (less-by x (unfolded classes text end))
+
+-- ---- the loop
+
+-- the walk has come to a position from which `coming` is next: n bytes are written, and the text from there on is left
+pub record Coming (classes text : List ℕ) (start : ℕ) (out₀ out : List ℕ) (n : ℕ) (place : Place) (coming : Next) : Type 0 where
+  pub at : ℕ
+  pub is : coming ≡ nextOf (scanBy classes text at)
+  pub counted : n ≤ 4294967296 * at
+  pub same-length : length out ≡ length out₀
+  pub same : sets out₀ 0 (writtenText classes text start) ≡ sets out n (textFrom classes text place at)
+  pub count : length (writtenText classes text start) ≡ n + length (textFrom classes text place at)
+
+pub coming-first : (classes text : List ℕ) (start : ℕ) (out : List ℕ) {coming : Next} → coming ≡ nextOf (scanBy classes text start) → Coming classes text start out out 0 Start coming
+coming-first classes text start out e = record { at = start; is = e; counted = omega arith; same-length = refl; same = refl; count = omega arith }
+
+module _ {classes text : List ℕ} {start : ℕ} {out₀ out : List ℕ} {n : ℕ} {place : Place} {coming : Next} (l : Coming classes text start out₀ out n place coming) where
+  -- the symbol that comes
+  pub comes : {class : Class} {first end : ℕ} → coming ≡ Found class first end → SymbolAt classes text (l .at) class first end
+  comes e = found classes text (l .at) (sym e ∙ l .is)
+
+  -- it is written
+  pub coming-next : {class : Class} {first end : ℕ} {later : Next} {colon : Bool} {out′ : List ℕ} {n′ : ℕ} {place′ : Place} → coming ≡ Found class first end → length text ≤ textLimit
+      → later ≡ nextOf (scanBy classes text end) → colon ≡ isColon later → length out′ ≡ length out
+      → Wrote (symbolText class (meaningAt classes text class first end) place colon) out n out′ n′ → n′ ≤ n + 2 * length text + 3 → place′ ≡ after class place colon
+      → Coming classes text start out₀ out′ n′ place′ later
+  coming-next {class} {first} {end} {later} {colon} {out′} {n′} {place′} e h k c s w b p =
+      let x = comes e in
+      let q : colon ≡ colonNext (symbolsOf (scanBy classes text end)) = c ∙ ap isColon k ∙ colon-of (scanBy classes text end) in
+      let t : textFrom classes text place (l .at) ≡ symbolText class (meaningAt classes text class first end) place colon (textFrom classes text place′ end) =
+      rw (p, q) (text-one place x) in
+      record {
+        at = end;
+        is = k;
+        counted = omega (arith, l .counted, x .from, x .starts);
+        same-length = s ∙ l .same-length;
+        same = l .same ∙ ap (sets out n) t ∙ w .same (textFrom classes text place′ end);
+        count = l .count ∙ ap (λ u. n + length u) t ∙ w .count (textFrom classes text place′ end);
+      }
+
+  -- the walk ends
+  pub coming-none : NoneComes coming → (n ≡ length (writtenText classes text start)) × (out ≡ sets out₀ 0 (writtenText classes text start))
+  coming-none h =
+      let e : textFrom classes text place (l .at) ≡ [] = nothing-of place (scanBy classes text (l .at)) (rw (l .is) at h) in
+      (omega (arith, l .count, ap length e), sym (l .same ∙ ap (sets out n) e))

@@ -1,0 +1,182 @@
+-- Bodies and their plain texts, worked out by hand from document 01, in one table with one statement over its rows. Assumes nothing.
+use Prim.Native.Nat.{ℕ, _≤_, _<_}
+use native.Mathlib.Omega.{arith}
+use mathlib.Core.Path.{_≡_, refl, sym, ap, _∙_}
+use mathlib.Core.Bool.{Bool, true, false}
+use mathlib.Core.List.{List, [], _∷_, _++_, map}
+use mathlib.Core.Option.{Option, none, some}
+use lib.Dec.{T, leb, leb→le}
+use lib.ListN.{length, take, getD}
+use lib.Seq.{take-length}
+use Rattle.octets.specs.Classes.{classOf, classTable}
+use Rattle.octets.specs.Choice.{both}
+use Rattle.octets.specs.Letters.{lower, same, sameBytes}
+use Rattle.octets.specs.Numbers.{messageLimit, levelLimit}
+use Rattle.octets.specs.Text.{bytes}
+use Rattle.octets.specs.declared.answers.Answer.{Answer}
+use Rattle.octets.specs.declared.answers.Answer.the-variants.{Accepted, Refused, NoRoom}
+use Rattle.octets.proofs.Tables.{every, at, both-left, both-right}
+use Rattle.octets.proofs.LetterLaws.{same-true}
+use Rattle.scanner.specs.Kinds.{kindOf}
+use Rattle.scanner.specs.Characters.{charactersFrom}
+use Rattle.scanner.specs.Scanning.{Scanned, ended, next, faultAt, scanFrom, scan, symbolsOf}
+use Rattle.scanner.proofs.BodyChecks.{in-order}
+use Rattle.scanner.specs.Answers.{faultOf}
+use Rattle.grammar.specs.Language.{Verdict, accepted, refused}
+use Rattle.grammar.specs.Grammar.{levels}
+use Rattle.grammar.specs.Rfc733.{Derivation, DerivedList}
+use Rattle.grammar.proofs.Trees.{Class}
+use Rattle.grammar.proofs.Condition3.{answer, answer-derives}
+use Rattle.plain.specs.PlainText.{plainText}
+use Rattle.plain.specs.RoundTrip.{AcceptedBody}
+
+-- ---- the plain text of a body, if it is accepted
+
+abbrev pub ofVerdict : Verdict Class Derivation → Option (List ℕ)
+ofVerdict (accepted k) = some (plainText k)
+ofVerdict (refused why rest) = none
+
+abbrev pub unlessFault : Answer → Option (List ℕ) → Option (List ℕ)
+unlessFault (Accepted count) text = text
+unlessFault (Refused number position) text = none
+unlessFault (NoRoom count) text = none
+
+abbrev pub plainOf : List ℕ → Option (List ℕ)
+plainOf body = unlessFault (faultOf (scan body 0)) (ofVerdict (answer levelLimit (symbolsOf (scan body 0))))
+
+-- ---- the table
+
+-- a body and its plain text
+pub record Example : Type 0 where
+  pub body : List ℕ
+  pub plain : List ℕ
+
+abbrev pub row : List ℕ → List ℕ → Example
+row body plain = record { body = body; plain = plain }
+
+-- written as it is
+abbrev pub kept : List ℕ → Example
+kept body = row body body
+
+-- RFC 733's own
+abbrev pub own : List Example
+own =
+    row (bytes "\":sysmail\"@ Some-Host, Muhammed(I am the greatest)Ali at(the)WBA") (bytes "\":sysmail\" at Some-Host, Muhammed Ali at WBA")
+    ∷ row
+    (bytes "Gourmets: Pompous Person <WhoZiWhatZit at Cordon-Bleu>,\r\n Cooks: Childs at WGBH, Galloping Gourmet at\r\n ANT (Australian National Television);,\r\n Wine Lovers: Cheapie at Discount-Liquors,\r\n Port at Portugal;;,\r\n Jones at SEA")
+    (bytes "Gourmets: Pompous Person <WhoZiWhatZit at Cordon-Bleu>, Cooks: Childs at WGBH, Galloping Gourmet at ANT;, Wine Lovers: Cheapie at Discount-Liquors, Port at Portugal;;, Jones at SEA")
+    ∷ row (bytes "George Jones<Group at Host>") (bytes "George Jones <Group at Host>")
+    ∷ row
+    (bytes " Important folk:\r\n Tom Softwood <Balsa at Another-Host>,\r\n Sam Irving at Other-Host;,\r\n Standard Distribution::Include:\r\n </main/davis/people/standard at Other-Host,\r\n \"<Jones>standard.dist.3\" at Tops-20-Host>,\r\n (The following Included Postal list is part\r\n of Standard Distribution.)\r\n :Postal::Include: Non-net-addrs@Other-host;,\r\n :Postal: \"Sam Irving, P.O. Box 001, Las Vegas,\r\n Nevada\" (So that he can stay\r\n apprised of the situation)")
+    (bytes "Important folk: Tom Softwood <Balsa at Another-Host>, Sam Irving at Other-Host;, Standard Distribution: :Include: </main/davis/people/standard at Other-Host, \"<Jones>standard.dist.3\" at Tops-20-Host>, :Postal: :Include: Non-net-addrs at Other-host;, :Postal: \"Sam Irving, P.O. Box 001, Las Vegas, Nevada\"")
+    ∷ []
+
+-- lists, mailboxes and angle lists
+abbrev pub mailboxes : List Example
+mailboxes =
+    kept []
+    ∷ row (bytes ",, ,") []
+    ∷ row (bytes "a@b") (bytes "a at b")
+    ∷ row (bytes "Al (x (y)) . Smith\t@X AT  y,,\"z\"") (bytes "Al . Smith at X at y, \"z\"")
+    ∷ row (bytes "aa@b@b@b@b") (bytes "aa at b at b at b at b")
+    ∷ row (bytes "\"at\"@\"AT\"") (bytes "\"at\" at \"AT\"")
+    ∷ row (bytes "<,>,x<>,x y<a@b,,c@d>") (bytes "<>, x <>, x y <a at b, c at d>")
+    ∷ []
+
+-- groups and typed addresses
+abbrev pub groups : List Example
+groups =
+    kept (bytes ":;, A B:;, x: a at b, c at d;")
+    ∷ row (bytes ":,A:;,B:;;") (bytes ":, A:;, B:;;")
+    ∷ kept (bytes ":, A: a at b;;")
+    ∷ kept (bytes ": \"A\":;;")
+    ∷ kept (bytes ": A B:;;")
+    ∷ kept (bytes ": A <>;")
+    ∷ kept (bytes ": :A: \"x\";")
+    ∷ kept (bytes ": :, A:;;;")
+    ∷ row (bytes ",:,,A : a@b, :c: d@e;,x@y ;") (bytes ":, A: a at b, :c: d at e;, x at y;")
+    ∷ kept (bytes "n: A: a at b;;")
+    ∷ row (bytes ":Include:<a@b>,:POSTAL::x:\"y\"") (bytes ":Include: <a at b>, :POSTAL: :x: \"y\"")
+    ∷ []
+
+-- quoted-strings: a fold, a taken fold, a taken CR and LF, a bare LF, HTAB, quote and backslash, backslashes that need not stand
+abbrev pub strings : List Example
+strings =
+    row (bytes "\"a\r\n b\"") (bytes "\"a b\"")
+    ∷ row (bytes "\"a\\\r\n b\"") (bytes "\"a b\"")
+    ∷ row (bytes "\"\\\r\\\n\"") (bytes "\"\\\r\\\n\"")
+    ∷ row (bytes "\"\n\t\"") (bytes "\"\\\n\t\"")
+    ∷ kept (bytes "\"\\\"\\\\\"")
+    ∷ row (bytes "\"\\a\\(\\,\"") (bytes "\"a(,\"")
+    ∷ kept (bytes "\"\"")
+    ∷ []
+
+abbrev pub table : List Example
+table = own ++ (mailboxes ++ (groups ++ strings))
+
+-- ---- the test
+
+abbrev isText : Option (List ℕ) → List ℕ → Bool
+isText none t = false
+isText (some u) t = sameBytes u t
+
+abbrev right : ℕ → Example → Bool
+right i e = both (leb (length (e .body)) messageLimit) (isText (plainOf (e .body)) (e .plain))
+
+every-right : T (every right 0 table)
+unfolding scanFrom charactersFrom symbolsOf faultOf kindOf classOf classTable lower same
+every-right = tt
+
+-- ---- what the test says
+
+map-same : (x : List ℕ) → map (λ b. b) x ≡ x
+map-same [] = refl
+map-same (b ∷ x) = ap (λ y. b ∷ y) (map-same x)
+
+is-true : (x : Bool) → T x → x ≡ true
+is-true true t = refl
+is-true false t = absurd t
+
+is-text : (o : Option (List ℕ)) (t : List ℕ) → T (isText o t) → o ≡ some t
+is-text none t h = absurd h
+is-text (some u) t h = ap some (sym (map-same u) ∙ same-true (λ b. b) u t (is-true (sameBytes u t) h) ∙ map-same t)
+
+of-verdict : (v : Verdict Class Derivation) {t : List ℕ} → ofVerdict v ≡ some t → (k : Derivation) × (v ≡ accepted k) × (plainText k ≡ t)
+of-verdict (accepted k) e = (k, refl, cc)
+of-verdict (refused why rest) e = absurd (let o : _≡_ {A = ℕ} 0 1 = cc in omega arith)
+
+no-fault : (a : Answer) {o : Option (List ℕ)} {t : List ℕ} → unlessFault a o ≡ some t → (count : ℕ) × (a ≡ Accepted count) × (o ≡ some t)
+no-fault (Accepted count) e = (count, refl, e)
+no-fault (Refused number position) e = absurd (let o : _≡_ {A = ℕ} 0 1 = cc in omega arith)
+no-fault (NoRoom count) e = absurd (let o : _≡_ {A = ℕ} 0 1 = cc in omega arith)
+
+-- a fault counts nothing
+count-none : (s : Scanned) {count : ℕ} → faultOf s ≡ Accepted count → faultOf s ≡ Accepted 0
+unfolding faultOf
+count-none ended e = refl
+count-none (next x rest) e = count-none rest e
+count-none (faultAt number p) e = absurd (let o : _≡_ {A = ℕ} 0 1 = cc in omega arith)
+
+-- the body is accepted, and the text beside it is the plain text of its derivation
+accepted-as : (body : List ℕ) {t : List ℕ} → length body ≤ messageLimit → plainOf body ≡ some t → (k : Derivation) × AcceptedBody body 0 (length body) k × (plainText k ≡ t)
+accepted-as body h e =
+    let (count, f, g) = no-fault (faultOf (scan body 0)) e in
+    let (k, v, p) = of-verdict (answer levelLimit (symbolsOf (scan body 0))) g in
+    let (d, n) : DerivedList k (symbolsOf (scan body 0)) × (levels k ≤ levelLimit) = answer-derives levelLimit v in
+    let a : AcceptedBody body 0 (length body) k =
+    record {
+      scans = in-order Refused body 0 (length body) (faultOf (scan (take (length body) body) 0)) h (omega arith) (omega arith) ∙ rw take-length (count-none (scan body 0) f);
+      derived = rw take-length d;
+      within = n;
+    } in
+    (k, a, p)
+
+-- each body of the table is accepted, and the text beside it is the plain text of its derivation
+pub written : (i : ℕ) → i < length table
+    → let e = getD table i (kept []) in
+    (k : Derivation) × AcceptedBody (e .body) 0 (length (e .body)) k × (plainText k ≡ e .plain)
+written i h =
+    let e = getD table i (kept []) in
+    let t = at right table (kept []) every-right i h in
+    accepted-as (e .body) (leb→le _ _ (both-left (leb (length (e .body)) messageLimit) (isText (plainOf (e .body)) (e .plain)) t))
+    (is-text (plainOf (e .body)) (e .plain) (both-right (leb (length (e .body)) messageLimit) (isText (plainOf (e .body)) (e .plain)) t))

@@ -1,0 +1,8 @@
+-- Document 01, "Plain writing", and condition 2: what an address list means, its plain text, and the round trip.
+pub mod Meaning
+pub mod PlainText
+pub mod RoundTrip
+pub mod Fitting
+pub mod Walking
+pub mod Writing
+pub mod Written

@@ -1,0 +1,287 @@
+// The plain text of an address list, by one walk over its symbols.
+//
+// A text is written into a lent part from a place on; past the part's end nothing is stored, and it is counted all the same,
+// so that the same walk measures a text and writes it.
+ghost use mathlib.Core.Path.{_≡_};
+ghost use mathlib.Core.List.{_∷_, _++_};
+ghost use Prim.Native.Nat.{_+_, _*_, _-_, _≤_, _<_};
+ghost use lib.ListN.{length};
+ghost use lib.Seq.{sets};
+ghost use Rattle.octets.specs.Choice.{pick};
+ghost use Rattle.octets.specs.Text.{part};
+ghost use Rattle.scanner.specs.Characters.{foldAt};
+ghost use Rattle.scanner.proofs.Meanings.{dataAt, meaningAt};
+ghost use Rattle.plain.specs.PlainText.{needsBackslash, backslashText, dataText, quotedText};
+ghost use Rattle.plain.specs.Walking.{gapText, symbolText, writtenText};
+ghost use Rattle.plain.specs.Fitting.{fittingAnswer, fittingText};
+ghost use Rattle.plain.specs.Written.{plainOutcome, Condition2};
+ghost use Rattle.plain.specs.Writing.{countLimit, textLimit, Wrote, roleOf, isColon};
+use octets::answers::Answer;
+use octets::classes::BACKSLASH;
+use octets::classes::CLASSES;
+use octets::classes::QUOTE;
+use places::Gap;
+use places::Place;
+use scanner::Class;
+use scanner::Next;
+
+mod places;
+
+// What a character is in a quoted-string.
+enum Role {
+    Datum,
+    Takes,
+    Closes,
+}
+
+// One byte.
+fn put(out: &mut [u8], n: usize, b: u8) -> usize
+    requires { ⌜ n < countLimit ⌝ }
+    ensures { λ r. ⌜ Wrote (λ rest. b ∷ rest) (now (out .entry)) n (now (out .exit)) r × (r ≡ n + 1) ⌝ }
+{
+    octets::stored::store_byte(out, n, b);
+    n + 1
+}
+
+// What stands before a symbol.
+fn put_gap(out: &mut [u8], n: usize, gap: Gap) -> usize
+    requires { ⌜ n + 2 ≤ countLimit ⌝ }
+    ensures { λ r. ⌜ Wrote (gapText gap) (now (out .entry)) n (now (out .exit)) r × (r ≤ n + 2) ⌝ }
+{
+    match gap {
+        Gap::Nothing => n,
+        Gap::Space => put(out, n, b' '),
+        Gap::CommaSpace => {
+            let m = put(out, n, b',');
+            put(out, m, b' ')
+        }
+    }
+}
+
+// Whether a backslash is to stand before a byte of data.
+fn needs_backslash(b: u8) -> bool
+    ensures { λ r. ⌜ r ≡ needsBackslash b ⌝ }
+{
+    if b == b'"' {
+        return true;
+    }
+    if b == b'\\' {
+        return true;
+    }
+    if b == b'\r' {
+        return true;
+    }
+    b == b'\n'
+}
+
+// One byte of data, behind a backslash where it needs one.
+fn put_datum(out: &mut [u8], n: usize, b: u8) -> usize
+    requires { ⌜ n + 2 ≤ countLimit ⌝ }
+    ensures { λ r. ⌜ Wrote (λ rest. backslashText (needsBackslash b) (b ∷ rest)) (now (out .entry)) n (now (out .exit)) r × (r ≤ n + 2) ⌝ }
+{
+    if needs_backslash(b) {
+        let m = put(out, n, b'\\');
+        return put(out, m, b);
+    }
+    put(out, n, b)
+}
+
+// The bytes of an atom.
+fn put_part(text: &[u8], start: usize, end: usize, out: &mut [u8], n: usize) -> usize
+    requires { ⌜ (start ≤ end) × (end ≤ length (now text)) × (n + (end - start) ≤ countLimit) ⌝ }
+    ensures { λ r. ⌜ Wrote (λ rest. part (now (text .entry)) start end ++ rest) (now (out .entry)) n (now (out .exit)) r × (r ≡ n + (end - start)) ⌝ }
+{
+    let mut i = start;
+    let mut m = n;
+    while i < end {
+        m = put(out, m, text[i]);
+        i += 1;
+    }
+    m
+}
+
+// Where the first character at or after a position stands: behind the CRLF of a fold, if one starts there.
+fn past_fold(text: &[u8], at: usize) -> usize
+    requires { ⌜ at < length (now text) ⌝ }
+    ensures { λ r. ⌜ (r ≡ pick (foldAt (now (text .entry)) at) (at + 2) at) × (at ≤ r) × (r < length (now (text .entry))) ⌝ }
+{
+    if text.len() - at < 3 {
+        return at;
+    }
+    if text[at] != b'\r' {
+        return at;
+    }
+    if text[at + 1] != b'\n' {
+        return at;
+    }
+    let white = text[at + 2];
+    if white == b' ' {
+        return at + 2;
+    }
+    if white == b'\t' {
+        return at + 2;
+    }
+    at
+}
+
+// What a byte is in a quoted-string: folded, the white space of a fold; taking, behind a backslash.
+fn role_of(classes: &[u8; 256], b: u8, folded: bool, taking: bool) -> Role
+    ensures { λ r. ⌜ r ≡ roleOf (now (classes .entry)) b folded taking ⌝ }
+{
+    if taking {
+        return Role::Datum;
+    }
+    if folded {
+        return Role::Datum;
+    }
+    if b == b'\r' {
+        return Role::Datum;
+    }
+    let class = octets::classes::class_in(classes, b);
+    if class == QUOTE {
+        return Role::Closes;
+    }
+    if class == BACKSLASH {
+        return Role::Takes;
+    }
+    Role::Datum
+}
+
+// The data of a quoted-string from a position inside it on.
+fn put_data(classes: &[u8; 256], text: &[u8], at: usize, out: &mut [u8], n: usize) -> usize
+    requires { ⌜ (at ≤ length (now text)) × (n + 2 * (length (now text) - at) ≤ countLimit) ⌝ }
+    ensures { λ r. ⌜ Wrote (dataText (dataAt (now (classes .entry)) (now (text .entry)) at)) (now (out .entry)) n (now (out .exit)) r × (r ≤ n + 2 * (length (now (text .entry)) - at)) ⌝ }
+{
+    let mut p = at;
+    let mut m = n;
+    let mut taking = false;
+    while p < text.len() {
+        let here = past_fold(text, p);
+        let b = text[here];
+        match role_of(classes, b, p < here, taking) {
+            Role::Closes => return m,
+            Role::Takes => {
+                taking = true;
+                p = here + 1;
+            }
+            Role::Datum => {
+                m = put_datum(out, m, b);
+                taking = false;
+                p = here + 1;
+            }
+        }
+    }
+    m
+}
+
+// A quoted-string whose opening quote stands at start.
+fn put_quoted(classes: &[u8; 256], text: &[u8], start: usize, out: &mut [u8], n: usize) -> usize
+    requires { ⌜ (start < length (now text)) × (n + 2 * length (now text) ≤ countLimit) ⌝ }
+    ensures { λ r. ⌜ Wrote (quotedText (dataAt (now (classes .entry)) (now (text .entry)) (start + 1))) (now (out .entry)) n (now (out .exit)) r × (r ≤ n + 2 * length (now (text .entry))) ⌝ }
+{
+    let opened = put(out, n, b'"');
+    let closing = put_data(classes, text, start + 1, out, opened);
+    put(out, closing, b'"')
+}
+
+// A symbol with what stands before it.
+fn put_symbol(
+    classes: &[u8; 256],
+    text: &[u8],
+    class: Class,
+    start: usize,
+    end: usize,
+    place: Place,
+    colon: bool,
+    out: &mut [u8],
+    n: usize,
+) -> usize
+    requires { ⌜ (start < end) × (end ≤ length (now text)) × (n + 2 * length (now text) + 3 ≤ countLimit) ⌝ }
+    ensures { λ r. ⌜ Wrote (symbolText class (meaningAt (now (classes .entry)) (now (text .entry)) class start end) place colon) (now (out .entry)) n (now (out .exit)) r × (r ≤ n + 2 * length (now (text .entry)) + 3) ⌝ }
+{
+    match class {
+        Class::Atom => {
+            let m = put_gap(out, n, places::gap_before(place, colon));
+            put_part(text, start, end, out, m)
+        }
+        Class::Quoted => {
+            let m = put_gap(out, n, places::gap_before(place, false));
+            put_quoted(classes, text, start, out, m)
+        }
+        Class::At => {
+            let m = put(out, n, b' ');
+            let k = put(out, m, b'a');
+            put(out, k, b't')
+        }
+        Class::LessThan => {
+            let m = put_gap(out, n, places::gap_before(place, false));
+            put(out, m, b'<')
+        }
+        Class::GreaterThan => put(out, n, b'>'),
+        Class::Comma => n,
+        Class::Semicolon => put(out, n, b';'),
+        Class::Colon => {
+            let m = put_gap(out, n, places::gap_before_colon(place));
+            put(out, m, b':')
+        }
+        Class::Stray => n,
+    }
+}
+
+// Whether a symbol is ":".
+fn is_colon(next: Next) -> bool
+    ensures { λ r. ⌜ r ≡ isColon next ⌝ }
+{
+    let Next::Found(class, start, end) = next else {
+        return false;
+    };
+    match class {
+        Class::Colon => true,
+        _ => false,
+    }
+}
+
+// Write the plain text of the body that runs from start to the text's end, as far as there is room: the answer is its length.
+fn write_by(classes: &[u8; 256], text: &[u8], start: usize, out: &mut [u8]) -> usize
+    requires { ⌜ length (now text) ≤ textLimit ⌝ }
+    ensures { λ r. ⌜ (r ≡ length (writtenText (now (classes .entry)) (now (text .entry)) start)) × (now (out .exit) ≡ sets (now (out .entry)) 0 (writtenText (now (classes .entry)) (now (text .entry)) start)) ⌝ }
+{
+    let mut n: usize = 0;
+    let mut place = Place::Start;
+    let mut coming = scanner::next_by(classes, text, start);
+    loop {
+        let Next::Found(class, first, end) = coming else {
+            return n;
+        };
+        coming = scanner::next_by(classes, text, end);
+        let colon = is_colon(coming);
+        n = put_symbol(classes, text, class, first, end, place, colon, out, n);
+        place = places::after(class, place, colon);
+    }
+}
+
+// Write that plain text if it fits; else write nothing and tell its length.
+fn write_fitting(classes: &[u8; 256], text: &[u8], start: usize, out: &mut [u8]) -> Answer
+    requires { ⌜ length (now text) ≤ textLimit ⌝ }
+    ensures { λ r. ⌜ (r ≡ fittingAnswer (writtenText (now (classes .entry)) (now (text .entry)) start) (now (out .entry))) × (now (out .exit) ≡ fittingText (writtenText (now (classes .entry)) (now (text .entry)) start) (now (out .entry))) ⌝ }
+{
+    let needed = write_by(classes, text, start, &mut out[..0]);
+    if out.len() < needed {
+        return Answer::NoRoom(needed);
+    }
+    Answer::Accepted(write_by(classes, text, start, out))
+}
+
+// Write plainly the address list in the body of a message from start up to end.
+pub fn write_plain(message: &[u8], start: usize, end: usize, text: &mut [u8]) -> Answer
+    ensures outcome { λ r. ⌜ (r ≡ plainOutcome (now (message .entry)) start end (now (text .entry)) .answer) × (now (text .exit) ≡ plainOutcome (now (message .entry)) start end (now (text .entry)) .table) ⌝ }
+    ensures condition2 { λ r. ⌜ Condition2 (now (message .entry)) start end (now (text .entry)) r (now (text .exit)) ⌝ }
+{
+    match addresses::read_addresses(message, start, end, &mut text[..0]) {
+        Answer::Refused(number, place) => Answer::Refused(number, place),
+        _ => {
+            let classes = &CLASSES;
+            write_fitting(classes, &message[..end], start, text)
+        }
+    }
+}
