@@ -1,14 +1,14 @@
--- Laws of plain texts.
+-- Laws of plain texts. `RoundTrips` has the theorems of condition 2, `Walks` what the code rests on, `Examples` the table of texts.
 pub mod TreeMeanings
 pub mod ByteKinds
 pub mod Writable
 pub mod Reading
 pub mod Growing
 pub mod ScannedWords
-pub mod RoundTrips
 pub mod Walks
+pub mod RoundTrips
 pub mod Examples
 pub mod Writes
 pub mod QuotedData
-pub mod Comings
+pub mod WalkSteps
 pub mod PlainLaws

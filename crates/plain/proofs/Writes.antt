@@ -26,6 +26,9 @@ wrote-byte {out} {after} {n} {b} e = record { same = λ rest. rw (e, add-one n);
 pub wrote-both : {f g : List ℕ → List ℕ} {o p q : List ℕ} {n m k : ℕ} → Wrote f o n p m → Wrote g p m q k → Wrote (λ rest. f (g rest)) o n q k
 wrote-both {f} {g} a b = record { same = λ rest. a .same (g rest) ∙ b .same rest; count = λ rest. a .count (g rest) ∙ b .count rest }
 
+pub wrote-three : {f g h : List ℕ → List ℕ} {o p q r : List ℕ} {n m k j : ℕ} → Wrote f o n p m → Wrote g p m q k → Wrote h q k r j → Wrote (λ rest. f (g (h rest))) o n r j
+wrote-three {f} {g} {h} a b c = wrote-both {f = f} {g = λ rest. g (h rest)} a (wrote-both {f = g} {g = h} b c)
+
 -- a gap, and what stands behind it
 pub wrote-gap : {gap gap′ : Gap} {g : List ℕ → List ℕ} {o p q : List ℕ} {n m k : ℕ} → gap ≡ gap′ → Wrote (gapText gap) o n p m → Wrote g p m q k → Wrote (λ rest. gapText gap′ (g rest)) o n q k
 wrote-gap {gap} {gap′} {g} e a b = wrote-both {f = gapText gap′} {g = g} (rw e at a) b

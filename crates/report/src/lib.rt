@@ -54,3 +54,13 @@ pub fn bytes(table: &[u8]) {
         i += 1;
     }
 }
+
+// A number with a minus sign where it is negative.
+pub fn signed(n: i64) {
+    if n < 0 {
+        text(b"-");
+        io::print_decimal(1, ((-1) - n) as u64 + 1);
+    } else {
+        io::print_decimal(1, n as u64);
+    }
+}

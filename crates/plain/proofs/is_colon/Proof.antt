@@ -1,5 +1,5 @@
 -- `plain::is_colon` meets its contract. Assumes nothing.
-use Rattle.plain.proofs.Comings.{not-found, not-colon}
+use Rattle.plain.proofs.WalkSteps.{not-found, not-colon}
 use borrow.Author.Needs.{needs}
 use Rattle.plain.proofs.is_colon.Statement.{statement}
 use Rattle.plain.proofs.is_colon.Tie as tie

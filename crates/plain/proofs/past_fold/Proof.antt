@@ -12,13 +12,17 @@ sub-if1 : tie.Need-sub-if1
 sub-if1 c = search needs
 
 returns : tie.Need-returns
-returns c = stays (c .before .args .text .now) (c .before .args .at) (no-fold (c .before .args .text .now) (c .before .args .at) (omega arith)) (c .before .pre)
+returns c =
+    let a = c .before .args in
+    stays (a .text .now) (a .at) (no-fold (a .text .now) (a .at) (omega arith)) (c .before .pre)
 
 shared-slice-read-if2 : tie.Need-shared-slice-read-if2
 shared-slice-read-if2 c = search needs
 
 returns-2 : tie.Need-returns-2
-returns-2 c = stays (c .before .before .before .args .text .now) (c .before .before .before .args .at) (no-return (c .before .before .before .args .text .now) (c .before .before .before .args .at) (c .if2 .taken)) (c .before .before .before .pre)
+returns-2 c =
+    let a = c .before .before .before .args in
+    stays (a .text .now) (a .at) (no-return (a .text .now) (a .at) (c .if2 .taken)) (c .before .before .before .pre)
 
 add-if3 : tie.Need-add-if3
 add-if3 c = search needs
@@ -27,7 +31,9 @@ shared-slice-read-if3 : tie.Need-shared-slice-read-if3
 shared-slice-read-if3 c = search needs
 
 returns-3 : tie.Need-returns-3
-returns-3 c = stays (c .before .before .before .before .before .args .text .now) (c .before .before .before .before .before .args .at) (no-line-feed (c .before .before .before .before .before .args .text .now) (c .before .before .before .before .before .args .at) (c .before .before .if2 .left) (c .if3 .taken)) (c .before .before .before .before .before .pre)
+returns-3 c =
+    let a = c .before .before .before .before .before .args in
+    stays (a .text .now) (a .at) (no-line-feed (a .text .now) (a .at) (c .before .before .if2 .left) (c .if3 .taken)) (c .before .before .before .before .before .pre)
 
 add-white : tie.Need-add-white
 add-white c = search needs
@@ -39,16 +45,22 @@ add-result : tie.Need-add-result
 add-result c = search needs
 
 returns-4 : tie.Need-returns-4
-returns-4 c = goes (c .before .before .before .before .before .before .before .args .text .now) (c .before .before .before .before .before .before .before .args .at) (line-end (c .before .before .before .before .before .before .before .args .text .now) (c .before .before .before .before .before .before .before .args .at) (c .before .before .before .before .if2 .left) (c .before .before .if3 .left) ∙ rw (eq-eqb _ 32 (c .if4 .taken)))
+returns-4 c =
+    let a = c .before .before .before .before .before .before .before .args in
+    goes (a .text .now) (a .at) (line-end (a .text .now) (a .at) (c .before .before .before .before .if2 .left) (c .before .before .if3 .left) ∙ rw (eq-eqb _ 32 (c .if4 .taken)))
 
 add-result-2 : tie.Need-add-result-2
 add-result-2 c = search needs
 
 returns-5 : tie.Need-returns-5
-returns-5 c = goes (c .before .before .before .before .before .before .before .before .args .text .now) (c .before .before .before .before .before .before .before .before .args .at) (line-end (c .before .before .before .before .before .before .before .before .args .text .now) (c .before .before .before .before .before .before .before .before .args .at) (c .before .before .before .before .before .if2 .left) (c .before .before .before .if3 .left) ∙ rw (ne-eqb _ 32 (c .before .if4 .left), eq-eqb _ 9 (c .if5 .taken)))
+returns-5 c =
+    let a = c .before .before .before .before .before .before .before .before .args in
+    goes (a .text .now) (a .at) (line-end (a .text .now) (a .at) (c .before .before .before .before .before .if2 .left) (c .before .before .before .if3 .left) ∙ rw (ne-eqb _ 32 (c .before .if4 .left), eq-eqb _ 9 (c .if5 .taken)))
 
 returns-6 : tie.Need-returns-6
-returns-6 c = stays (c .before .before .before .before .before .before .before .before .args .text .now) (c .before .before .before .before .before .before .before .before .args .at) (line-end (c .before .before .before .before .before .before .before .before .args .text .now) (c .before .before .before .before .before .before .before .before .args .at) (c .before .before .before .before .before .if2 .left) (c .before .before .before .if3 .left) ∙ rw (ne-eqb _ 32 (c .before .if4 .left), ne-eqb _ 9 (c .if5 .left))) (c .before .before .before .before .before .before .before .before .pre)
+returns-6 c =
+    let a = c .before .before .before .before .before .before .before .before .args in
+    stays (a .text .now) (a .at) (line-end (a .text .now) (a .at) (c .before .before .before .before .before .if2 .left) (c .before .before .before .if3 .left) ∙ rw (ne-eqb _ 32 (c .before .if4 .left), ne-eqb _ 9 (c .if5 .left))) (c .before .before .before .before .before .before .before .before .pre)
 
 pub past-fold-spec : {M : Type 1} → statement M
 past-fold-spec =

@@ -42,7 +42,9 @@ returns : tie.Need-returns Inv-loop μ-loop
 returns c =
     let a = c .before .before .before .before .before .before .before .before .before .args in
     let l = c .before .before .before .before .before .before .loop in
-    let e = data-step (a .classes .now) (a .text .now) (l .taking) (l .p) {role = Closes} (c .before .before .before .before .past-fold .ensures .0) (omega arith) (sym (c .enum-told .given .1) ∙ c .before .before .role-of .ensures) in
+    let h = c .before .before .before .before .past-fold .ensures in
+    let r = sym (c .enum-told .given .1) ∙ c .before .before .role-of .ensures in
+    let e = data-step (a .classes .now) (a .text .now) (l .taking) (l .p) {role = Closes} (h .0) (omega arith) r in
     (left-none (l .inv .4) (λ rest. ap (λ t. dataText t rest) e), omega arith)
 
 enum-told-2 : tie.Need-enum-told-2 Inv-loop μ-loop
@@ -58,8 +60,10 @@ loop-again : tie.Need-loop-again Inv-loop μ-loop
 loop-again c =
     let a = c .before .before .before .before .before .before .before .before .before .args in
     let l = c .before .before .before .before .before .before .loop in
-    let e = data-step (a .classes .now) (a .text .now) (l .taking) (l .p) {role = Takes} (c .before .before .before .before .past-fold .ensures .0) (omega arith) (sym (c .enum-told2 .given .1) ∙ c .before .before .role-of .ensures) in
-    (omega (arith, c .before .before .before .before .past-fold .ensures .1), omega (arith, c .before .before .before .before .past-fold .ensures .2), omega (arith, c .before .before .before .before .past-fold .ensures .1), l .inv .3, left-as (l .inv .4) (λ rest. ap (λ t. dataText t rest) e))
+    let h = c .before .before .before .before .past-fold .ensures in
+    let r = sym (c .enum-told2 .given .1) ∙ c .before .before .role-of .ensures in
+    let e = data-step (a .classes .now) (a .text .now) (l .taking) (l .p) {role = Takes} (h .0) (omega arith) r in
+    (omega (arith, h .1), omega (arith, h .2), omega (arith, h .1), l .inv .3, left-as (l .inv .4) (λ rest. ap (λ t. dataText t rest) e))
 
 enum-told-3 : tie.Need-enum-told-3 Inv-loop μ-loop
 enum-told-3 c = search needs
@@ -77,13 +81,11 @@ loop-again-2 : tie.Need-loop-again-2 Inv-loop μ-loop
 loop-again-2 c =
     let a = c .before .before .before .before .before .before .before .before .before .before .before .before .before .args in
     let l = c .before .before .before .before .before .before .before .before .before .before .loop in
-    let e = data-step (a .classes .now) (a .text .now) (l .taking) (l .p) {role = Datum} (c .before .before .before .before .before .before .before .before .past-fold .ensures .0) (omega arith) (sym (c .before .before .before .before .enum-told3 .given .1) ∙ c .before .before .before .before .before .before .role-of .ensures) in (
-      omega (arith, c .before .before .before .before .before .before .before .before .past-fold .ensures .1),
-      omega (arith, c .before .before .before .before .before .before .before .before .past-fold .ensures .2),
-      omega (arith, c .before .before .before .before .before .before .before .before .past-fold .ensures .1, c .before .before .put-datum .ensures .1),
-      c .before .before .put-datum .kept .0 ∙ l .inv .3,
-      left-after (l .inv .4) (λ rest. ap (λ t. dataText t rest) e) (c .before .before .put-datum .ensures .0),
-    )
+    let h = c .before .before .before .before .before .before .before .before .past-fold .ensures in
+    let r = sym (c .before .before .before .before .enum-told3 .given .1) ∙ c .before .before .before .before .before .before .role-of .ensures in
+    let e = data-step (a .classes .now) (a .text .now) (l .taking) (l .p) {role = Datum} (h .0) (omega arith) r in
+    let p = c .before .before .put-datum in
+    (omega (arith, h .1), omega (arith, h .2), omega (arith, h .1, p .ensures .1), p .kept .0 ∙ l .inv .3, left-after (l .inv .4) (λ rest. ap (λ t. dataText t rest) e) (p .ensures .0))
 
 same-length-2 : tie.Need-same-length-2 Inv-loop μ-loop
 same-length-2 c = c .before .loop .inv .3

@@ -18,7 +18,10 @@ same-length : tie.Need-same-length
 same-length c = search needs
 
 returns : tie.Need-returns
-returns c = (rw (← (c .before .before .before .before .before .before .before .before .before .needs-backslash .ensures), c .before .before .before .before .before .before .before .before .if1 .taken) (wrote-both (c .before .before .before .before .before .before .put .ensures .0) (c .before .before .put2 .ensures .0)), omega (arith, c .before .before .before .before .before .before .put .ensures .1, c .before .before .put2 .ensures .1))
+returns c =
+    let p = c .before .before .before .before .before .before .put in
+    let q = c .before .before .put2 in
+    (rw (← (c .before .before .before .before .before .before .before .before .before .needs-backslash .ensures), c .before .before .before .before .before .before .before .before .if1 .taken) (wrote-both (p .ensures .0) (q .ensures .0)), omega (arith, p .ensures .1, q .ensures .1))
 
 put-requires-3 : tie.Need-put-requires-3
 put-requires-3 c κs = search needs
@@ -27,7 +30,9 @@ same-length-2 : tie.Need-same-length-2
 same-length-2 c = search needs
 
 returns-2 : tie.Need-returns-2
-returns-2 c = (rw (← (c .before .before .before .before .before .needs-backslash .ensures), c .before .before .before .before .if1 .left) (c .before .before .put3 .ensures .0), omega (arith, c .before .before .put3 .ensures .1))
+returns-2 c =
+    let p = c .before .before .put3 in
+    (rw (← (c .before .before .before .before .before .needs-backslash .ensures), c .before .before .before .before .if1 .left) (p .ensures .0), omega (arith, p .ensures .1))
 
 pub put-datum-spec : {M : Type 1} → statement M
 put-datum-spec =

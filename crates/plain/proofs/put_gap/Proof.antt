@@ -30,13 +30,18 @@ same-length : tie.Need-same-length
 same-length c = search needs
 
 returns-2 : tie.Need-returns-2
-returns-2 c = (rw (c .before .before .before .before .enum-told2 .given .1) (c .before .before .put .ensures .0), omega (arith, c .before .before .put .ensures .1))
+returns-2 c =
+    let p = c .before .before .put in
+    (rw (c .before .before .before .before .enum-told2 .given .1) (p .ensures .0), omega (arith, p .ensures .1))
 
 same-length-2 : tie.Need-same-length-2
 same-length-2 c = search needs
 
 returns-3 : tie.Need-returns-3
-returns-3 c = (rw (c .before .before .before .before .before .before .before .before .enum-told3 .given .1) (wrote-both (c .before .before .before .before .before .before .put2 .ensures .0) (c .before .before .put3 .ensures .0)), omega (arith, c .before .before .before .before .before .before .put2 .ensures .1, c .before .before .put3 .ensures .1))
+returns-3 c =
+    let p = c .before .before .before .before .before .before .put2 in
+    let q = c .before .before .put3 in
+    (rw (c .before .before .before .before .before .before .before .before .enum-told3 .given .1) (wrote-both (p .ensures .0) (q .ensures .0)), omega (arith, p .ensures .1, q .ensures .1))
 
 pub put-gap-spec : {M : Type 1} → statement M
 put-gap-spec =

@@ -1,6 +1,6 @@
 -- `plain::put_quoted` meets its contract. Assumes nothing.
 use native.Mathlib.Omega.{arith}
-use Rattle.plain.proofs.Writes.{wrote-both}
+use Rattle.plain.proofs.Writes.{wrote-three}
 use borrow.Author.Needs.{needs}
 use Rattle.plain.proofs.put_quoted.Statement.{statement}
 use Rattle.plain.proofs.put_quoted.Tie as tie
@@ -21,7 +21,12 @@ same-length : tie.Need-same-length
 same-length c = search needs
 
 returns : tie.Need-returns
-returns c = (wrote-both (c .before .before .before .before .before .before .before .before .before .before .put .ensures .0) (wrote-both (c .before .before .before .before .before .before .put-data .ensures .0) (c .before .before .put2 .ensures .0)), omega (arith, c .before .before .before .before .before .before .before .before .before .before .put .ensures .1, c .before .before .before .before .before .before .put-data .ensures .1, c .before .before .put2 .ensures .1))
+returns c = (
+  wrote-three (c .before .before .before .before .before .before .before .before .before .before .put .ensures .0)
+      (c .before .before .before .before .before .before .put-data .ensures .0)
+      (c .before .before .put2 .ensures .0),
+  omega (arith, c .before .before .before .before .before .before .before .before .before .before .put .ensures .1, c .before .before .before .before .before .before .put-data .ensures .1, c .before .before .put2 .ensures .1),
+)
 
 pub put-quoted-spec : {M : Type 1} → statement M
 put-quoted-spec =

@@ -1,6 +1,6 @@
 -- `plain::put_symbol` meets its contract. Assumes nothing.
 use native.Mathlib.Omega.{arith}
-use Rattle.plain.proofs.Writes.{wrote-nothing, wrote-both, wrote-gap}
+use Rattle.plain.proofs.Writes.{wrote-nothing, wrote-three, wrote-gap}
 use borrow.Author.Needs.{needs}
 use Rattle.plain.proofs.put_symbol.Statement.{statement}
 use Rattle.plain.proofs.put_symbol.Tie as tie
@@ -87,31 +87,46 @@ same-length : tie.Need-same-length
 same-length c = search needs
 
 returns : tie.Need-returns
-returns c = (rw (c .before .before .before .before .before .before .before .before .before .enum-told .given .1) (wrote-gap (c .before .before .before .before .before .before .before .gap-before .ensures) (c .before .before .before .before .before .before .put-gap .ensures .0) (c .before .before .put-part .ensures .0)), omega (arith, c .before .before .before .before .before .before .put-gap .ensures .1, c .before .before .put-part .ensures .1))
+returns c =
+    let p = c .before .before .before .before .before .before .put-gap in
+    let q = c .before .before .put-part in
+    (rw (c .before .before .before .before .before .before .before .before .before .enum-told .given .1) (wrote-gap (c .before .before .before .before .before .before .before .gap-before .ensures) (p .ensures .0) (q .ensures .0)), omega (arith, p .ensures .1, q .ensures .1))
 
 same-length-2 : tie.Need-same-length-2
 same-length-2 c = search needs
 
 returns-2 : tie.Need-returns-2
-returns-2 c = (rw (c .before .before .before .before .before .before .before .before .before .enum-told2 .given .1) (wrote-gap (c .before .before .before .before .before .before .before .gap-before2 .ensures) (c .before .before .before .before .before .before .put-gap2 .ensures .0) (c .before .before .put-quoted .ensures .0)), omega (arith, c .before .before .before .before .before .before .put-gap2 .ensures .1, c .before .before .put-quoted .ensures .1))
+returns-2 c =
+    let p = c .before .before .before .before .before .before .put-gap2 in
+    let q = c .before .before .put-quoted in
+    (rw (c .before .before .before .before .before .before .before .before .before .enum-told2 .given .1) (wrote-gap (c .before .before .before .before .before .before .before .gap-before2 .ensures) (p .ensures .0) (q .ensures .0)), omega (arith, p .ensures .1, q .ensures .1))
 
 same-length-3 : tie.Need-same-length-3
 same-length-3 c = search needs
 
 returns-3 : tie.Need-returns-3
-returns-3 c = (rw (c .before .before .before .before .before .before .before .before .before .before .before .before .enum-told3 .given .1) (wrote-both (c .before .before .before .before .before .before .before .before .before .before .put .ensures .0) (wrote-both (c .before .before .before .before .before .before .put2 .ensures .0) (c .before .before .put3 .ensures .0))), omega (arith, c .before .before .before .before .before .before .before .before .before .before .put .ensures .1, c .before .before .before .before .before .before .put2 .ensures .1, c .before .before .put3 .ensures .1))
+returns-3 c =
+    let p = c .before .before .before .before .before .before .before .before .before .before .put in
+    let q = c .before .before .before .before .before .before .put2 in
+    let r = c .before .before .put3 in
+    (rw (c .before .before .before .before .before .before .before .before .before .before .before .before .enum-told3 .given .1) (wrote-three (p .ensures .0) (q .ensures .0) (r .ensures .0)), omega (arith, p .ensures .1, q .ensures .1, r .ensures .1))
 
 same-length-4 : tie.Need-same-length-4
 same-length-4 c = search needs
 
 returns-4 : tie.Need-returns-4
-returns-4 c = (rw (c .before .before .before .before .before .before .before .before .before .enum-told4 .given .1) (wrote-gap (c .before .before .before .before .before .before .before .gap-before3 .ensures) (c .before .before .before .before .before .before .put-gap3 .ensures .0) (c .before .before .put4 .ensures .0)), omega (arith, c .before .before .before .before .before .before .put-gap3 .ensures .1, c .before .before .put4 .ensures .1))
+returns-4 c =
+    let p = c .before .before .before .before .before .before .put-gap3 in
+    let q = c .before .before .put4 in
+    (rw (c .before .before .before .before .before .before .before .before .before .enum-told4 .given .1) (wrote-gap (c .before .before .before .before .before .before .before .gap-before3 .ensures) (p .ensures .0) (q .ensures .0)), omega (arith, p .ensures .1, q .ensures .1))
 
 same-length-5 : tie.Need-same-length-5
 same-length-5 c = search needs
 
 returns-5 : tie.Need-returns-5
-returns-5 c = (rw (c .before .before .before .before .enum-told5 .given .1) (c .before .before .put5 .ensures .0), omega (arith, c .before .before .put5 .ensures .1))
+returns-5 c =
+    let p = c .before .before .put5 in
+    (rw (c .before .before .before .before .enum-told5 .given .1) (p .ensures .0), omega (arith, p .ensures .1))
 
 returns-6 : tie.Need-returns-6
 returns-6 c = (rw (c .enum-told6 .given .1) (wrote-nothing _ _), omega arith)
@@ -120,13 +135,18 @@ same-length-6 : tie.Need-same-length-6
 same-length-6 c = search needs
 
 returns-7 : tie.Need-returns-7
-returns-7 c = (rw (c .before .before .before .before .enum-told7 .given .1) (c .before .before .put6 .ensures .0), omega (arith, c .before .before .put6 .ensures .1))
+returns-7 c =
+    let p = c .before .before .put6 in
+    (rw (c .before .before .before .before .enum-told7 .given .1) (p .ensures .0), omega (arith, p .ensures .1))
 
 same-length-7 : tie.Need-same-length-7
 same-length-7 c = search needs
 
 returns-8 : tie.Need-returns-8
-returns-8 c = (rw (c .before .before .before .before .before .before .before .before .before .enum-told8 .given .1) (wrote-gap (c .before .before .before .before .before .before .before .gap-before-colon .ensures) (c .before .before .before .before .before .before .put-gap4 .ensures .0) (c .before .before .put7 .ensures .0)), omega (arith, c .before .before .before .before .before .before .put-gap4 .ensures .1, c .before .before .put7 .ensures .1))
+returns-8 c =
+    let p = c .before .before .before .before .before .before .put-gap4 in
+    let q = c .before .before .put7 in
+    (rw (c .before .before .before .before .before .before .before .before .before .enum-told8 .given .1) (wrote-gap (c .before .before .before .before .before .before .before .gap-before-colon .ensures) (p .ensures .0) (q .ensures .0)), omega (arith, p .ensures .1, q .ensures .1))
 
 returns-9 : tie.Need-returns-9
 returns-9 c = (rw (c .enum-told9 .given .1) (wrote-nothing _ _), omega arith)

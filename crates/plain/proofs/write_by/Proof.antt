@@ -2,7 +2,7 @@
 use native.Mathlib.Omega.{arith}
 use borrow.Author.Needs.{needs}
 use lib.ListN.{length}
-use Rattle.plain.proofs.Comings.{behind, behind-less, Coming, coming-first, comes, coming-next, coming-none, none-comes}
+use Rattle.plain.proofs.WalkSteps.{behind, behind-less, Coming, coming-first, comes, coming-next, coming-none, none-comes}
 use Rattle.plain.proofs.write_by.Statement.{statement}
 use Rattle.plain.proofs.write_by.Tie as tie
 
@@ -43,13 +43,15 @@ after-requires : tie.Need-after-requires Inv-loop μ-loop
 after-requires c κs = search needs
 
 loop-less : tie.Need-loop-less Inv-loop μ-loop
-loop-less c = let l = c .before .before .before .before .before .before .before .before .before .before .loop in let e = c .before .before .before .before .before .before .before .before .coming .given .1 in behind-less (comes (l .inv) e) e (c .before .before .before .before .before .before .next-by2 .ensures)
+loop-less c =
+    let e = c .before .before .before .before .before .before .before .before .coming .given .1 in
+    behind-less (comes (c .before .before .before .before .before .before .before .before .before .before .loop .inv) e) e (c .before .before .before .before .before .before .next-by2 .ensures)
 
 loop-again : tie.Need-loop-again Inv-loop μ-loop
 loop-again c =
-    let l = c .before .before .before .before .before .before .before .before .before .before .loop in
-    coming-next (l .inv) (c .before .before .before .before .before .before .before .before .coming .given .1) (c .before .before .before .before .before .before .before .before .before .before .before .before .before .before .pre) (c .before .before .before .before .before .before .next-by2 .ensures) (c .before .before .before .before .before .is-colon .ensures) (c .before .before .before .put-symbol .kept .1 .1 .1 .1 .1 .1 .1 .0)
-    (c .before .before .before .put-symbol .ensures .0) (c .before .before .before .put-symbol .ensures .1) (c .after .ensures)
+    let p = c .before .before .before .put-symbol in
+    coming-next (c .before .before .before .before .before .before .before .before .before .before .loop .inv) (c .before .before .before .before .before .before .before .before .coming .given .1) (c .before .before .before .before .before .before .before .before .before .before .before .before .before .before .pre) (c .before .before .before .before .before .before .next-by2 .ensures) (c .before .before .before .before .before .is-colon .ensures)
+    (p .kept .1 .1 .1 .1 .1 .1 .1 .0) (p .ensures .0) (p .ensures .1) (c .after .ensures)
 
 pub write-by-spec : {M : Type 1} → statement M
 write-by-spec =

@@ -1,0 +1,142 @@
+-- The first part as a number or a name, and the zone, as the code reads them. Assumes nothing.
+use mathlib.Core.Path.{_≡_, refl, sym, ap, _∙_}
+use mathlib.Core.Bool.{Bool, true, false}
+use mathlib.Core.List.{List, [], _∷_}
+use Prim.Native.Nat.{ℕ, _+_, _-_, _*_, _/_, _%_, _^_, _≤_, _<_}
+use native.Mathlib.Nat.{pow-suc, pow-le-pow-right}
+use native.Mathlib.Numerals.{add-one}
+use native.Mathlib.Omega.{arith}
+use borrow.Author.Tests.{eq-eqb, ne-eqb, le-leb, lt-leb, lt-ltb, le-ltb}
+use lib.Dec.{ltb}
+use lib.IntN.{ℤ, pos}
+use lib.ListN.{length, getD}
+use lib.Signed.{mag}
+use mir.Syntax.{w16}
+use mir.Val.{SFits}
+use mir.Facts.{sfits-lit}
+use Rattle.octets.specs.Classes.{letter, digit}
+use Rattle.octets.specs.Text.{part}
+use Rattle.octets.proofs.Tables.{at}
+use Rattle.dates.specs.Names.{place, zoneNames, zoneMinutes}
+use Rattle.dates.specs.Parts.{Part, minus}
+use Rattle.dates.specs.Grammar.{numberFrom, number, offsetOf}
+use Rattle.dates.specs.Form.{firstKey, after, done, digitsOf, named, noZone, zoned, zoneNamed, hourAfter, pastDash, yearAfter}
+use Rattle.dates.specs.Steps.{TokenIs, NumberIs, NamedIs, SpotIs}
+use Rattle.dates.specs.declared.parts.Token.{Token}
+use Rattle.dates.specs.declared.form.Offset.the-variants.{Minutes, OutOfRange}
+use Rattle.dates.proofs.PartLaws.{part-cons, part-none, part-length}
+
+-- ---- the value of digits
+
+module _ (text : List ℕ) (v p stop : ℕ) where
+  pub number-step : p < stop → stop ≤ length text → numberFrom v (part text p stop) ≡ numberFrom (v * 10 + (getD text p 0 - 48)) (part text (p + 1) stop)
+  number-step h w = ap (λ (l : List ℕ). numberFrom v l) (part-cons text p stop h w)
+
+  pub number-end : stop ≤ p → numberFrom v (part text p stop) ≡ v
+  number-end h = ap (λ (l : List ℕ). numberFrom v l) (part-none text p stop h)
+
+pub grows : (v x n : ℕ) → v < 1000 ^ n → x < 256 → v * 10 + x < 1000 ^ (n + 1)
+grows v x n h k = let e : 1000 ^ (n + 1) ≡ 1000 ^ n * 1000 = rw add-one (pow-suc 1000 n) in omega arith
+
+pub bounded : (v n k : ℕ) → v < 1000 ^ n → n ≤ k → v < 1000 ^ k
+bounded v n k h l = omega (arith, pow-le-pow-right {n = 1000} (omega arith) l)
+
+-- ---- the first part
+
+module _ {classes text : List ℕ} {l : List Part} {t : Token} (x : TokenIs classes text l t) where
+  pub no-number : (t .key ≡ digit → ⊥) → NumberIs classes text l (record { count = 0; value = 0; at = t .stop; end = t .end })
+  unfolding digitsOf number
+  no-number n =
+      record {
+        count-is = rw (x .key-is, ne-eqb (t .key) digit n);
+        value-is = λ h. rw (x .key-is, ne-eqb (t .key) digit n);
+        small = omega arith;
+        rest-is = x .rest-is;
+        place = x .place;
+      }
+
+  module _ (e : t .key ≡ digit) where
+    digits-are : digitsOf l ≡ part text (t .start) (t .stop)
+    unfolding digitsOf
+    digits-are = rw (x .key-is, eq-eqb (t .key) digit e, x .bytes-are)
+
+    digits-count : length (digitsOf l) ≡ t .stop - t .start
+    digits-count = ap length digits-are ∙ part-length text (t .start) (t .stop) (omega (arith, x .place .order, x .place .inside))
+
+    pub long-number : 6 < t .stop - t .start → NumberIs classes text l (record { count = t .stop - t .start; value = 0; at = t .stop; end = t .end })
+    long-number h =
+        record { count-is = digits-count; value-is = λ k. absurd (omega arith); small = omega arith; rest-is = x .rest-is; place = x .place }
+
+    pub a-number : (v : ℕ) → v ≡ number (part text (t .start) (t .stop)) → v < 1000000000000000000
+        → NumberIs classes text l (record { count = t .stop - t .start; value = v; at = t .stop; end = t .end })
+    a-number v m s =
+        record { count-is = digits-count; value-is = λ k. ap number digits-are ∙ sym m; small = s; rest-is = x .rest-is; place = x .place }
+
+  module _ (names : List (List ℕ)) where
+    pub no-letters : (t .key ≡ letter → ⊥) → (n : ℕ) → length names ≡ n → NamedIs classes text names l (record { place = n; at = t .stop; end = t .end })
+    unfolding named
+    no-letters k n e = record { place-is = rw (x .key-is, ne-eqb (t .key) letter k) e; rest-is = x .rest-is; place = x .place }
+
+    pub a-name : t .key ≡ letter → (n : ℕ) → n ≡ place names (part text (t .start) (t .stop)) → NamedIs classes text names l (record { place = n; at = t .stop; end = t .end })
+    unfolding named
+    a-name k n e = record { place-is = rw (x .key-is, eq-eqb (t .key) letter k, x .bytes-are) (sym e); rest-is = x .rest-is; place = x .place }
+
+  pub dash : t .key ≡ minus → SpotIs classes text (pastDash l) (record { at = t .stop; end = t .end })
+  unfolding pastDash
+  dash e = record { is = rw (x .key-is, eq-eqb (t .key) minus e) (x .rest-is); place = x .place }
+
+  pub no-dash : (t .key ≡ minus → ⊥) → pastDash l ≡ l
+  unfolding pastDash
+  no-dash n = rw (x .key-is, ne-eqb (t .key) minus n)
+
+pub all-done : {l : List Part} → l ≡ [] → done l ≡ true
+unfolding done
+all-done e = rw e
+
+pub not-done : {classes text : List ℕ} {l : List Part} {t : Token} → TokenIs classes text l t → (t .key ≡ 1 → ⊥) → done l ≡ false
+unfolding done firstKey
+not-done {l = []} x n = absurd (n (sym (x .key-is)))
+not-done {l = p ∷ l} x n = refl
+
+-- ---- the zone
+
+module _ (direction : ℕ → ℕ → ℤ) (n : ℕ) where
+  pub hours-out : 23 < n / 100 → OutOfRange ≡ offsetOf direction n
+  unfolding offsetOf
+  hours-out h = rw (lt-leb (n / 100) 23 h)
+
+  pub minutes-out : n / 100 ≤ 23 → 59 < n % 100 → OutOfRange ≡ offsetOf direction n
+  unfolding offsetOf
+  minutes-out h k = rw (le-leb (n / 100) 23 h, lt-leb (n % 100) 59 k)
+
+  pub in-range : n / 100 ≤ 23 → n % 100 ≤ 59 → Minutes (direction (n / 100) (n % 100)) ≡ offsetOf direction n
+  unfolding offsetOf
+  in-range h k = rw (le-leb (n / 100) 23 h, le-leb (n % 100) 59 k)
+
+-- each offset of the table fits
+small : ℕ → ℤ → Bool
+small i z = ltb (mag z) (2 ^ 15)
+
+pub minutes-fit : (i : ℕ) → i < 43 → SFits w16 (getD zoneMinutes i (pos 0))
+unfolding small
+minutes-fit i h = sfits-lit (at small zoneMinutes (pos 0) tt i h)
+
+module _ (l : List Part) (p : ℕ) (e : named zoneNames l ≡ p) where
+  pub no-zone : 43 ≤ p → zoneNamed l ≡ noZone
+  unfolding zoneNamed
+  no-zone h = rw (e, le-ltb p 43 h)
+
+  pub a-zone : p < 43 → (z : ℤ) (r : List Part) → z ≡ getD zoneMinutes p (pos 0) → after l ≡ r → zoneNamed l ≡ zoned (Minutes z) r
+  unfolding zoneNamed
+  a-zone h z r m f = rw (e, lt-ltb p 43 h, m, f)
+
+-- ---- the year
+
+module _ (name day month : ℕ) (l r : List Part) (v : ℕ) (e : number (digitsOf l) ≡ v) (f : after l ≡ r) where
+  pub two-digits : length (digitsOf l) ≡ 2 → hourAfter name day month (v + 1900) r ≡ yearAfter name day month l
+  unfolding yearAfter
+  two-digits h = sym (rw (h, e, f))
+
+  pub four-digits : length (digitsOf l) ≡ 4 → hourAfter name day month v r ≡ yearAfter name day month l
+  unfolding yearAfter
+  four-digits h = sym (rw (h, e, f))

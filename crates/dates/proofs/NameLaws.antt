@@ -1,0 +1,81 @@
+-- The laws of looking up a name in a table. Assumes nothing.
+use mathlib.Core.Path.{_≡_, refl, sym, ap, _∙_}
+use mathlib.Core.Bool.{Bool, true, false}
+use mathlib.Core.List.{List, [], _∷_}
+use Prim.Native.Nat.{ℕ, suc, _+_, _≤_, _<_}
+use native.Mathlib.Nat.{add-zero}
+use native.Mathlib.Numerals.{add-one}
+use native.Mathlib.Omega.{arith}
+use borrow.Author.Tests.{leb-true}
+use lib.Dec.{leb}
+use lib.ListN.{length, drop, getD, take, drop-of-length-le}
+use lib.Seq.{drop-cons, take-all}
+use Rattle.octets.specs.Choice.{pick, both}
+use Rattle.octets.specs.Letters.{sameLetters}
+use Rattle.octets.specs.Text.{part}
+use Rattle.dates.specs.Names.{called, place}
+use Rattle.dates.specs.Steps.{rows, ascend}
+
+-- ---- full, or the first three letters
+
+module _ (full name : List ℕ) where
+  pub full-name : sameLetters name full ≡ true → true ≡ called full name
+  unfolding called
+  full-name e = rw e
+
+  pub short-full : sameLetters name full ≡ false → length full < 3 → false ≡ called full name
+  unfolding called
+  short-full e h = rw (e, take-all 3 full (omega arith), e)
+
+  pub three-letters : sameLetters name full ≡ false → sameLetters name (take 3 full) ≡ called full name
+  unfolding called
+  three-letters e = rw e
+
+-- ---- the rows of a table
+
+pub both-true : (a b : Bool) → both a b ≡ true → (a ≡ true) × (b ≡ true)
+both-true true b e = (refl, e)
+both-true false b e = absurd (let z : _≡_ {A = ℕ} 0 1 = cc in omega arith)
+
+pub length-rows : (text : List ℕ) (start : ℕ) (ends : List ℕ) → length (rows text start ends) ≡ length ends
+unfolding rows
+length-rows text start [] = refl
+length-rows text start (end ∷ ends) = ap suc (length-rows text end ends)
+
+-- a row whose names stand from `start` on
+module _ (size start : ℕ) (ends : List ℕ) (i : ℕ) (h : i < length ends) where
+  here : drop i ends ≡ getD ends i 0 ∷ drop (i + 1) ends
+  here = rw add-one (drop-cons ends i 0 h)
+
+  pub record Row : Type 0 where
+    pub order : start ≤ getD ends i 0
+    pub within : getD ends i 0 ≤ size
+    pub others : ascend size (getD ends i 0) (drop (i + 1) ends) ≡ true
+
+  pub row : ascend size start (drop i ends) ≡ true → Row
+  unfolding ascend
+  row e =
+      let a = both-true (leb start (getD ends i 0)) _ (sym (ap (λ (l : List ℕ). ascend size start l) here) ∙ e) in
+      let b = both-true (leb (getD ends i 0) size) _ (a .1) in
+      record { order = leb-true _ _ (a .0); within = leb-true _ _ (b .0); others = b .1 }
+
+module _ (text : List ℕ) (start : ℕ) (ends name : List ℕ) (i : ℕ) (h : i < length ends) where
+  abbrev from : ℕ → ℕ → ℕ
+  from at j = place (rows text at (drop j ends)) name
+
+  one : from start i ≡ pick (called (part text start (getD ends i 0)) name) 0 (suc (from (getD ends i 0) (i + 1)))
+  unfolding rows place
+  one = ap (λ (l : List ℕ). place (rows text start l) name) (here 0 start ends i h)
+
+  -- the row that is called so
+  pub row-found : called (part text start (getD ends i 0)) name ≡ true → i + from start i ≡ i
+  row-found e = rw (one, e) (add-zero i)
+
+  -- a row that is not
+  pub row-other : called (part text start (getD ends i 0)) name ≡ false → i + from start i ≡ i + 1 + from (getD ends i 0) (i + 1)
+  row-other e = rw (one, e) (omega arith)
+
+-- none is
+pub rows-over : (text : List ℕ) (start : ℕ) (ends name : List ℕ) (i : ℕ) → length ends ≤ i → i + place (rows text start (drop i ends)) name ≡ i
+unfolding rows place
+rows-over text start ends name i h = rw (drop-of-length-le ends h) (add-zero i)

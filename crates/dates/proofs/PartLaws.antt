@@ -1,0 +1,255 @@
+-- The laws of parts: longest runs, and the first part from a place on. Assumes nothing.
+use mathlib.Core.Path.{_≡_, refl, sym, ap, _∙_}
+use mathlib.Core.Bool.{Bool, true, false}
+use mathlib.Core.List.{List, [], _∷_, _++_}
+use Prim.Native.Nat.{ℕ, zero, suc, _+_, _-_, _≤_, _<_}
+use native.Mathlib.Nat.{sub-zero, zero-sub}
+use native.Mathlib.Omega.{arith}
+use native.Mathlib.Numerals.{add-one}
+use lib.Dec.{eqb}
+use lib.ListN.{length, take, drop, getD, length-drop}
+use lib.Seq.{drop-cons, take-nil, take-take, drop-drop, length-take-le}
+use borrow.Author.Tests.{eq-eqb, ne-eqb, eqb-true}
+use denote.Enum.Declared.{tagOf}
+use types.Run.{OneOf, miss}
+use Rattle.octets.specs.Choice.{pick, both}
+use Rattle.octets.specs.Classes.{letter, digit}
+use Rattle.octets.specs.Text.{part}
+use Rattle.scanner.specs.Scanning.{Scanned, ended, faultAt, scanBy}
+use Rattle.scanner.specs.declared.Class.{Class}
+use Rattle.scanner.specs.declared.Class.the-variants.{Atom, Quoted, At, LessThan, GreaterThan, Comma, Semicolon, Colon, Stray}
+use Rattle.scanner.proofs.Class.{the-type}
+use Rattle.scanner.proofs.Meanings.{meaningAt}
+use Rattle.scanner.proofs.Unfolding.{SymbolAt}
+use Rattle.dates.specs.Parts.{Part, otherPart, noPart, comma, colon, plus, minus, isMark, isRun, keyOf, before, runs, partsOf, parts}
+use Rattle.dates.specs.Form.{firstKey, firstBytes, after}
+use Rattle.dates.specs.Steps.{left, span, RunEnds, TokenIs}
+
+-- ---- parts of a text
+
+pub part-cons : (text : List ℕ) (at end : ℕ) → at < end → end ≤ length text → part text at end ≡ getD text at 0 ∷ part text (at + 1) end
+part-cons text at end h k =
+    let n : end - at ≡ suc (end - (at + 1)) = omega arith in
+    rw (n, drop-cons text at 0 (omega arith), add-one)
+
+pub part-none : (text : List ℕ) (at end : ℕ) → end ≤ at → part text at end ≡ []
+part-none text at end h = let n : end - at ≡ 0 = omega arith in rw n
+
+pub part-length : (text : List ℕ) (at end : ℕ) → end ≤ length text → length (part text at end) ≡ end - at
+part-length text at end h = length-take-le (end - at) (drop at text) (omega (arith, length-drop at text))
+
+drop-take : (n m : ℕ) (l : List ℕ) → drop n (take m l) ≡ take (m - n) (drop n l)
+drop-take zero m l = rw sub-zero
+drop-take (suc n) zero l = rw (zero-sub (suc n))
+drop-take (suc n) (suc m) [] = sym (take-nil (suc m - suc n))
+drop-take (suc n) (suc m) (x ∷ l) = let e : suc m - suc n ≡ m - n = omega arith in rw e (drop-take n m l)
+
+part-drop : (text : List ℕ) (at end n : ℕ) → drop n (part text at end) ≡ part text (at + n) end
+part-drop text at end n = let k : end - at - n ≡ end - (at + n) = omega arith in drop-take n (end - at) (drop at text) ∙ rw (drop-drop n at text, k)
+
+part-take : (text : List ℕ) (at end n : ℕ) → at + n ≤ end → take n (part text at end) ≡ part text at (at + n)
+part-take text at end n h = let k : at + n - at ≡ n = omega arith in take-take n (end - at) (drop at text) (omega arith) ∙ rw k
+
+-- ---- keys
+
+module _ (b : ℕ) where
+  pub is-comma : b ≡ comma → true ≡ isMark b
+  unfolding isMark
+  is-comma e = rw (eq-eqb b comma e)
+
+  pub is-colon : (b ≡ comma → ⊥) → b ≡ colon → true ≡ isMark b
+  unfolding isMark
+  is-colon m e = rw (ne-eqb b comma m, eq-eqb b colon e)
+
+  pub is-plus : (b ≡ comma → ⊥) → (b ≡ colon → ⊥) → b ≡ plus → true ≡ isMark b
+  unfolding isMark
+  is-plus m n e = rw (ne-eqb b comma m, ne-eqb b colon n, eq-eqb b plus e)
+
+  pub is-minus : (b ≡ comma → ⊥) → (b ≡ colon → ⊥) → (b ≡ plus → ⊥) → eqb b minus ≡ isMark b
+  unfolding isMark
+  is-minus m n o = rw (ne-eqb b comma m, ne-eqb b colon n, ne-eqb b plus o)
+
+pub run-of-digits : (key : ℕ) → key ≡ digit → true ≡ isRun key
+unfolding isRun
+run-of-digits key e = rw (eq-eqb key digit e)
+
+pub run-of-letters : (key : ℕ) → (key ≡ digit → ⊥) → eqb key letter ≡ isRun key
+unfolding isRun
+run-of-letters key n = rw (ne-eqb key digit n)
+
+module _ (classes : List ℕ) (b : ℕ) where
+  pub key-run : isRun (getD classes b 0) ≡ true → getD classes b 0 ≡ keyOf classes b
+  unfolding keyOf
+  key-run e = rw e
+
+  pub key-mark : isRun (getD classes b 0) ≡ false → isMark b ≡ true → b ≡ keyOf classes b
+  unfolding keyOf
+  key-mark e m = rw (e, m)
+
+  pub key-other : isRun (getD classes b 0) ≡ false → isMark b ≡ false → otherPart ≡ keyOf classes b
+  unfolding keyOf
+  key-other e m = rw (e, m)
+
+-- a byte has a part
+pub some-part : (classes : List ℕ) (b : ℕ) → keyOf classes b ≡ noPart → ⊥
+unfolding keyOf isRun isMark
+some-part classes b e = go (getD classes b 0) (isRun (getD classes b 0)) refl (isMark b) refl e
+  where
+    go : (k : ℕ) (t : Bool) → isRun k ≡ t → (u : Bool) → isMark b ≡ u → pick t k (pick u b otherPart) ≡ noPart → ⊥
+    go k true p u q e = let z : _≡_ {A = Bool} true false = sym p ∙ ap isRun e in let o : _≡_ {A = ℕ} 0 1 = cc in omega arith
+    go k false p true q e = let z : _≡_ {A = Bool} true false = sym q ∙ ap isMark e in let o : _≡_ {A = ℕ} 0 1 = cc in omega arith
+    go k false p false q e = omega arith
+
+-- ---- bytes of one key
+
+module _ (classes : List ℕ) (key : ℕ) (text : List ℕ) (at end : ℕ) where
+  pub span-end : end ≤ at → span classes key (part text at end) ≡ 0
+  unfolding span
+  span-end h = ap (λ (l : List ℕ). span classes key l) (part-none text at end h)
+
+  pub span-other : at < end → end ≤ length text → (keyOf classes (getD text at 0) ≡ key → ⊥) → span classes key (part text at end) ≡ 0
+  unfolding span
+  span-other h w n = ap (λ (l : List ℕ). span classes key l) (part-cons text at end h w) ∙ rw (ne-eqb _ _ n)
+
+  pub span-same : at < end → end ≤ length text → keyOf classes (getD text at 0) ≡ key → span classes key (part text at end) ≡ suc (span classes key (part text (at + 1) end))
+  unfolding span
+  span-same h w n = ap (λ (l : List ℕ). span classes key l) (part-cons text at end h w) ∙ rw (eq-eqb _ _ n)
+
+-- ---- a run and what follows it
+
+module _ (classes : List ℕ) where
+  both-false : (t : Bool) → both t false ≡ false
+  both-false true = refl
+  both-false false = refl
+
+  -- a byte before another key is a part by itself
+  apart : (key b j x : ℕ) (r : List Part) → eqb j key ≡ false → before key b (before j x r) ≡ record { key = key; bytes = b ∷ [] } ∷ before j x r
+  apart key b j x [] e = rw (e, both-false (isRun key))
+  apart key b j x (p ∷ r) e = go (both (isRun j) (eqb (p .key) j))
+    where
+      go : (t : Bool) → before key b (pick t (record { key = j; bytes = x ∷ p .bytes } ∷ r) (record { key = j; bytes = x ∷ [] } ∷ p ∷ r))
+          ≡ record { key = key; bytes = b ∷ [] } ∷ pick t (record { key = j; bytes = x ∷ p .bytes } ∷ r) (record { key = j; bytes = x ∷ [] } ∷ p ∷ r)
+      go true = rw (e, both-false (isRun key))
+      go false = rw (e, both-false (isRun key))
+
+  -- and so is one that forms no runs
+  alone : (key b : ℕ) (r : List Part) → isRun key ≡ false → before key b r ≡ record { key = key; bytes = b ∷ [] } ∷ r
+  alone key b [] e = refl
+  alone key b (p ∷ r) e = rw e
+
+  runs-run : (key b : ℕ) (l : List ℕ) → keyOf classes b ≡ key → isRun key ≡ true
+      → runs classes (b ∷ l) ≡ record { key = key; bytes = b ∷ take (span classes key l) l } ∷ runs classes (drop (span classes key l) l)
+  unfolding runs span
+  runs-run key b [] k e = rw k
+  runs-run key b (x ∷ l) k e = rw k (go (eqb (keyOf classes x) key) refl (λ f. runs-run key x l (eqb-true _ _ f) e))
+    where
+      go : (t : Bool) → eqb (keyOf classes x) key ≡ t
+          → (eqb (keyOf classes x) key ≡ true → runs classes (x ∷ l) ≡ record { key = key; bytes = x ∷ take (span classes key l) l } ∷ runs classes (drop (span classes key l) l))
+          → before key b (runs classes (x ∷ l)) ≡ record { key = key; bytes = b ∷ take (pick t (suc (span classes key l)) 0) (x ∷ l) } ∷ runs classes (drop (pick t (suc (span classes key l)) 0) (x ∷ l))
+      go true f g = ap (λ (r : List Part). before key b r) (g f) ∙ rw (e, eq-eqb key key refl)
+      go false f g = apart key b (keyOf classes x) x (runs classes l) f
+
+-- ---- the first part of the rest of a symbol
+
+module _ (classes text : List ℕ) (at end key : ℕ) (h : at < end) (w : end ≤ length text) (k : keyOf classes (getD text at 0) ≡ key) where
+  -- a first part that ends at `stop`
+  abbrev First : ℕ → Type 0
+  First stop = left classes text at end ≡ record { key = key; bytes = part text at stop } ∷ left classes text stop end
+
+  token : (stop : ℕ) → First stop → at ≤ stop → stop ≤ end → TokenIs classes text (left classes text at end) (record { key = key; start = at; stop = stop; end = end })
+  unfolding firstKey firstBytes after
+  token stop e a b =
+      record {
+        key-is = rw e;
+        bytes-are = rw e;
+        rest-is = rw e;
+        last = λ z. absurd (some-part classes (getD text at 0) (k ∙ z));
+        order = a;
+        place = record { order = b; inside = w };
+      }
+
+  whole : (n : ℕ) → at + 1 + n ≤ end → getD text at 0 ∷ take n (part text (at + 1) end) ≡ part text at (at + 1 + n)
+  whole n l =
+      ap (λ (r : List ℕ). getD text at 0 ∷ r) (part-take text (at + 1) end n l) ∙ sym (part-cons text at (at + 1 + n) (omega arith) (omega arith))
+
+  pub first-run : (stop : ℕ) → isRun key ≡ true → RunEnds classes text (at + 1) end key stop
+      → TokenIs classes text (left classes text at end) (record { key = key; start = at; stop = stop; end = end })
+  unfolding left
+  first-run stop r s =
+      let n = span classes key (part text (at + 1) end) in
+      let l : at + 1 + n ≤ end = omega (arith, s .is, s .within) in
+      token stop
+      (rw
+      (part-cons text at end h w, runs-run classes key (getD text at 0) (part text (at + 1) end) k r, whole n l, part-drop text (at + 1) end n, s .is))
+      (omega (arith, s .from)) (s .within)
+
+  pub first-single : isRun key ≡ false → TokenIs classes text (left classes text at end) (record { key = key; start = at; stop = at + 1; end = end })
+  unfolding left runs
+  first-single r =
+      let one : part text at (at + 1) ≡ getD text at 0 ∷ [] = part-cons text at (at + 1) (omega arith) (omega arith) ∙ rw (part-none text (at + 1) (at + 1) (omega arith)) in
+      token (at + 1) (rw (part-cons text at end h w, k, alone classes key (getD text at 0) (runs classes (part text (at + 1) end)) r, one)) (omega arith) (omega arith)
+
+-- ---- the first part behind a symbol
+
+pub left-here : (classes text : List ℕ) (at end : ℕ) → end ≤ at → left classes text at end ≡ parts classes (scanBy classes text end)
+unfolding left runs
+left-here classes text at end h = rw (part-none text at end h)
+
+-- the parts of a symbol that is no quoted-string are those of its bytes
+unquoted : (classes text : List ℕ) (class : Class) (start end : ℕ) → OneOf (0 ∷ 2 ∷ 3 ∷ 4 ∷ 5 ∷ 6 ∷ 7 ∷ 8 ∷ []) (tagOf the-type class)
+    → partsOf classes class (meaningAt classes text class start end) ≡ runs classes (part text start end)
+unquoted classes text Atom start end o = refl
+unquoted classes text Quoted start end o = absurd (miss (0 ∷ 2 ∷ 3 ∷ 4 ∷ 5 ∷ 6 ∷ 7 ∷ 8 ∷ []) 1 tt o)
+unquoted classes text At start end o = refl
+unquoted classes text LessThan start end o = refl
+unquoted classes text GreaterThan start end o = refl
+unquoted classes text Comma start end o = refl
+unquoted classes text Semicolon start end o = refl
+unquoted classes text Colon start end o = refl
+unquoted classes text Stray start end o = refl
+
+module _ (classes text : List ℕ) (at end : ℕ) (h : end ≤ at) where
+  no-part : end ≤ length text → parts classes (scanBy classes text end) ≡ [] → TokenIs classes text (left classes text at end) (record { key = noPart; start = end; stop = end; end = end })
+  unfolding firstKey firstBytes after
+  no-part w e =
+      let l : left classes text at end ≡ [] = left-here classes text at end h ∙ e in
+      let r : left classes text end end ≡ [] = left-here classes text end end (omega arith) ∙ e in
+      record {
+        key-is = rw l;
+        bytes-are = rw (l, part-none text end end (omega arith));
+        rest-is = rw (l, r);
+        last = λ z. l;
+        order = omega arith;
+        place = record { order = omega arith; inside = w };
+      }
+
+  pub part-ended : end ≤ length text → scanBy classes text end ≡ ended → TokenIs classes text (left classes text at end) (record { key = noPart; start = end; stop = end; end = end })
+  unfolding parts
+  part-ended w e = no-part w (ap (λ (x : Scanned). parts classes x) e)
+
+  pub part-fault : {number p : ℕ} → end ≤ length text → scanBy classes text end ≡ faultAt number p → TokenIs classes text (left classes text at end) (record { key = noPart; start = end; stop = end; end = end })
+  unfolding parts
+  part-fault w e = no-part w (ap (λ (x : Scanned). parts classes x) e)
+
+  pub part-quoted : {start stop : ℕ} → SymbolAt classes text end Quoted start stop
+      → TokenIs classes text (left classes text at end) (record { key = otherPart; start = stop; stop = stop; end = stop })
+  unfolding firstKey firstBytes after parts
+  part-quoted {start} {stop} x =
+      let l : left classes text at end ≡ record { key = otherPart; bytes = [] } ∷ left classes text stop stop =
+      left-here classes text at end h ∙ ap (λ (s : Scanned). parts classes s) (x .same)
+      ∙ ap (λ (r : List Part). record { key = otherPart; bytes = [] } ∷ r) (sym (left-here classes text stop stop (omega arith))) in
+      record {
+        key-is = rw l;
+        bytes-are = rw (l, part-none text stop stop (omega arith));
+        rest-is = rw l;
+        last = λ z. absurd (omega arith);
+        order = omega arith;
+        place = record { order = omega arith; inside = x .within };
+      }
+
+  pub part-unquoted : {class : Class} {start stop : ℕ} → SymbolAt classes text end class start stop → OneOf (0 ∷ 2 ∷ 3 ∷ 4 ∷ 5 ∷ 6 ∷ 7 ∷ 8 ∷ []) (tagOf the-type class)
+      → left classes text at end ≡ left classes text start stop
+  unfolding left parts
+  part-unquoted {class} {start} {stop} x o =
+      left-here classes text at end h ∙ ap (λ (s : Scanned). parts classes s) (x .same)
+      ∙ ap (λ (r : List Part). r ++ parts classes (scanBy classes text stop)) (unquoted classes text class start stop o)

@@ -1,0 +1,44 @@
+-- `dates::calendar::month_length` meets its contract. Assumes nothing.
+use borrow.Author.Needs.{needs}
+use mathlib.Core.Path.{sym, _∙_}
+use mathlib.Core.Bool.{true, false}
+use Rattle.dates.proofs.CalendarLaws.{length-of, no-month}
+use Rattle.dates.proofs.calendar.month_length.Statement.{statement}
+use Rattle.dates.proofs.calendar.month_length.Tie as tie
+
+returns : tie.Need-returns
+returns c = no-month (c .before .args .year) (c .before .args .month) (c .if1 .taken)
+
+is-leap-requires : tie.Need-is-leap-requires
+is-leap-requires c κs = search needs
+
+mul-result : tie.Need-mul-result
+mul-result c = search needs
+
+array-read-result : tie.Need-array-read-result
+array-read-result c = search needs
+
+mul-result-2 : tie.Need-mul-result-2
+mul-result-2 c = search needs
+
+array-read-result-2 : tie.Need-array-read-result-2
+array-read-result-2 c = search needs
+
+returns-2 : tie.Need-returns-2
+returns-2 c = length-of (c .before .before .before .args .year) (c .before .before .before .args .month) true (sym (c .before .is-leap .ensures) ∙ c .if2 .taken)
+
+returns-3 : tie.Need-returns-3
+returns-3 c = length-of (c .before .before .before .args .year) (c .before .before .before .args .month) false (sym (c .before .is-leap .ensures) ∙ c .if2 .left)
+
+pub month-length-spec : {M : Type 1} → statement M
+month-length-spec =
+    tie.close
+    (tie.spec
+    returns
+    is-leap-requires
+    mul-result
+    array-read-result
+    mul-result-2
+    array-read-result-2
+    returns-2
+    returns-3)

@@ -1,0 +1,49 @@
+-- `dates::form::read_number` meets its contract. Assumes nothing.
+use borrow.Author.Needs.{needs}
+use native.Mathlib.Omega.{arith}
+use Rattle.dates.proofs.FormLaws.{no-number, long-number, a-number}
+use Rattle.dates.proofs.form.read_number.Statement.{statement}
+use Rattle.dates.proofs.form.read_number.Tie as tie
+
+next-part-requires : tie.Need-next-part-requires
+next-part-requires c κs = search needs
+
+returns : tie.Need-returns
+returns c = no-number (c .before .before .next-part .ensures) (c .if1 .taken)
+
+sub-if2 : tie.Need-sub-if2
+sub-if2 c = c .before .before .next-part .ensures .order
+
+sub-t11 : tie.Need-sub-t11
+sub-t11 c = c .before .before .before .next-part .ensures .order
+
+returns-2 : tie.Need-returns-2
+returns-2 c = long-number (c .before .before .before .next-part .ensures) (c .before .if1 .left) (omega arith)
+
+value-requires : tie.Need-value-requires
+value-requires c κs =
+    let next-part = c .before .before .before .next-part in
+    let x = next-part .ensures in
+    (x .order, omega arith, omega (arith, x .place .order, x .place .inside))
+
+sub-t10 : tie.Need-sub-t10
+sub-t10 c = c .before .before .before .before .next-part .ensures .order
+
+returns-3 : tie.Need-returns-3
+returns-3 c =
+    let next-part = c .before .before .before .before .next-part in
+    let if1 = c .before .before .if1 in
+    a-number (next-part .ensures) (if1 .left) (c .value .result) (c .value .ensures .0) (c .value .ensures .1)
+
+pub read-number-spec : {M : Type 1} → statement M
+read-number-spec =
+    tie.close
+    (tie.spec
+    next-part-requires
+    returns
+    sub-if2
+    sub-t11
+    returns-2
+    value-requires
+    sub-t10
+    returns-3)

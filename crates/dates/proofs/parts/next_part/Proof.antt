@@ -1,0 +1,80 @@
+-- `dates::parts::next_part` meets its contract. Assumes nothing.
+use borrow.Author.Needs.{needs}
+use Rattle.scanner.proofs.Unfolding.{SymbolAt, found, found-end, found-fault}
+use Rattle.dates.proofs.PartLaws.{part-ended, part-fault, part-quoted, part-unquoted}
+use Rattle.dates.proofs.parts.next_part.Statement.{statement}
+use Rattle.dates.proofs.parts.next_part.Tie as tie
+
+-- the symbol that was found
+found-symbol : (c : tie.After-class) → (let f = c .class .given .0 in let a = c .before .before .before .before .before .args in SymbolAt (a .classes .now) (a .text .now) (a .end) (f .0) (f .1 .0) (f .1 .1 .0))
+found-symbol c = let a = c .before .before .before .before .before .args in found (a .classes .now) (a .text .now) (a .end) (rw (c .class .given .1) at (c .before .before .next-by .ensures))
+
+first-part-requires : tie.Need-first-part-requires
+first-part-requires c κs = search needs
+
+returns : tie.Need-returns
+returns c = search needs
+
+next-by-requires : tie.Need-next-by-requires
+next-by-requires c κs = search needs
+
+enum-known-class : tie.Need-enum-known-class
+enum-known-class c = search needs
+
+enum-told : tie.Need-enum-told
+enum-told c = search needs
+
+first-part-requires-2 : tie.Need-first-part-requires-2
+first-part-requires-2 c κs = let x = found-symbol (c .before .before) in (x .starts, x .within)
+
+enum-told-2 : tie.Need-enum-told-2
+enum-told-2 c = search needs
+
+enum-told-3 : tie.Need-enum-told-3
+enum-told-3 c = search needs
+
+returns-2 : tie.Need-returns-2
+returns-2 c =
+    let a = c .before .before .before .before .before .before .before .before .args in
+    let if1 = c .before .before .before .before .before .before .if1 in
+    part-quoted (a .classes .now) (a .text .now) (a .at) (a .end) (if1 .left) (rw (c .enum-told .given .1) at (found-symbol (c .before .before .before)))
+
+returns-3 : tie.Need-returns-3
+returns-3 c =
+    let a = c .before .before .before .before .before .before .before .before .args in
+    let if1 = c .before .before .before .before .before .before .if1 in
+    let match2′ = c .before .match2 in
+    rw (part-unquoted (a .classes .now) (a .text .now) (a .at) (a .end) (if1 .left) (found-symbol (c .before .before .before)) (match2′ .keys2)) (c .first-part2 .ensures)
+
+returns-4 : tie.Need-returns-4
+returns-4 c =
+    let a = c .before .before .before .before .before .args in
+    let p = c .before .before .before .before .before .pre in
+    let if1 = c .before .before .before .if1 in
+    let next-by = c .before .before .next-by in
+    part-ended (a .classes .now) (a .text .now) (a .at) (a .end) (if1 .left) (p .inside) (found-end (a .classes .now) (a .text .now) (a .end) (rw (c .enum-told2 .given .1) at (next-by .ensures)))
+
+returns-5 : tie.Need-returns-5
+returns-5 c =
+    let a = c .before .before .before .before .before .args in
+    let p = c .before .before .before .before .before .pre in
+    let if1 = c .before .before .before .if1 in
+    let next-by = c .before .before .next-by in
+    part-fault (a .classes .now) (a .text .now) (a .at) (a .end) (if1 .left) (p .inside) (found-fault (a .classes .now) (a .text .now) (a .end) (rw (c .enum-told3 .given .1) at (next-by .ensures)))
+
+pub next-part-spec : {M : Type 1} → statement M
+next-part-spec =
+    tie.close
+    (tie.spec
+    first-part-requires
+    returns
+    next-by-requires
+    enum-known-class
+    enum-told
+    first-part-requires-2
+    enum-told-2
+    enum-told-3
+    returns-2
+    returns-3
+    returns-4
+    returns-5)
