@@ -5,6 +5,7 @@ set -u
 cd "$(dirname "$0")/.." || exit 2
 bad=0
 seen=0
+unfit='error\[|: error: .*(that can be named from here|is not in scope|has no `Need-)'
 for edit in crates/*/must-fail/*.edit; do
     crate=$(basename "$(dirname "$(dirname "$edit")")")
     log=target/must-fail/$crate/$(basename "$edit" .edit)/.log
@@ -14,9 +15,10 @@ for edit in crates/*/must-fail/*.edit; do
         continue
     fi
     seen=$((seen + 1))
-    if grep -qE 'that can be named from here|is not in scope|error\[' "$log"; then
+    # only the refusal itself counts: its explanation may say that a name is not in scope where it is printed
+    if grep -qE "$unfit" "$log"; then
         echo "$edit: a name does not resolve, which shows nothing of the contract:"
-        grep -m1 -E 'that can be named from here|is not in scope|error\[' "$log" | cut -c1-300
+        grep -m1 -E "$unfit" "$log" | cut -c1-300
         bad=1
     fi
 done
