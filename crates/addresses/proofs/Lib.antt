@@ -11,3 +11,4 @@ pub mod ListLaws
 pub mod NamedLaws
 pub mod WholeLaws
 pub mod Judgements
+pub mod BodyRecords

@@ -6,17 +6,27 @@ use octets::classes::CLASSES;
 use octets::numbers::MESSAGE_LIMIT;
 use scanner::Next;
 
-// One of the two lent bodies itself, whole: From's where Reply-To's holds no symbol and no fault, else Reply-To's. It refuses nothing.
-pub fn reply_body<'a>(reply: &'a [u8], from: &'a [u8]) -> &'a [u8]
-    ensures { λ r. ⌜ r ≡ pick (leftForFrom (now (reply .entry))) (from .entry) (reply .entry) ⌝ }
+// Whether a Reply-To body is left for From's: at most as long as a message, with no symbol and no fault.
+pub fn left_for_from(reply: &[u8]) -> bool
+    ensures { λ r. ⌜ r ≡ leftForFrom (now (reply .entry)) ⌝ }
 {
     if MESSAGE_LIMIT < reply.len() {
-        return reply;
+        return false;
     }
     let classes = &CLASSES;
     match scanner::next_by(classes, reply, 0) {
-        Next::Ended => from,
-        Next::Found(_, _, _) => reply,
-        Next::Fault(_, _) => reply,
+        Next::Ended => true,
+        Next::Found(_, _, _) => false,
+        Next::Fault(_, _) => false,
     }
+}
+
+// One of the two lent bodies itself, whole: From's where Reply-To's is left for it, else Reply-To's. It refuses nothing.
+pub fn reply_body<'a>(reply: &'a [u8], from: &'a [u8]) -> &'a [u8]
+    ensures { λ r. ⌜ r ≡ pick (leftForFrom (now (reply .entry))) (from .entry) (reply .entry) ⌝ }
+{
+    if left_for_from(reply) {
+        return from;
+    }
+    reply
 }

@@ -1,56 +1,23 @@
 -- `reply::reply_body` meets its contract. Assumes nothing.
 use borrow.Author.Needs.{needs}
-use mathlib.Core.List.{List}
-use native.Mathlib.Omega.{arith}
-use Prim.Native.Nat.{ℕ}
-use Rattle.octets.specs.Classes.{classOf, classTable}
-use Rattle.scanner.proofs.Unfolding.{found, found-end, found-fault}
-use Rattle.reply.proofs.ReplyLaws.{too-long, nothing, a-symbol, a-fault}
+use mathlib.Core.Path.{_≡_, sym, _∙_}
+use mathlib.Core.Bool.{Bool, true, false}
+use Rattle.reply.specs.Reply.{leftForFrom}
 use Rattle.reply.proofs.reply_body.Statement.{statement}
 use Rattle.reply.proofs.reply_body.Tie as tie
 
+left-for-from-requires : tie.Need-left-for-from-requires
+left-for-from-requires c κs = search needs
+
 returns : tie.Need-returns
-returns c = rw (too-long (c .before .before .before .args .reply .now) (omega arith))
-
-next-by-requires : tie.Need-next-by-requires
-next-by-requires c κs = search needs
-
-enum-told : tie.Need-enum-told
-enum-told c = search needs
-
-enum-told-2 : tie.Need-enum-told-2
-enum-told-2 c = search needs
-
-enum-told-3 : tie.Need-enum-told-3
-enum-told-3 c = search needs
+returns c =
+    let e : leftForFrom (c .before .before .before .before .args .reply .now) ≡ true = sym (c .before .left-for-from .ensures) ∙ c .if1 .taken in
+    rw e
 
 returns-2 : tie.Need-returns-2
-unfolding classTable classOf
 returns-2 c =
-    let reply : List ℕ = c .before .before .before .before .before .before .before .args .reply .now in
-    rw (nothing reply (omega arith) (found-end classTable reply 0 (rw (c .enum-told .given .1) at (c .before .before .next-by .ensures))))
-
-returns-3 : tie.Need-returns-3
-unfolding classTable classOf
-returns-3 c =
-    let reply : List ℕ = c .before .before .before .before .before .before .before .args .reply .now in
-    rw (a-symbol reply (omega arith) (found classTable reply 0 (rw (c .enum-told2 .given .1) at (c .before .before .next-by .ensures)) .same))
-
-returns-4 : tie.Need-returns-4
-unfolding classTable classOf
-returns-4 c =
-    let reply : List ℕ = c .before .before .before .before .before .before .before .args .reply .now in
-    rw (a-fault reply (omega arith) (found-fault classTable reply 0 (rw (c .enum-told3 .given .1) at (c .before .before .next-by .ensures))))
+    let e : leftForFrom (c .before .before .before .before .args .reply .now) ≡ false = sym (c .before .left-for-from .ensures) ∙ c .if1 .left in
+    rw e
 
 pub reply-body-spec : {M : Type 1} → statement M
-reply-body-spec =
-    tie.close
-    (tie.spec
-    returns
-    next-by-requires
-    enum-told
-    enum-told-2
-    enum-told-3
-    returns-2
-    returns-3
-    returns-4)
+reply-body-spec = tie.close (tie.spec left-for-from-requires returns returns-2)

@@ -1,0 +1,29 @@
+/* Prints the records of the address list given as the first argument, and the list written plainly. */
+#include <stdio.h>
+#include <string.h>
+
+#include "rfc733.h"
+
+static unsigned two(const uint8_t *table, size_t at) { return table[at] * 256u + table[at + 1]; }
+
+int main(int argc, char **argv) {
+    const char *list = argc > 1 ? argv[1] : "Cooks: Childs at WGBH;, \"Al\"";
+    const uint8_t *body = (const uint8_t *)list;
+    size_t length = strlen(list);
+    static uint8_t table[12 * 2048], text[65536];
+    uint64_t told[3];
+    rfc733_addresses(body, length, 0, length, table, sizeof table, told, 3);
+    if (told[0] != 0) {
+        printf("refused %u %u\n", (unsigned)told[0], (unsigned)told[1]);
+        return 1;
+    }
+    for (size_t i = 0; i < told[2]; i++) {
+        const uint8_t *record = table + 12 * i;
+        printf("address %u %u %u %u %u %u %u  %.*s\n", record[0], record[1], two(record, 2), two(record, 4),
+               two(record, 6), two(record, 8), two(record, 10), (int)(two(record, 10) - two(record, 8)),
+               list + two(record, 8));
+    }
+    rfc733_plain(body, length, 0, length, text, sizeof text, told, 3);
+    if (told[0] == 0) printf("plain %.*s\n", (int)told[2], text);
+    return 0;
+}

@@ -1,0 +1,34 @@
+-- Answers as numbers: in a lent array, and as the value of a function.
+use Prim.Native.Nat.{ℕ}
+use mathlib.Core.List.{List, [], _∷_}
+use lib.Seq.{sets}
+use Rattle.octets.specs.Choice.{pick}
+use Rattle.octets.specs.Answers.{numberOf, positionOf, countOf}
+use Rattle.octets.specs.declared.answers.Answer.{Answer}
+use Rattle.header.specs.declared.names.Known.{Known}
+use Rattle.header.specs.declared.names.Known.the-variants.{Date, From, ReplyTo, To, Cc, Bcc, Other}
+use Rattle.dates.specs.Answers as date
+use Rattle.dates.specs.declared.DateAnswer.{DateAnswer}
+use Rattle.reply.specs.Reply.{leftForFrom}
+
+-- a lent array afterwards: the number, position and count at its front, as far as it reaches
+abbrev pub told : List ℕ → Answer → List ℕ
+told lent answer = sets lent 0 (numberOf answer ∷ positionOf answer ∷ countOf answer ∷ [])
+
+-- the same of a date's answer
+abbrev pub toldDate : List ℕ → DateAnswer → List ℕ
+toldDate lent answer = sets lent 0 (date.numberOf answer ∷ date.positionOf answer ∷ date.countOf answer ∷ [])
+
+-- the place of a known name in document 01's order, from 1; 0 for any other name
+abbrev pub knownNumber : Known → ℕ
+knownNumber Date = 1
+knownNumber From = 2
+knownNumber ReplyTo = 3
+knownNumber To = 4
+knownNumber Cc = 5
+knownNumber Bcc = 6
+knownNumber Other = 0
+
+-- which of the two bodies to reply to: 0 for Reply-To's, 1 for From's
+abbrev pub replyNumber : List ℕ → ℕ
+replyNumber reply = pick (leftForFrom reply) 1 0

@@ -1,0 +1,133 @@
+// The libraries for C: lent memory is a pointer with a length, and answers are numbers. Each function refuses as the library does.
+//
+// `told` is an array of three: an answer's number, position and count. Of a shorter one the front is filled.
+ghost use mathlib.Core.Path.{_≡_};
+ghost use mathlib.Core.List.{_∷_, []};
+ghost use lib.ListN.{set};
+ghost use lib.Seq.{sets};
+ghost use Rattle.octets.specs.Choice.{pick};
+ghost use Rattle.scanner.specs.Answers.{bodyScanned};
+ghost use Rattle.header.specs.Names.{knownOf};
+ghost use Rattle.header.specs.Split.{splitAnswer, splitTable};
+ghost use Rattle.addresses.specs.Outcome.{outcome};
+ghost use Rattle.dates.specs.Answers.{dateAnswer, valueOf};
+ghost use Rattle.plain.specs.Written.{plainOutcome};
+ghost use Rattle.capi.specs.Told.{told, toldDate, knownNumber, replyNumber};
+use header::names::Known;
+use octets::answers::Answer;
+
+// A number at a place of an array; past the end nothing is stored.
+fn put(array: &mut [u64], at: usize, n: u64)
+    ensures { λ _. ⌜ now (array .exit) ≡ set (now (array .entry)) at n ⌝ }
+{
+    if at < array.len() {
+        array[at] = n;
+    }
+}
+
+// Three numbers at the front of an array.
+fn put_three(array: &mut [u64], number: u8, position: usize, count: usize)
+    ensures { λ _. ⌜ now (array .exit) ≡ sets (now (array .entry)) 0 (number ∷ position ∷ count ∷ []) ⌝ }
+{
+    put(array, 0, number as u64);
+    put(array, 1, position as u64);
+    put(array, 2, count as u64);
+}
+
+// The number, position and count of an answer.
+fn tell(array: &mut [u64], answer: Answer)
+    ensures { λ _. ⌜ now (array .exit) ≡ told (now (array .entry)) answer ⌝ }
+{
+    let number = octets::answers::number(answer);
+    let position = octets::answers::position(answer);
+    put_three(array, number, position, octets::answers::count(answer));
+}
+
+// Split a message into fields: records of 8 bytes in the table.
+#[no_mangle]
+pub extern "C" fn rfc733_split(message: &[u8], table: &mut [u8], array: &mut [u64])
+    ensures { λ _. ⌜ (now (table .exit) ≡ splitTable (now (message .entry)) (now (table .entry))) × (now (array .exit) ≡ told (now (array .entry)) (splitAnswer (now (message .entry)) (now (table .entry)))) ⌝ }
+{
+    tell(array, header::fields::split(message, table));
+}
+
+// Which known field name a name is: 1 Date, 2 From, 3 Reply-To, 4 To, 5 cc, 6 Bcc, 0 any other.
+#[no_mangle]
+pub extern "C" fn rfc733_known_name(name: &[u8]) -> u32
+    ensures { λ r. ⌜ r ≡ knownNumber (knownOf (now (name .entry))) ⌝ }
+{
+    match header::names::known_name(name) {
+        Known::Date => 1,
+        Known::From => 2,
+        Known::ReplyTo => 3,
+        Known::To => 4,
+        Known::Cc => 5,
+        Known::Bcc => 6,
+        Known::Other => 0,
+    }
+}
+
+// Scan the body of a message from start up to end: accepted, or its first fault.
+#[no_mangle]
+pub extern "C" fn rfc733_scan(message: &[u8], start: usize, end: usize, array: &mut [u64])
+    ensures { λ _. ⌜ now (array .exit) ≡ told (now (array .entry)) (bodyScanned (now (message .entry)) start end) ⌝ }
+{
+    tell(array, scanner::scan_body(message, start, end));
+}
+
+// Read the address list in the body of a message from start up to end: records of 12 bytes in the table.
+#[no_mangle]
+pub extern "C" fn rfc733_addresses(
+    message: &[u8],
+    start: usize,
+    end: usize,
+    table: &mut [u8],
+    array: &mut [u64],
+)
+    ensures { λ _. ⌜ (now (table .exit) ≡ outcome (now (message .entry)) start end (now (table .entry)) .table) × (now (array .exit) ≡ told (now (array .entry)) (outcome (now (message .entry)) start end (now (table .entry)) .answer)) ⌝ }
+{
+    tell(array, addresses::read_addresses(message, start, end, table));
+}
+
+// Read the date in the body of a message from start up to end: seconds from 1 January 1900, 00:00 GMT, and 0 with a refusal.
+#[no_mangle]
+pub extern "C" fn rfc733_date(
+    message: &[u8],
+    start: usize,
+    end: usize,
+    array: &mut [u64],
+    value: &mut i64,
+)
+    ensures { λ _. ⌜ (now (array .exit) ≡ toldDate (now (array .entry)) (dateAnswer (now (message .entry)) start end)) × (now (value .exit) ≡ valueOf (dateAnswer (now (message .entry)) start end)) ⌝ }
+{
+    let answer = dates::read_date(message, start, end);
+    put_three(
+        array,
+        dates::number(answer),
+        dates::position(answer),
+        dates::count(answer),
+    );
+    *value = dates::value(answer);
+}
+
+// Write plainly the address list in the body of a message from start up to end.
+#[no_mangle]
+pub extern "C" fn rfc733_plain(
+    message: &[u8],
+    start: usize,
+    end: usize,
+    text: &mut [u8],
+    array: &mut [u64],
+)
+    ensures { λ _. ⌜ (now (text .exit) ≡ plainOutcome (now (message .entry)) start end (now (text .entry)) .table) × (now (array .exit) ≡ told (now (array .entry)) (plainOutcome (now (message .entry)) start end (now (text .entry)) .answer)) ⌝ }
+{
+    tell(array, plain::write_plain(message, start, end, text));
+}
+
+// Which of two bodies to reply to: 0 for Reply-To's, 1 for From's.
+#[no_mangle]
+pub extern "C" fn rfc733_reply(reply: &[u8], from: &[u8]) -> u32
+    ensures { λ r. ⌜ r ≡ replyNumber (now (reply .entry)) ⌝ }
+{
+    if reply::left_for_from(reply) { 1 } else { 0 }
+}

@@ -1,0 +1,55 @@
+/* Reading mail headers in the form of RFC 733.
+ *
+ * Memory is lent as a pointer and a length; nothing is kept. A pointer may not be null, not even with the length 0.
+ * The lent parts of one call may not overlap. `told` is an array of three: the answer's number, position and count;
+ * of a shorter one the front is filled. A refusal changes no byte of a table or text.
+ *
+ * Numbers: 0 accepted; 1 message over 32,768 bytes; 2 fault in a field name; 3 byte above 127; 4 header ends without CRLF;
+ * 5 quoted-string not closed; 6 comment not closed; 7 stray control byte; 8 no list goes on with this symbol;
+ * 9 body ends too soon; 10 level 65 opened; 11 too little room, the count says what is needed; 12 date of wrong form;
+ * 13 positions out of order; 14 date of right form, impossible.
+ */
+#ifndef RFC733_H
+#define RFC733_H
+
+#include <stddef.h>
+#include <stdint.h>
+
+#ifdef __cplusplus
+extern "C" {
+#endif
+
+/* The fields of a message: records of 8 bytes in the table, two bytes each, high byte first:
+ * name start, name end, body start, body end. The count is the number of fields. */
+void rfc733_split(const uint8_t *message, size_t message_length, uint8_t *table, size_t table_length,
+                  uint64_t *told, size_t told_length);
+
+/* Which known field name a name is, case ignored: 1 Date, 2 From, 3 Reply-To, 4 To, 5 cc, 6 Bcc; 0 any other. */
+uint32_t rfc733_known_name(const uint8_t *name, size_t name_length);
+
+/* Scans the body of a message from start up to end: accepted, or its first fault. The count is 0. */
+void rfc733_scan(const uint8_t *message, size_t message_length, size_t start, size_t end,
+                 uint64_t *told, size_t told_length);
+
+/* The address list in the body of a message from start up to end: records of 12 bytes in the table: kind (1 mailbox,
+ * 2 angle list, 3 group, 4 quoted-string, 5 Include, 6 Postal, 7 other typed), depth, then two bytes each, high byte
+ * first: parent's record number plus 1 or 0, start, end, name start, name end. The count is the number of addresses. */
+void rfc733_addresses(const uint8_t *message, size_t message_length, size_t start, size_t end,
+                      uint8_t *table, size_t table_length, uint64_t *told, size_t told_length);
+
+/* The date in the body of a message from start up to end: seconds from 1 January 1900, 00:00 GMT; 0 with a refusal. */
+void rfc733_date(const uint8_t *message, size_t message_length, size_t start, size_t end,
+                 uint64_t *told, size_t told_length, int64_t *seconds);
+
+/* Writes plainly the address list in the body of a message from start up to end. The count is the text's length. */
+void rfc733_plain(const uint8_t *message, size_t message_length, size_t start, size_t end,
+                  uint8_t *text, size_t text_length, uint64_t *told, size_t told_length);
+
+/* Which of two bodies to reply to: 0 for Reply-To's, 1 for From's. */
+uint32_t rfc733_reply(const uint8_t *reply, size_t reply_length, const uint8_t *from, size_t from_length);
+
+#ifdef __cplusplus
+}
+#endif
+
+#endif

@@ -1,0 +1,89 @@
+"""Reading mail headers in the form of RFC 733, over the shared library that ./build-library makes.
+
+Positions count bytes from the start of the bytes given, from 0; every end is the position after the last byte.
+"""
+import ctypes
+import pathlib
+from collections import namedtuple
+
+Field = namedtuple("Field", "name_start name_end body_start body_end")
+Address = namedtuple("Address", "kind depth parent start end name_start name_end")
+
+_PATH = pathlib.Path(__file__).resolve().parent.parent / "target/lib/librfc733.so"
+_library = None
+
+
+class Refused(ValueError):
+    """A refusal: `number` and `place` are those of the table of answer numbers in the README."""
+
+    def __init__(self, number, place):
+        super().__init__(f"refused {number} at {place}")
+        self.number, self.place = number, place
+
+
+def _load():
+    global _library
+    if _library is None:
+        if not _PATH.exists():
+            raise RuntimeError("the shared library is not built: run ./build-library first")
+        _library = ctypes.CDLL(str(_PATH))
+    return _library
+
+
+def _lent(data):
+    """Bytes as a pointer and a length."""
+    return ctypes.create_string_buffer(bytes(data), len(data) + 1), ctypes.c_size_t(len(data))
+
+
+def _call(name, data, positions, room):
+    """The answer of a function that writes into a part of `room` bytes, and the part."""
+    told = (ctypes.c_uint64 * 3)()
+    part = ctypes.create_string_buffer(room + 1)
+    places = [ctypes.c_size_t(p) for p in positions]
+    getattr(_load(), name)(*_lent(data), *places, part, ctypes.c_size_t(room), told, ctypes.c_size_t(3))
+    return told, part.raw
+
+
+def _written(name, data, positions, size):
+    """What a function writes, in parts of `size` bytes: asked once for the count, and then with room for it."""
+    told, part = _call(name, data, positions, 0)
+    if told[0] == 11:
+        told, part = _call(name, data, positions, told[2] * size)
+    if told[0] != 0:
+        raise Refused(told[0], told[1])
+    return part[: told[2] * size]
+
+
+def _two(record, at):
+    return record[at] * 256 + record[at + 1]
+
+
+def fields(message):
+    """The fields of a message, in order, as `Field` positions. Raises `Refused`."""
+    table = _written("rfc733_split", message, (), 8)
+    return [Field(*(_two(table, at + i) for i in (0, 2, 4, 6))) for at in range(0, len(table), 8)]
+
+
+def addresses(body):
+    """The addresses of a list, in order, as `Address` records. Raises `Refused`.
+
+    kind: 1 mailbox, 2 angle list, 3 group, 4 quoted-string, 5 Include, 6 Postal, 7 other typed.
+    parent: the place in the list, from 1, of the address it lies in; 0 where it lies in none.
+    """
+    table = _written("rfc733_addresses", body, (0, len(body)), 12)
+    return [Address(table[at], table[at + 1], *(_two(table, at + i) for i in (2, 4, 6, 8, 10))) for at in range(0, len(table), 12)]
+
+
+def plain(body):
+    """An address list written plainly, as bytes. Raises `Refused`."""
+    return _written("rfc733_plain", body, (0, len(body)), 1)
+
+
+def date(body):
+    """A date as seconds from 1 January 1900, 00:00 GMT. Raises `Refused`."""
+    told = (ctypes.c_uint64 * 3)()
+    seconds = ctypes.c_int64()
+    _load().rfc733_date(*_lent(body), ctypes.c_size_t(0), ctypes.c_size_t(len(body)), told, ctypes.c_size_t(3), ctypes.byref(seconds))
+    if told[0] != 0:
+        raise Refused(told[0], told[1])
+    return seconds.value

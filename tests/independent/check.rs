@@ -1,0 +1,238 @@
+//! Tests the second reader by itself on the examples of the page of rules.
+
+mod reader;
+
+use reader::Told;
+
+struct Tally {
+    run: u32,
+    failed: u32,
+}
+
+impl Tally {
+    fn same<T: PartialEq + std::fmt::Debug>(&mut self, what: &str, got: T, wanted: T) {
+        self.run += 1;
+        if got != wanted {
+            self.failed += 1;
+            println!("{what}: got {got:?}, wanted {wanted:?}");
+        }
+    }
+}
+
+fn told(number: u64, position: u64, count: u64) -> Told {
+    Told { number, position, count }
+}
+
+/// Reads a body that is a whole message, with much room.
+fn list(body: &[u8]) -> (Told, Vec<u8>) {
+    let mut table = vec![0; 12 * 20_000];
+    let answer = reader::addresses(body, 0, body.len(), &mut table);
+    table.truncate(if answer.number == 0 { 12 * answer.count as usize } else { 0 });
+    (answer, table)
+}
+
+/// Kind and depth of each record.
+fn kinds(body: &[u8]) -> Vec<(u8, u8)> {
+    list(body).1.chunks(12).map(|record| (record[0], record[1])).collect()
+}
+
+fn plain(body: &[u8]) -> Vec<u8> {
+    let mut text = vec![0; 200_000];
+    let answer = reader::plain(body, 0, body.len(), &mut text);
+    text.truncate(answer.count as usize);
+    text
+}
+
+fn date(body: &str) -> (u64, i64) {
+    let (answer, value) = reader::date(body.as_bytes(), 0, body.len());
+    (answer.number, value)
+}
+
+/// The thirteen checked examples.
+fn checked_examples(tally: &mut Tally) {
+    tally.same("1", list(b""), (told(0, 0, 0), vec![]));
+    tally.same("2", list(b",,"), (told(0, 0, 0), vec![]));
+    let mailbox = vec![1, 0, 0, 0, 0, 0, 0, 17, 0, 0, 0, 6];
+    tally.same("3", list(b"Neuman@BBN-TENEXA"), (told(0, 0, 1), mailbox));
+    tally.same("4", list(b"x").0, told(9, 1, 0));
+    tally.same("5", kinds(b"\"x\""), vec![(4, 0)]);
+    tally.same("6", list(b"a at b c").0, told(8, 7, 0));
+    tally.same("7", list(b":A:;;").0, told(8, 3, 0));
+    tally.same("8", kinds(b":,A:;;"), vec![(3, 0), (3, 1)]);
+    tally.same("9", list(b":A: :B: x at H;;").0, told(8, 14, 0));
+    tally.same("10", list(b"<a at b").0, told(9, 7, 0));
+    tally.same("11", date("Monday, 21 Nov 77 1430-EST"), (0, 2_457_977_400));
+    tally.same("12", date("1 Jan 1900 0000 +0100"), (0, -3_600));
+    tally.same("13", date("1 Jan 1900 0000 A"), (0, 3_600));
+}
+
+/// The examples that are run by a program.
+fn run_examples(tally: &mut Tally) {
+    let nest = |n: usize| ["<".repeat(n), ">".repeat(n)].concat();
+    tally.same("64 levels", list(nest(64).as_bytes()).0, told(0, 0, 64));
+    tally.same("65 levels", list(nest(65).as_bytes()).0, told(10, 64, 0));
+    tally.same("open quote", list(b"\"ab").0, told(5, 0, 0));
+    tally.same("open comment", list(b"(").0, told(6, 0, 0));
+    tally.same("wrong day name", date("Tue, 21 Nov 77 1430-EST"), (14, 0));
+    tally.same("29 Feb 1900", date("29 Feb 1900 0000 Z"), (14, 0));
+    tally.same("zone J", date("1 Jan 1900 0000 J"), (12, 0));
+    let gourmets = b"Gourmets: Pompous Person <WhoZiWhatZit at Cordon-Bleu>,\r\n \
+        Cooks: Childs at WGBH, Galloping Gourmet at\r\n ANT \
+        (Australian National Television);,\r\n \
+        Wine Lovers: Cheapie at Discount-Liquors,\r\n Port at Portugal;;,\r\n Jones at SEA";
+    let depths: Vec<u8> = kinds(gourmets).iter().map(|k| k.1).collect();
+    tally.same("Gourmets", depths, vec![0, 1, 2, 1, 2, 2, 1, 2, 2, 0]);
+}
+
+/// What the program is told to print for its one input.
+fn program_example(tally: &mut Tally) {
+    let message = b"To: Al at X\r\n";
+    let mut fields = [0xA5; 16];
+    tally.same("fields", reader::split(message, &mut fields), told(0, 0, 1));
+    let wanted = [0, 0, 0, 2, 0, 3, 0, 11, 165, 165, 165, 165, 165, 165, 165, 165];
+    tally.same("field record", fields, wanted);
+    let mut table = [0; 12];
+    tally.same("addresses", reader::addresses(message, 3, 11, &mut table), told(0, 0, 1));
+    tally.same("address record", table, [1, 0, 0, 0, 0, 4, 0, 11, 0, 4, 0, 6]);
+    tally.same("no room", reader::addresses(message, 3, 11, &mut table[..11]), told(11, 0, 1));
+    tally.same("name", reader::known(b"rEPLY-tO"), 3);
+    tally.same("reply", reader::reply(b" (\\)) \r\n ", b"x"), 1);
+    tally.same("reply", reader::reply(b" , ", b"x"), 0);
+}
+
+/// Places of faults with levels full, and of typed addresses.
+fn edges(tally: &mut Tally) {
+    let full = "<".repeat(64);
+    let at = |rest: &str| list([full.as_str(), rest].concat().as_bytes()).0;
+    tally.same("full, mailbox and colon", at("x at y :"), told(8, 71, 0));
+    tally.same("full, phrase and colon", at("x :"), told(10, 66, 0));
+    tally.same("full, colon", at(":"), told(10, 64, 0));
+    tally.same("full, word only", at("x"), told(9, 65, 0));
+    let typed = ":A:".repeat(64);
+    tally.same("64 typed", list([&typed, "\"q\""].concat().as_bytes()).0, told(0, 0, 65));
+    tally.same("65 typed", list([&typed, ":A:\"q\""].concat().as_bytes()).0, told(10, 192, 0));
+    tally.same("Men at Work", list(b"Men at Work: ;").0, told(8, 11, 0));
+    tally.same("at as type", list(b":at:\"x\"").0, told(8, 1, 0));
+    tally.same("typed kinds", kinds(b":iNCLUDE: :postal: <>"), vec![(5, 0), (6, 1), (2, 2)]);
+    tally.same("comma owed", list(b":A:,").0, told(8, 3, 0));
+    tally.same("quote then word", list(b"\"a\" b").0, told(9, 5, 0));
+    tally.same("out of order", list_at(2, 1), told(13, 0, 0));
+    tally.same("behind the message", list_at(0, 4), told(13, 0, 0));
+    tally.same("too long", list(&[b' '; 32_769]).0, told(1, 32_768, 0));
+}
+
+/// Every byte of the records of a nested list.
+fn records(tally: &mut Tally) {
+    let wanted = [
+        [7, 0, 0, 0, 0, 0, 0, 11, 0, 1, 0, 2],
+        [2, 1, 0, 1, 0, 4, 0, 11, 0, 4, 0, 5],
+        [4, 2, 0, 2, 0, 7, 0, 10, 0, 7, 0, 10],
+        [1, 0, 0, 0, 0, 13, 0, 16, 0, 13, 0, 14],
+    ];
+    tally.same("records", list(b":A: n <\"q\">, z@w").1, wanted.concat());
+    let nameless = [[3, 0, 0, 0, 0, 1, 0, 6, 0, 1, 0, 1], [2, 1, 0, 1, 0, 3, 0, 5, 0, 3, 0, 3]];
+    tally.same("nameless", list(b" : <>;").1, nameless.concat());
+}
+
+fn list_at(start: usize, end: usize) -> Told {
+    reader::addresses(b"abc", start, end, &mut [])
+}
+
+fn scanning(tally: &mut Tally) {
+    let cases: [(&[u8], Told); 10] = [
+        (b"a.[b] \r\n\t\\ )", told(0, 0, 0)),
+        (b"a\r\n", told(7, 1, 0)),
+        (b"\"\\\r\n\"", told(0, 0, 0)),
+        (b"\"a\rb", told(7, 2, 0)),
+        (b"\"\\\xC8\"", told(3, 2, 0)),
+        (b"(\"(\n\\))\x7F)", told(0, 0, 0)),
+        (b" ((\")", told(6, 1, 0)),
+        (b"x\x7F", told(7, 1, 0)),
+        (b"\"\\", told(5, 0, 0)),
+        (b"\"\\\r\n \"", told(0, 0, 0)),
+    ];
+    for (body, wanted) in cases {
+        tally.same("scan", reader::scan(body, 0, body.len()), wanted);
+    }
+}
+
+fn writing(tally: &mut Tally) {
+    let cases: [(&[u8], &[u8]); 9] = [
+        (b"a@b,,c  AT\td", b"a at b, c at d"),
+        (b":,A:;,B:;;", b":, A:;, B:;;"),
+        (b": A <>;", b": A <>;"),
+        (b": \"A\":;;", b": \"A\":;;"),
+        (b"n: A: a at b;;", b"n: A: a at b;;"),
+        (b"<>,x y<\"q\" , >", b"<>, x y <\"q\">"),
+        (b":Postal(c):\"\\a\\\"\n\"", b":Postal: \"a\\\"\\\n\""),
+        (b":,;", b":;"),
+        (b"\"\\\r\n \"", b"\" \""),
+    ];
+    for (body, wanted) in cases {
+        tally.same("plain", plain(body), wanted.to_vec());
+    }
+}
+
+fn splitting(tally: &mut Tally) {
+    let cases: [(&[u8], Told); 13] = [
+        (b"", told(0, 0, 0)),
+        (b"\r\n", told(0, 0, 0)),
+        (b"\rx", told(2, 0, 0)),
+        (b"To: a\r\n\r", told(2, 7, 0)),
+        (b"To: a\r", told(4, 6, 0)),
+        (b"To: a\r\r\n", told(0, 0, 1)),
+        (b"To: a\r\n\xC8", told(2, 7, 0)),
+        (b"To: a\r\n ", told(4, 8, 0)),
+        (b"To :\r\n\r\n\xC8", told(0, 0, 1)),
+        (b"To", told(4, 2, 0)),
+        (b"T\xC8:\r\n", told(2, 1, 0)),
+        (b"T:\xC8\r\n", told(3, 2, 0)),
+        (b" T:\r\n", told(2, 0, 0)),
+    ];
+    for (message, wanted) in cases {
+        tally.same("split", reader::split(message, &mut [0; 80]), wanted);
+    }
+}
+
+fn dates(tally: &mut Tally) {
+    let cases = [
+        ("x \"ab", (5, 0)),
+        ("Tues, 22 Nov 77 1430-EST", (12, 0)),
+        (" 1 Jan 1900 0000 Z (new year)", (0, 0)),
+        ("1Jan1900 0000Z", (0, 0)),
+        ("1Jan19000000Z", (12, 0)),
+        ("1-jan-00 00:00:01-z", (0, 1)),
+        ("1 Jan 1900 0000 + 0530", (0, -19_800)),
+        ("32 Jan 1900 0000 J", (12, 0)),
+        ("1 Jan 1899 0000 Z", (14, 0)),
+        ("1 Jan 199 0000 Z", (12, 0)),
+        ("1 Jan 1900 23:59:60 Z", (14, 0)),
+        ("1 Jan 1900 0000 +9999", (14, 0)),
+        ("1 Jan 1900 0000 +05:00", (12, 0)),
+        ("1 Jan 1900 0000 0500", (12, 0)),
+        ("1 Monday 1900 0000 Z", (12, 0)),
+        ("1 Jan 1900 0000 NST", (0, 12_600)),
+        ("1 Jan 1900 0000 Y", (0, -43_200)),
+        ("2 Jan 1900 00:0001 M", (0, 86_400 + 43_201)),
+        ("Thu, 29 Feb 2000 0000 GMT", (14, 0)),
+        ("Tue, 29 Feb 2000 0000 GMT", (0, 3_160_771_200)),
+    ];
+    for (body, wanted) in cases {
+        tally.same(body, date(body), wanted);
+    }
+}
+
+fn main() {
+    let mut tally = Tally { run: 0, failed: 0 };
+    checked_examples(&mut tally);
+    run_examples(&mut tally);
+    program_example(&mut tally);
+    edges(&mut tally);
+    records(&mut tally);
+    scanning(&mut tally);
+    writing(&mut tally);
+    splitting(&mut tally);
+    dates(&mut tally);
+    println!("{} checks, {} failed", tally.run, tally.failed);
+    std::process::exit(i32::from(tally.failed > 0));
+}

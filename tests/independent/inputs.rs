@@ -1,0 +1,597 @@
+//! Random inputs of many kinds, each made from one stream of numbers.
+
+/// A small generator of random numbers (splitmix64).
+pub struct Rng(u64);
+
+impl Rng {
+    pub fn new(seed: u64) -> Self {
+        Rng(seed)
+    }
+
+    pub fn next(&mut self) -> u64 {
+        self.0 = self.0.wrapping_add(0x9E37_79B9_7F4A_7C15);
+        let mut z = self.0;
+        z = (z ^ (z >> 30)).wrapping_mul(0xBF58_476D_1CE4_E5B9);
+        z = (z ^ (z >> 27)).wrapping_mul(0x94D0_49BB_1331_11EB);
+        z ^ (z >> 31)
+    }
+
+    /// A number below `limit`; 0 if the limit is 0.
+    pub fn below(&mut self, limit: usize) -> usize {
+        (self.next() % limit.max(1) as u64) as usize
+    }
+
+    /// True once in `times`.
+    pub fn once_in(&mut self, times: usize) -> bool {
+        self.below(times) == 0
+    }
+
+    pub fn pick<'a, T: ?Sized>(&mut self, choices: &[&'a T]) -> &'a T {
+        choices[self.below(choices.len())]
+    }
+}
+
+#[derive(Clone, Copy, Debug, PartialEq, Eq)]
+pub enum Kind {
+    Bytes,
+    Tokens,
+    Symbols,
+    List,
+    Mutant,
+    Deep,
+    Long,
+    Header,
+    Date,
+    DateMutant,
+    Reply,
+    Name,
+}
+
+pub const KINDS: [Kind; 12] = [
+    Kind::Bytes, Kind::Tokens, Kind::Symbols, Kind::List, Kind::Mutant, Kind::Deep,
+    Kind::Long, Kind::Header, Kind::Date, Kind::DateMutant, Kind::Reply, Kind::Name,
+];
+
+/// How often each kind is made, of 1,000.
+const WEIGHTS: [usize; 12] = [50, 150, 180, 110, 180, 90, 2, 90, 60, 60, 20, 8];
+
+/// Chooses the place of a kind in `KINDS`.
+pub fn choose(rng: &mut Rng) -> usize {
+    let mut left = rng.below(1_000);
+    for (i, weight) in WEIGHTS.iter().enumerate() {
+        if left < *weight {
+            return i;
+        }
+        left -= weight;
+    }
+    0
+}
+
+/// One input of the kind.
+pub fn body(rng: &mut Rng, kind: Kind) -> Vec<u8> {
+    match kind {
+        Kind::Bytes => bytes(rng, 40),
+        Kind::Tokens => tokens(rng),
+        Kind::Symbols => symbols(rng),
+        Kind::List => list(rng),
+        Kind::Mutant => {
+            let valid = list(rng);
+            mutate(rng, valid)
+        }
+        Kind::Deep => deep(rng),
+        Kind::Long => long(rng),
+        Kind::Header => header(rng),
+        Kind::Date => date(rng),
+        Kind::DateMutant => {
+            let valid = date(rng);
+            mutate(rng, valid)
+        }
+        Kind::Reply => reply(rng),
+        Kind::Name => name(rng),
+    }
+}
+
+// ----------------------------------------------------- bytes and tokens
+
+/// Up to `limit` bytes, of all values or mostly below 128.
+fn bytes(rng: &mut Rng, limit: usize) -> Vec<u8> {
+    let length = rng.below(limit + 1);
+    let top = if rng.once_in(3) { 256 } else { 128 };
+    (0..length).map(|_| rng.below(top) as u8).collect()
+}
+
+const WORDS: [&[u8]; 14] = [
+    b"x", b"A", b"att", b"a.b", b"[1]", b"Include", b"POSTAL", b"include", b"file", b"t",
+    b"1Jan", b"-", b"~!#", b"}",
+];
+
+const QUOTED: [&[u8]; 14] = [
+    b"\"\"", b"\"q\"", b"\"at\"", b"\"a b\"", b"\"\\\"\"", b"\"\\\\\"", b"\"(\"", b"\"\n\"",
+    b"\"\\\r\"", b"\"\\\r\n \"", b"\"a\r\n b\"", b"\"\x00\t\x7F\"", b"\"\\\n\\a\"", b"\"<:;>,@\"",
+];
+
+const SPACES: [&[u8]; 10] = [
+    b" ", b"\t", b"  ", b"\r\n ", b"\r\n\t", b"(c)", b"(a(b)\")", b"(\\)\r\n \\()", b" \r\n \r\n ",
+    b"(\n\x01)",
+];
+
+const MARKS: [&[u8]; 10] =
+    [b"at", b"AT", b"aT", b"@", b"<", b">", b":", b";", b",", b":A:"];
+
+const FAULTS: [&[u8]; 16] = [
+    b")", b"\\", b"\"", b"(", b"\r", b"\n", b"\r\n", b"\x00", b"\x7F", b"\x80", b"\xFF",
+    b"\"\r\"", b"\"\\\x80\"", b"(\r)", b"\"a\r\nb\"", b"(\\",
+];
+
+/// Tokens of every sort, faulty ones now and then.
+fn tokens(rng: &mut Rng) -> Vec<u8> {
+    let mut out = Vec::new();
+    for _ in 0..rng.below(16) {
+        let token = match rng.below(20) {
+            0..=4 => rng.pick(&WORDS),
+            5..=6 => rng.pick(&QUOTED),
+            7..=10 => rng.pick(&SPACES),
+            19 if rng.once_in(2) => rng.pick(&FAULTS),
+            _ => rng.pick(&MARKS),
+        };
+        out.extend_from_slice(token);
+    }
+    out
+}
+
+/// Symbols of a small alphabet, so that short lists are met often.
+fn symbols(rng: &mut Rng) -> Vec<u8> {
+    let small: [&[u8]; 10] = [b"x", b"\"q\"", b"at", b"@", b"<", b">", b":", b";", b",", b"y"];
+    let mut parts: Vec<Vec<u8>> = Vec::new();
+    let mut length = rng.below(14);
+    while length > 0 {
+        length -= 1;
+        if rng.once_in(4) {
+            let whole: [&[u8]; 5] = [b"x at y", b"\"q\"", b":A:", b"x:", b"x <"];
+            parts.push(rng.pick(&whole).to_vec());
+        } else {
+            parts.push(rng.pick(&small).to_vec());
+        }
+    }
+    parts.join(&b' ')
+}
+
+// ---------------------------------------------------------------- lists
+
+/// A list by the grammar, printed with random white space.
+fn list(rng: &mut Rng) -> Vec<u8> {
+    let mut out = Vec::new();
+    let mut budget = 1 + rng.below(12);
+    add_list(rng, &mut out, &mut budget, 0);
+    let compact = rng.once_in(2);
+    glue(rng, &out, compact)
+}
+
+type Tokens = Vec<Vec<u8>>;
+
+fn add(out: &mut Tokens, token: &[u8]) {
+    out.push(token.to_vec());
+}
+
+fn add_list(rng: &mut Rng, out: &mut Tokens, budget: &mut usize, depth: usize) {
+    let members = rng.below(4);
+    while rng.once_in(6) {
+        add(out, b",");
+    }
+    for member in 0..members {
+        if member > 0 {
+            add(out, b",");
+        }
+        while rng.once_in(8) {
+            add(out, b",");
+        }
+        add_address(rng, out, budget, depth);
+    }
+    while members > 0 && rng.once_in(8) {
+        add(out, b",");
+    }
+}
+
+fn add_address(rng: &mut Rng, out: &mut Tokens, budget: &mut usize, depth: usize) {
+    *budget = budget.saturating_sub(1);
+    let choice = if *budget == 0 || depth > 20 { rng.below(2) } else { rng.below(7) };
+    match choice {
+        0 => add(out, rng.pick(&QUOTED)),
+        1 => add_mailbox(rng, out),
+        2 | 3 => {
+            add_phrase(rng, out, true);
+            add(out, b"<");
+            add_list(rng, out, budget, depth + 1);
+            add(out, b">");
+        }
+        4 | 5 => {
+            add_phrase(rng, out, true);
+            add(out, b":");
+            add_list(rng, out, budget, depth + 1);
+            add(out, b";");
+        }
+        _ => {
+            add(out, b":");
+            add(out, rng.pick(&WORDS));
+            add(out, b":");
+            add_address(rng, out, budget, depth + 1);
+        }
+    }
+}
+
+fn add_mailbox(rng: &mut Rng, out: &mut Tokens) {
+    add_phrase(rng, out, false);
+    loop {
+        add(out, rng.pick(&MARKS[..4]));
+        add_word(rng, out);
+        if !rng.once_in(3) {
+            return;
+        }
+    }
+}
+
+fn add_word(rng: &mut Rng, out: &mut Tokens) {
+    let word = if rng.once_in(4) { rng.pick(&QUOTED) } else { rng.pick(&WORDS) };
+    add(out, word);
+}
+
+fn add_phrase(rng: &mut Rng, out: &mut Tokens, optional: bool) {
+    if optional && rng.once_in(3) {
+        return;
+    }
+    add_word(rng, out);
+    while rng.once_in(3) {
+        add_word(rng, out);
+    }
+}
+
+/// Whether a token starts or ends with bytes of an atom.
+fn touches(byte: Option<&u8>) -> bool {
+    byte.map_or(false, |b| b.is_ascii_graphic() && !b"()<>@,;:\\\"".contains(b))
+}
+
+/// Prints tokens, parting them where they would run together.
+fn glue(rng: &mut Rng, tokens: &Tokens, compact: bool) -> Vec<u8> {
+    let mut out: Vec<u8> = Vec::new();
+    for token in tokens {
+        let close = touches(out.last()) && touches(token.first());
+        if close && rng.once_in(2) {
+            out.push(b' ');
+        } else if close || (!compact && rng.once_in(2)) {
+            out.extend_from_slice(rng.pick(&SPACES));
+        }
+        out.extend_from_slice(token);
+    }
+    if rng.once_in(4) {
+        out.extend_from_slice(rng.pick(&SPACES));
+    }
+    out
+}
+
+const TELLING: &[u8] = b"<>:;,@<>:;,@\" \tatxAT0123456789+-.";
+
+const RARE: &[u8] = b"()\\\r\n\x00\x7F\x80\xFF";
+
+/// Changes a few bytes of an input.
+fn mutate(rng: &mut Rng, mut input: Vec<u8>) -> Vec<u8> {
+    for _ in 0..1 + rng.below(3) {
+        let length = input.len();
+        let (at, other) = (rng.below(length), rng.below(length));
+        let (low, high) = (at.min(other), at.max(other));
+        let table = if rng.once_in(6) { RARE } else { TELLING };
+        let byte = table[rng.below(table.len())];
+        match rng.below(8) {
+            _ if length == 0 => input.push(byte),
+            0 => drop(input.remove(at)),
+            1 => input.insert(at, input[at]),
+            2 => input.swap(at, other),
+            3 => input[at] = byte,
+            4 => input.insert(at, byte),
+            5 if high - low < 8 => drop(input.drain(low..high)),
+            6 if length < 500 => {
+                let piece = input[low..high].to_vec();
+                input.splice(high..high, piece);
+            }
+            7 if rng.once_in(3) => input.truncate(at),
+            _ => input[at] = input[other],
+        }
+    }
+    input
+}
+
+// ------------------------------------------------------- deep and long
+
+/// Lists of about 64 levels.
+fn deep(rng: &mut Rng) -> Vec<u8> {
+    let openers: [&[u8]; 12] = [
+        b"<", b":", b":,", b"x:", b"x y:", b"\"q\":", b"x<", b":A:", b":,A:", b"<,", b":Include:",
+        b"\"a\" b <",
+    ];
+    let variety = 1 + rng.below(openers.len());
+    let shift = rng.below(openers.len());
+    let mut out = Tokens::new();
+    let mut closers = Tokens::new();
+    let levels = if rng.once_in(4) { 62 + rng.below(6) } else { 61 + rng.below(4) };
+    let mut opened = 0;
+    while opened < levels {
+        let opener = openers[(shift + rng.below(variety)) % openers.len()];
+        add_opener(rng, &mut out, &mut closers, opener);
+        opened += if opener == b":,A:" { 2 } else { 1 };
+    }
+    let deepest: [&[u8]; 17] = [
+        b"", b"x at y", b"\"q\"", b"x at y :", b"x :", b"x <", b"<>", b":;", b":A:\"q\"", b":A",
+        b"x:;", b"\"q\" <", b"\"q\" :", b"x", b",:A:<>", b"<<>>", b"x at y <",
+    ];
+    add(&mut out, rng.pick(&deepest));
+    closers.reverse();
+    if rng.once_in(5) {
+        closers.truncate(rng.below(closers.len() + 1));
+    }
+    out.append(&mut closers);
+    let compact = !rng.once_in(4);
+    let whole = glue(rng, &out, compact);
+    if rng.once_in(4) {
+        mutate(rng, whole)
+    } else {
+        whole
+    }
+}
+
+/// Adds an opener and what closes it; most often one that fits.
+fn add_opener(rng: &mut Rng, out: &mut Tokens, closers: &mut Tokens, opener: &[u8]) {
+    let last = out.last().cloned().unwrap_or_default();
+    let owed = last == b":A:" || last == b":Include:";
+    if last == b":" && opener == b"x:" && !rng.once_in(200) {
+        add(out, b",");
+    }
+    if !owed && rng.once_in(12) {
+        add(out, b"\"s\",");
+    }
+    add(out, opener);
+    let typed = opener == b":A:" || opener == b":Include:";
+    if opener == b":,A:" {
+        add(closers, b";;");
+    } else if !typed {
+        add(closers, if opener.contains(&b'<') { b">" } else { b";" });
+    }
+}
+
+/// Bodies up to and just past the longest message.
+fn long(rng: &mut Rng) -> Vec<u8> {
+    let units: [&[u8]; 20] = [
+        b"\"\",", b"a@b,", b"<>,", b"x ", b"(", b",", b" ", b"\r\n ", b":A:", b"@b", b"a:;,", b"\\",
+        b"(a)", b"\"\n\"", b":A:<>,", b"x y<a@b>,", b":,A:;;,", b"<a at b,\"q\">, ", b"1", b"((",
+    ];
+    let target = 32_758 + rng.below(14);
+    let unit = if rng.once_in(4) { list(rng) } else { rng.pick(&units).to_vec() };
+    let mut out = if rng.once_in(3) { b"x".to_vec() } else { Vec::new() };
+    if unit.is_empty() {
+        return vec![b' '; target];
+    }
+    while out.len() + unit.len() <= target {
+        out.extend_from_slice(&unit);
+    }
+    if rng.once_in(3) {
+        out.resize(target, b' ');
+    }
+    if rng.once_in(4) {
+        out = mutate(rng, out);
+    }
+    out
+}
+
+// ---------------------------------------------------- headers and names
+
+/// A header of a few lines, some of them faulty.
+fn header(rng: &mut Rng) -> Vec<u8> {
+    if rng.once_in(400) {
+        let repeated: [&[u8]; 3] = [b"a:\r\n", b"To:\"\"\r\n", b"cc: a\r\n b\r\n"];
+        let line = rng.pick(&repeated);
+        return line.repeat((32_760 + rng.below(16)) / line.len());
+    }
+    let mut out = Vec::new();
+    for _ in 0..rng.below(6) {
+        out.extend(name(rng));
+        let colons: [&[u8]; 8] = [b":", b":", b": ", b" :", b"\t :", b": ", b"", b"::"];
+        out.extend_from_slice(rng.pick(&colons));
+        out.extend(match rng.below(8) {
+            0 => date(rng),
+            1 => tokens(rng),
+            2 | 3 => list(rng),
+            4 => symbols(rng),
+            5 => bytes(rng, 10),
+            _ => b"x@y".to_vec(),
+        });
+        let ends: [&[u8]; 9] = [
+            b"\r\n", b"\r\n", b"\r\n", b"\r\n", b"\r\n\r\n", b"\r\r\n", b"\n", b"\r", b"\r\n ",
+        ];
+        let pick = if rng.once_in(3) { rng.below(9) } else { 0 };
+        out.extend_from_slice(ends[pick]);
+    }
+    if rng.once_in(4) {
+        let rest = bytes(rng, 12);
+        out.extend_from_slice(b"\r\n");
+        out.extend(rest);
+    }
+    if rng.once_in(4) {
+        mutate(rng, out)
+    } else {
+        out
+    }
+}
+
+/// A field name: known ones in any case, near ones, others.
+fn name(rng: &mut Rng) -> Vec<u8> {
+    let names: [&[u8]; 14] = [
+        b"Date", b"From", b"Reply-To", b"To", b"cc", b"Bcc", b"Subject", b"Sender", b"X y", b"T",
+        b"Reply_To", b"Froms", b"bc", b"",
+    ];
+    let mut out = rng.pick(&names).to_vec();
+    for byte in out.iter_mut() {
+        if byte.is_ascii_alphabetic() && rng.once_in(3) {
+            *byte ^= 32;
+        }
+    }
+    if rng.once_in(15) {
+        out = mutate(rng, out);
+    }
+    if rng.once_in(30) && !out.is_empty() {
+        let at = rng.below(out.len());
+        out[at] ^= 1 << rng.below(8);
+    }
+    out
+}
+
+// ------------------------------------------------------ dates, replies
+
+const DAY_NAMES: [&str; 10] = [
+    "Monday", "Tuesday", "Wednesday", "Thursday", "Friday", "Saturday", "Sunday", "Tues", "Mo",
+    "May",
+];
+
+const MONTH_NAMES: [&str; 15] = [
+    "January", "February", "March", "April", "May", "June", "July", "August", "September",
+    "October", "November", "December", "Sept", "Monday", "Febr",
+];
+
+const ZONES: [&str; 26] = [
+    "GMT", "NST", "AST", "EST", "CST", "MST", "PST", "YST", "HST", "BST", "ADT", "EDT", "CDT",
+    "MDT", "PDT", "YDT", "HDT", "BDT", "NDT", "UT", "+0530", "-0800", "+2359", "+2400", "-1260",
+    "0500",
+];
+
+/// A name of a table, full or cut, in any case; the last ones are rare.
+fn cut_name(rng: &mut Rng, table: &[&str], usual: usize) -> Vec<u8> {
+    let limit = if rng.once_in(20) { table.len() } else { usual };
+    let mut text = table[rng.below(limit)].as_bytes().to_vec();
+    if rng.once_in(2) {
+        text.truncate(3);
+    }
+    match rng.below(6) {
+        0 => text.make_ascii_lowercase(),
+        1 => text.make_ascii_uppercase(),
+        _ => {}
+    }
+    text
+}
+
+fn year(rng: &mut Rng) -> String {
+    match rng.below(12) {
+        0 => format!("{}", rng.below(10_000)),
+        1 => format!("{:04}", 1_895 + rng.below(10)),
+        2 => format!("{:04}", 9_990 + rng.below(10)),
+        3 => format!("{:04}", 100 * (19 + rng.below(6))),
+        4..=6 => format!("{:02}", rng.below(100)),
+        _ => format!("{:04}", 1_900 + rng.below(300)),
+    }
+}
+
+/// A number below `top`, now and then one at its edge or past it.
+fn edge(rng: &mut Rng, top: usize) -> usize {
+    if rng.once_in(9) {
+        [0, top - 1, top, top, top + 1, 99][rng.below(6)]
+    } else {
+        rng.below(top)
+    }
+}
+
+fn clock(rng: &mut Rng) -> String {
+    let (h, m, s) = (edge(rng, 24), edge(rng, 60), edge(rng, 60));
+    match rng.below(8) {
+        0 | 1 => format!("{h:02}{m:02}"),
+        2 => format!("{h:02}{m:02}{s:02}"),
+        3 => format!("{h:02}:{m:02}"),
+        4 => format!("{h:02}:{m:02}{s:02}"),
+        5 => format!("{h:02}{m:02}:{s:02}"),
+        6 => format!("{h:02}:{m:02}:{s:02}"),
+        _ if rng.once_in(4) => format!("{h}:{m}"),
+        _ => format!("{h:02} : {m:02}"),
+    }
+}
+
+fn zone(rng: &mut Rng) -> String {
+    let dash = if rng.once_in(4) { "-" } else { "" };
+    match rng.below(4) {
+        0 => format!("{dash}{}", (b'A' + rng.below(26) as u8) as char),
+        1 => format!("{dash}{}", (b'a' + rng.below(26) as u8) as char),
+        2 => {
+            let sign = if rng.once_in(2) { "+" } else { "-" };
+            format!("{sign}{:02}{:02}", edge(rng, 24), edge(rng, 60))
+        }
+        _ => format!("{dash}{}", ZONES[rng.below(ZONES.len())]),
+    }
+}
+
+/// A date by the grammar or nearly so.
+fn date(rng: &mut Rng) -> Vec<u8> {
+    let mut out = Tokens::new();
+    if rng.once_in(3) {
+        out.push(cut_name(rng, &DAY_NAMES, 7));
+        add(&mut out, b",");
+    }
+    let day = if rng.once_in(3) { edge(rng, 32) } else { 1 + rng.below(29) };
+    out.push(if rng.once_in(2) { format!("{day:02}") } else { day.to_string() }.into_bytes());
+    if rng.once_in(4) {
+        add(&mut out, b"-");
+    }
+    out.push(cut_name(rng, &MONTH_NAMES, 12));
+    if rng.once_in(4) {
+        add(&mut out, b"-");
+    }
+    out.push(year(rng).into_bytes());
+    out.push(clock(rng).into_bytes());
+    let mut zone = zone(rng).into_bytes();
+    if rng.once_in(5) {
+        zone.make_ascii_lowercase();
+    }
+    out.push(zone);
+    let compact = !rng.once_in(4);
+    glue(rng, &out, compact)
+}
+
+/// A Reply-To body: white space and comments, now and then a symbol.
+fn reply(rng: &mut Rng) -> Vec<u8> {
+    if rng.once_in(50) {
+        return vec![b' '; 32_766 + rng.below(5)];
+    }
+    let mut out = Vec::new();
+    for _ in 0..rng.below(6) {
+        out.extend_from_slice(rng.pick(&SPACES));
+    }
+    if rng.once_in(3) {
+        let extra = if rng.once_in(2) { rng.pick(&FAULTS) } else { rng.pick(&MARKS) };
+        let at = rng.below(out.len() + 1);
+        out.splice(at..at, extra.iter().copied());
+    }
+    out
+}
+
+// ------------------------------------------------------------ positions
+
+/// Puts a body into a message and chooses its start and end.
+pub fn place(rng: &mut Rng, body: Vec<u8>) -> (Vec<u8>, usize, usize) {
+    let bare = body.len() > 30_000 && !rng.once_in(4);
+    if bare || rng.once_in(3) {
+        let end = body.len();
+        return (body, 0, end);
+    }
+    let before = bytes(rng, 6);
+    let start = before.len();
+    let end = start + body.len();
+    let behind: [&[u8]; 8] = [b"", b"\r\n", b" ", b"\n ", b"\"", b")", b"x", b"\xC8"];
+    let message = [&before[..], &body[..], rng.pick(&behind)].concat();
+    if !rng.once_in(8) {
+        return (message, start, end);
+    }
+    let any = message.len() + 3;
+    match rng.below(6) {
+        0 => (message, end, start),
+        1 => (message, start, any),
+        2 => (message, usize::MAX, end),
+        3 => (message, start, usize::MAX),
+        _ => {
+            let (one, two) = (rng.below(any), rng.below(any));
+            (message, one, two)
+        }
+    }
+}

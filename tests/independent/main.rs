@@ -1,0 +1,329 @@
+//! Compares the proved library, through its C functions, with the second
+//! reader on random inputs: `main SEED SECONDS`.
+
+mod inputs;
+mod reader;
+
+use inputs::{Kind, Rng};
+use reader::Told;
+use std::fmt::Debug;
+use std::time::{Duration, Instant};
+
+extern "C" {
+    fn rfc733_split(
+        message: *const u8, message_len: usize,
+        table: *mut u8, table_len: usize,
+        told: *mut u64, told_len: usize,
+    );
+    fn rfc733_known_name(name: *const u8, name_len: usize) -> u32;
+    fn rfc733_scan(
+        message: *const u8, message_len: usize, start: usize, end: usize,
+        told: *mut u64, told_len: usize,
+    );
+    fn rfc733_addresses(
+        message: *const u8, message_len: usize, start: usize, end: usize,
+        table: *mut u8, table_len: usize,
+        told: *mut u64, told_len: usize,
+    );
+    fn rfc733_date(
+        message: *const u8, message_len: usize, start: usize, end: usize,
+        told: *mut u64, told_len: usize, value: *mut i64,
+    );
+    fn rfc733_plain(
+        message: *const u8, message_len: usize, start: usize, end: usize,
+        text: *mut u8, text_len: usize,
+        told: *mut u64, told_len: usize,
+    );
+    fn rfc733_reply(
+        reply: *const u8, reply_len: usize, from: *const u8, from_len: usize,
+    ) -> u32;
+}
+
+/// Thin wrappers around the proved library.
+mod proved {
+    use super::*;
+
+    const UNSET: [u64; 3] = [u64::MAX; 3];
+
+    fn answer(told: [u64; 3]) -> Told {
+        Told { number: told[0], position: told[1], count: told[2] }
+    }
+
+    pub fn split(message: &[u8], table: &mut [u8]) -> Told {
+        let mut told = UNSET;
+        let (m, t) = (message.as_ptr(), table.as_mut_ptr());
+        unsafe { rfc733_split(m, message.len(), t, table.len(), told.as_mut_ptr(), 3) };
+        answer(told)
+    }
+
+    pub fn known(name: &[u8]) -> u32 {
+        unsafe { rfc733_known_name(name.as_ptr(), name.len()) }
+    }
+
+    pub fn scan(message: &[u8], start: usize, end: usize) -> Told {
+        let mut told = UNSET;
+        unsafe {
+            rfc733_scan(message.as_ptr(), message.len(), start, end, told.as_mut_ptr(), 3)
+        };
+        answer(told)
+    }
+
+    pub fn addresses(message: &[u8], start: usize, end: usize, table: &mut [u8]) -> Told {
+        let mut told = UNSET;
+        let (m, t) = (message.as_ptr(), table.as_mut_ptr());
+        let out = told.as_mut_ptr();
+        unsafe { rfc733_addresses(m, message.len(), start, end, t, table.len(), out, 3) };
+        answer(told)
+    }
+
+    pub fn plain(message: &[u8], start: usize, end: usize, text: &mut [u8]) -> Told {
+        let mut told = UNSET;
+        let (m, t) = (message.as_ptr(), text.as_mut_ptr());
+        let out = told.as_mut_ptr();
+        unsafe { rfc733_plain(m, message.len(), start, end, t, text.len(), out, 3) };
+        answer(told)
+    }
+
+    pub fn date(message: &[u8], start: usize, end: usize) -> (Told, i64) {
+        let mut told = UNSET;
+        let mut value = i64::MIN;
+        let (m, out) = (message.as_ptr(), told.as_mut_ptr());
+        unsafe { rfc733_date(m, message.len(), start, end, out, 3, &mut value) };
+        (answer(told), value)
+    }
+
+    pub fn reply(reply: &[u8], from: &[u8]) -> u32 {
+        unsafe { rfc733_reply(reply.as_ptr(), reply.len(), from.as_ptr(), from.len()) }
+    }
+}
+
+/// What stands in every lent buffer beforehand.
+const PATTERN: u8 = 0xA5;
+
+/// Bytes of the longest message, and of the longest plain text read back.
+const LONGEST: usize = 32_768;
+
+/// One input and where it came from.
+struct Case<'a> {
+    seed: u64,
+    kind: Kind,
+    message: &'a [u8],
+    start: usize,
+    end: usize,
+}
+
+fn escaped(bytes: &[u8]) -> String {
+    bytes.iter().flat_map(|b| std::ascii::escape_default(*b)).map(char::from).collect()
+}
+
+/// Prints a difference whole and ends the program.
+fn differ(case: &Case, function: &str, room: usize, proved: &dyn Debug, second: &dyn Debug) -> ! {
+    println!("DIFFERENCE in {function}");
+    println!("seed {} kind {:?}", case.seed, case.kind);
+    println!("start {} end {} room {room}", case.start, case.end);
+    println!("message of {} bytes: b\"{}\"", case.message.len(), escaped(case.message));
+    println!("proved: {proved:?}");
+    println!("second: {second:?}");
+    std::process::exit(1);
+}
+
+fn agree<T: PartialEq + Debug>(case: &Case, function: &str, room: usize, proved: T, second: T) {
+    if proved != second {
+        differ(case, function, room, &proved, &second);
+    }
+}
+
+/// A room around what is needed: none, too little, exact, or more.
+fn room(rng: &mut Rng, needed: usize, size: usize) -> usize {
+    let exact = needed * size;
+    match rng.below(7) {
+        0 => 0,
+        1 => exact.saturating_sub(size),
+        2 => exact.saturating_sub(1),
+        3 => exact + rng.below(3 * size),
+        4 => exact + size + rng.below(100),
+        5 => rng.below(exact + 1),
+        _ => exact,
+    }
+}
+
+/// Runs a function that fills a buffer, on both sides, with rooms around
+/// what it needs, and compares answers and whole buffers.
+fn compare_filling(
+    rng: &mut Rng,
+    case: &Case,
+    name: &str,
+    size: usize,
+    proved: &dyn Fn(&mut [u8]) -> Told,
+    second: &dyn Fn(&mut [u8]) -> Told,
+) -> Told {
+    let mut told = second(&mut []);
+    let needed = told.count as usize;
+    let guess = if needed > 0 { needed } else { rng.below(6) };
+    for lent in [room(rng, guess, size), needed * size] {
+        let mut one = vec![PATTERN; lent];
+        let mut two = vec![PATTERN; lent];
+        let left = proved(&mut one);
+        told = second(&mut two);
+        agree(case, name, lent, left, told);
+        agree(case, name, lent, one, two);
+    }
+    told
+}
+
+/// Reads accepted plain text again: the same tree and the same text.
+fn round_trip(case: &Case) {
+    let records = proved_records(case.message, case.start, case.end);
+    let text = proved_plain(case.message, case.start, case.end);
+    if text.len() > LONGEST {
+        return;
+    }
+    let mut table = vec![PATTERN; records.len()];
+    let told = proved::addresses(&text, 0, text.len(), &mut table);
+    let wanted = Told { number: 0, position: 0, count: (records.len() / 12) as u64 };
+    agree(case, "round trip, answer", 0, told, wanted);
+    let heads = |table: &[u8]| -> Vec<u8> {
+        table.chunks(12).flat_map(|r| r[..4].to_vec()).collect()
+    };
+    agree(case, "round trip, records", 0, heads(&table), heads(&records));
+    agree(case, "round trip, text", 0, proved_plain(&text, 0, text.len()), text);
+}
+
+fn proved_records(message: &[u8], start: usize, end: usize) -> Vec<u8> {
+    let needed = proved::addresses(message, start, end, &mut []).count as usize;
+    let mut table = vec![PATTERN; needed * 12];
+    proved::addresses(message, start, end, &mut table);
+    table
+}
+
+fn proved_plain(message: &[u8], start: usize, end: usize) -> Vec<u8> {
+    let needed = proved::plain(message, start, end, &mut []).count as usize;
+    let mut text = vec![PATTERN; needed];
+    proved::plain(message, start, end, &mut text);
+    text
+}
+
+/// Compares everything that reads a body; gives the list reader's number.
+fn compare_body(rng: &mut Rng, case: &Case) -> u64 {
+    let (message, start, end) = (case.message, case.start, case.end);
+    agree(case, "scan", 0, proved::scan(message, start, end), reader::scan(message, start, end));
+    agree(case, "date", 0, proved::date(message, start, end), reader::date(message, start, end));
+    let told = compare_filling(
+        rng, case, "addresses", 12,
+        &|table| proved::addresses(message, start, end, table),
+        &|table| reader::addresses(message, start, end, table),
+    );
+    let text = compare_filling(
+        rng, case, "plain", 1,
+        &|text| proved::plain(message, start, end, text),
+        &|text| reader::plain(message, start, end, text),
+    );
+    agree(case, "plain against addresses", 0, text.number, told.number);
+    if told.number == 0 {
+        round_trip(case);
+    }
+    told.number
+}
+
+/// Compares the splitting of a header and each field it has.
+fn compare_header(rng: &mut Rng, case: &Case) -> u64 {
+    let message = case.message;
+    let told = compare_filling(
+        rng, case, "split", 8,
+        &|table| proved::split(message, table),
+        &|table| reader::split(message, table),
+    );
+    if told.number != 0 {
+        return told.number;
+    }
+    let mut table = vec![PATTERN; 8 * told.count as usize];
+    proved::split(message, &mut table);
+    for record in table.chunks(8).take(20) {
+        let at = |i: usize| usize::from(record[i]) * 256 + usize::from(record[i + 1]);
+        compare_name(case, &message[at(0)..at(2)]);
+        let field = Case { start: at(4), end: at(6), ..*case };
+        compare_body(rng, &field);
+    }
+    0
+}
+
+fn compare_name(case: &Case, name: &[u8]) -> u64 {
+    let number = reader::known(name);
+    let whole = Case { message: name, start: 0, end: name.len(), ..*case };
+    agree(&whole, "known_name", 0, proved::known(name), number);
+    u64::from(number)
+}
+
+fn compare_reply(case: &Case, from: &[u8]) -> u64 {
+    let body = case.message;
+    let choice = reader::reply(body, from);
+    let proved = proved::reply(body, from);
+    if proved != choice {
+        differ(case, "reply", from.len(), &(proved, "from", escaped(from)), &choice);
+    }
+    u64::from(choice)
+}
+
+/// Numbers given per kind: inputs, and how often each answer number came.
+struct Counts {
+    inputs: u64,
+    numbers: [u64; 15],
+}
+
+/// Makes one input of the kind, compares, and gives the answer number.
+fn one_input(rng: &mut Rng, seed: u64, kind: Kind) -> u64 {
+    let body = inputs::body(rng, kind);
+    let whole = Case { seed, kind, message: &body, start: 0, end: body.len() };
+    match kind {
+        Kind::Header => compare_header(rng, &whole),
+        Kind::Name => compare_name(&whole, &body),
+        Kind::Reply => {
+            let from = inputs::body(rng, Kind::Tokens);
+            compare_reply(&whole, &from)
+        }
+        _ => {
+            let (message, start, end) = inputs::place(rng, body);
+            let case = Case { seed, kind, message: &message, start, end };
+            compare_reply(&case, b"x");
+            let list = compare_body(rng, &case);
+            match kind {
+                Kind::Date | Kind::DateMutant => reader::date(&message, start, end).0.number,
+                _ => list,
+            }
+        }
+    }
+}
+
+fn print_counts(counts: &[Counts]) {
+    for (kind, count) in inputs::KINDS.iter().zip(counts) {
+        print!("{:<11} {:>9} inputs, answers", format!("{kind:?}"), count.inputs);
+        for (number, times) in count.numbers.iter().enumerate().filter(|n| *n.1 > 0) {
+            print!(" {number}:{times}");
+        }
+        println!();
+    }
+}
+
+fn main() {
+    let mut arguments = std::env::args().skip(1);
+    let mut argument = |default: u64| {
+        arguments.next().map_or(default, |text| text.parse().expect("a number"))
+    };
+    let seed = argument(733);
+    let seconds = argument(20);
+    println!("seed {seed}, {seconds} seconds");
+    let mut rng = Rng::new(seed);
+    let mut counts: Vec<Counts> =
+        inputs::KINDS.iter().map(|_| Counts { inputs: 0, numbers: [0; 15] }).collect();
+    let begin = Instant::now();
+    let mut total = 0u64;
+    while begin.elapsed() < Duration::from_secs(seconds) {
+        let chosen = inputs::choose(&mut rng);
+        let number = one_input(&mut rng, seed, inputs::KINDS[chosen]);
+        counts[chosen].inputs += 1;
+        counts[chosen].numbers[number as usize] += 1;
+        total += 1;
+    }
+    print_counts(&counts);
+    println!("{total} inputs, all agree");
+}

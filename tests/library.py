@@ -1,0 +1,61 @@
+#!/usr/bin/env python3
+"""The libraries for other languages: built, called from C and from Python. Expectations are document 01's examples."""
+import pathlib
+import subprocess
+import sys
+
+root = pathlib.Path(__file__).resolve().parent.parent
+sys.path.insert(0, str(root / "python"))
+built = subprocess.run([root / "build-library"], capture_output=True, text=True)
+if built.returncode != 0:
+    sys.exit(f"build-library: exit {built.returncode}\n{built.stdout}{built.stderr}")
+import rfc733  # noqa: E402
+
+faults, seen = [], 0
+
+
+def same(name, got, wanted):
+    global seen
+    seen += 1
+    if got != wanted:
+        faults.append(f"{name}: got {got!r}, wanted {wanted!r}")
+
+
+def refused(name, call, number, place):
+    try:
+        got = call()
+    except rfc733.Refused as fault:
+        got = (fault.number, fault.place)
+    same(name, got, (number, place))
+
+
+same("empty", rfc733.addresses(b""), [])
+same("commas", rfc733.addresses(b",,"), [])
+same("mailbox", rfc733.addresses(b"Neuman@BBN-TENEXA"), [(1, 0, 0, 0, 17, 0, 6)])
+same("quoted", rfc733.addresses(b'"x"'), [(4, 0, 0, 0, 3, 0, 3)])
+same("groups", rfc733.addresses(b":,A:;;"), [(3, 0, 0, 0, 6, 0, 0), (3, 1, 1, 2, 5, 2, 3)])
+refused("x", lambda: rfc733.addresses(b"x"), 9, 1)
+refused("a at b c", lambda: rfc733.addresses(b"a at b c"), 8, 7)
+refused(":A:;;", lambda: rfc733.addresses(b":A:;;"), 8, 3)
+refused("65 levels", lambda: rfc733.addresses(b"<" * 65 + b">" * 65), 10, 64)
+refused("open quote", lambda: rfc733.addresses(b'"ab'), 5, 0)
+refused("open comment", lambda: rfc733.addresses(b"("), 6, 0)
+same("EST", rfc733.date(b"Monday, 21 Nov 77 1430-EST"), 2457977400)
+same("+0100", rfc733.date(b"1 Jan 1900 0000 +0100"), -3600)
+same("A", rfc733.date(b"1 Jan 1900 0000 A"), 3600)
+refused("wrong day", lambda: rfc733.date(b"Tue, 21 Nov 77 1430-EST"), 14, 0)
+refused("zone J", lambda: rfc733.date(b"1 Jan 1900 0000 J"), 12, 0)
+same("fields", rfc733.fields(b"To: Al at X\r\n"), [(0, 2, 3, 11)])
+refused("no CRLF", lambda: rfc733.fields(b"To"), 4, 2)
+same("plain", rfc733.plain(b"a@b,,x<c @ d>"), b"a at b, x <c at d>")
+same("plain group", rfc733.plain(b":,A:;,B:;;"), b":, A:;, B:;;")
+refused("plain of no list", lambda: rfc733.plain(b"<a at b"), 9, 7)
+example = subprocess.run([root / "target/lib/example", "Al at X"], capture_output=True, text=True)
+same("C example", (example.returncode, example.stdout), (0, "address 1 0 0 0 7 0 2  Al\nplain Al at X\n"))
+example = subprocess.run([root / "target/lib/example", "x"], capture_output=True, text=True)
+same("C example, refused", (example.returncode, example.stdout), (1, "refused 9 1\n"))
+
+for fault in faults:
+    print(fault)
+print(f"calls: {seen}")
+sys.exit(1 if faults or not seen else 0)
