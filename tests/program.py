@@ -57,6 +57,11 @@ class Message:
         self.lines.append(f"address {kind} {depth} {parent} {start} {end} {named} {named + len(name)}")
         return self
 
+    def refused(self, number, words, before):
+        """A refusal: words from which it is found, and those of them that stand before its place."""
+        self.lines.append(f"refused {number} {self.place(words, self.at) + len(before)}")
+        return self
+
     def date(self, *moment):
         """The GMT moment that a date says."""
         gone = datetime.datetime(*moment) - datetime.datetime(1900, 1, 1)
@@ -118,14 +123,18 @@ m.address(GROUP, 1, 1, "Wine", ";", "Wine Lovers").address(MAILBOX, 2, 7, "Cheap
 m.address(MAILBOX, 2, 7, "Port at", "Portugal", "Port").address(MAILBOX, 0, 0, "Jones", "SEA", "Jones")
 expect("nested group", m.text, m.lines)
 
-# a day name that is not the true one; a phrase alone; an open quote; a word behind an address
+# a day name that is not the true one, at the body's start; a phrase alone, at the body's end; an open quote, at the quote;
+# a word behind an address, at the word
 m = example("refused-bodies.txt")
-m.field("Date", "", "EST").lines.append("refused 14 5")
-m.field("From", "", "Friendly").lines.append("refused 9 51")
-m.field("To", "", "at X").lines.append("refused 5 57")
-m.field("cc", "", "b c").lines.append("refused 8 78")
+m.field("Date", "", "EST").refused(14, " Tue", "")
+m.field("From", "", "Friendly").refused(9, "Sarah Friendly", "Sarah Friendly")
+m.field("To", "", "at X").refused(5, '"Al', "")
+m.field("cc", "", "b c").refused(8, "a at b c", "a at b ")
 expect("refused bodies", m.text, m.lines)
-expect("refused header", example("refused-header.txt").text, ["refused 2 26"])
+
+# a line without a colon: at its CR
+m = example("refused-header.txt").refused(2, "no colon here", "no colon here")
+expect("refused header", m.text, m.lines)
 
 # document 01's own lines, and seconds before 1900
 expect("document 01", b"To: Al at X\r\n", ["field 0 2 3 11", "address 1 0 0 4 11 4 6"])
