@@ -5,7 +5,7 @@ set -u
 cd "$(dirname "$0")/.." || exit 2
 bad=0
 seen=0
-unfit='error\[|: error: .*(that can be named from here|is not in scope|has no `Need-)'
+unfit='error\[|: error: .*(that can be named from here|is not in scope|has no `Need-|has no field `before`)'
 for edit in crates/*/must-fail/*.edit; do
     crate=$(basename "$(dirname "$(dirname "$edit")")")
     log=target/must-fail/$crate/$(basename "$edit" .edit)/.log
