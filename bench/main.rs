@@ -1,66 +1,135 @@
-// Measures the proved library, through its C functions, beside the independent reader: best of many rounds.
+// Measures the proved library, through its C functions, beside the independent reader and the C libraries that are here.
+//
+// usage: bench times SECONDS    best of many rounds, each round every reader on every input in turn
+//        bench counts           each reader once on every input, for a count of instructions
+//        bench counted FILE     the table of those counts, which FILE holds in the same order, one to a line
 use std::time::{Duration, Instant};
 
+mod inputs;
 #[path = "../tests/independent/reader.rs"]
 mod reader;
+mod readers;
+mod report;
 
-extern "C" {
-    fn rfc733_split(m: *const u8, n: usize, table: *mut u8, room: usize, told: *mut u64, three: usize);
-    fn rfc733_addresses(m: *const u8, n: usize, start: usize, end: usize, table: *mut u8, room: usize, told: *mut u64, three: usize);
-    fn rfc733_date(m: *const u8, n: usize, start: usize, end: usize, told: *mut u64, three: usize, value: *mut i64);
-    fn rfc733_plain(m: *const u8, n: usize, start: usize, end: usize, text: *mut u8, room: usize, told: *mut u64, three: usize);
+use inputs::{Input, Work};
+use readers::{Desk, Read, INDEPENDENT, PROVED};
+use report::{Cost, Row};
+
+// A date is too short to be timed alone.
+const DATES_AT_ONCE: usize = 256;
+
+// The first calls of a turn find a heap and caches that others left behind.
+const CALLS_IN_A_TURN: usize = 4;
+
+// A reader at work on an input.
+struct Task<'a> {
+    input: &'a Input,
+    reader: &'static str,
+    read: Read,
+    found: usize,
 }
 
-// The shortest of many rounds, in nanoseconds.
-fn best(mut round: impl FnMut()) -> f64 {
-    let end = Instant::now() + Duration::from_millis(700);
-    let mut least = f64::MAX;
-    while Instant::now() < end {
-        let start = Instant::now();
-        round();
-        least = least.min(start.elapsed().as_nanos() as f64);
+impl Task<'_> {
+    fn calls(&self) -> usize {
+        if self.input.work == Work::Date { DATES_AT_ONCE } else { 1 }
     }
-    least
+
+    // The nanoseconds of a call.
+    fn time(&self, desk: &mut Desk) -> f64 {
+        desk.lay(&self.input.text);
+        let start = Instant::now();
+        for _ in 0..self.calls() - 1 {
+            (self.read)(desk);
+        }
+        let found = (self.read)(desk);
+        let elapsed = start.elapsed().as_nanos() as f64;
+        assert_eq!(found, self.found, "{} by {}", self.input.work.name(), self.reader);
+        elapsed / self.calls() as f64
+    }
+
+    fn row(&self, cost: f64) -> Row {
+        let input = self.input;
+        Row { work: input.work, bytes: input.text.len(), addresses: input.addresses, reader: self.reader, cost }
+    }
 }
 
-// A part repeated up to a size.
-fn repeated(part: &[u8], size: usize) -> Vec<u8> {
-    part.iter().copied().cycle().take(size - size % part.len()).collect()
+// All readers must find the same mailboxes: records of kind 1 are what RFC 822 calls addresses.
+fn check_mailboxes(task: &Task, desk: &mut Desk) {
+    const KIND_MAILBOX: u8 = 1;
+    if !matches!(task.input.work, Work::Common(_)) || ![PROVED, INDEPENDENT].contains(&task.reader) {
+        return;
+    }
+    desk.lay(&task.input.text);
+    let records = (task.read)(desk);
+    let mailboxes = desk.table.chunks(12).take(records).filter(|record| record[0] == KIND_MAILBOX).count();
+    assert_eq!(mailboxes, task.input.addresses, "mailboxes by {}", task.reader);
 }
 
-fn row(name: &str, size: usize, proved: f64, apart: f64) {
-    let per = size as f64;
-    println!("| {name} | {size} | {:.2} | {:.2} | {:.2} |", proved / per, apart / per, proved / apart);
+fn times(tasks: &[Task], seconds: u64) {
+    let mut desk = Desk::new();
+    tasks.iter().for_each(|task| check_mailboxes(task, &mut desk));
+    let mut least = vec![f64::MAX; tasks.len()];
+    let mut rounds = 0;
+    let end = Instant::now() + Duration::from_secs(seconds);
+    while Instant::now() < end {
+        for (task, least) in tasks.iter().zip(&mut least) {
+            *least = (0..CALLS_IN_A_TURN).map(|_| task.time(&mut desk)).fold(*least, f64::min);
+        }
+        rounds += 1;
+    }
+    let rows: Vec<Row> = tasks.iter().zip(least).map(|(task, cost)| task.row(cost)).collect();
+    println!("Best of {rounds} rounds; in each round every reader reads every input {CALLS_IN_A_TURN} times in turn.\n");
+    report::table(&rows, Cost::Nanoseconds);
+    report::growth(&rows);
+    report::plot(&rows);
+    report::targets(&rows);
 }
 
-fn lists(size: usize, table: &mut [u8], told: &mut [u64; 3]) {
-    let list = repeated(b"Al Neuman at Mad-Host, \"Sam, Irving\" <Sam at Other-Host> (away),\r\n Cooks: Childs@WGBH;, ", size);
-    let n = list.len();
-    let proved = best(|| unsafe { rfc733_addresses(list.as_ptr(), n, 0, n, table.as_mut_ptr(), table.len(), told.as_mut_ptr(), 3) });
-    assert_eq!(told[0], 0);
-    row("addresses", n, proved, best(|| { reader::addresses(&list, 0, n, table); }));
-    let proved = best(|| unsafe { rfc733_plain(list.as_ptr(), n, 0, n, table.as_mut_ptr(), table.len(), told.as_mut_ptr(), 3) });
-    row("plain", n, proved, best(|| { reader::plain(&list, 0, n, table); }));
+// Callgrind counts inside this function alone.
+#[no_mangle]
+#[inline(never)]
+pub fn counted(read: Read, desk: &mut Desk) -> usize {
+    read(desk)
 }
 
-fn headers(size: usize, table: &mut [u8], told: &mut [u64; 3]) {
-    let message = repeated(b"Subject: Re: The Syntax in the RFC,\r\n folded once\r\n", size);
-    let n = message.len();
-    let proved = best(|| unsafe { rfc733_split(message.as_ptr(), n, table.as_mut_ptr(), table.len(), told.as_mut_ptr(), 3) });
-    row("split", n, proved, best(|| { reader::split(&message, table); }));
+// The first call of each pair does what is done once only.
+fn counts(tasks: &[Task]) {
+    let mut desk = Desk::new();
+    for task in tasks {
+        desk.lay(&task.input.text);
+        (task.read)(&mut desk);
+        desk.lay(&task.input.text);
+        assert_eq!(counted(task.read, &mut desk), task.found);
+    }
+}
+
+fn counted_table(tasks: &[Task], file: &str) {
+    let text = std::fs::read_to_string(file).expect("the file of counts");
+    let counts: Vec<f64> = text.lines().map(|line| line.parse().expect("a count")).collect();
+    assert_eq!(counts.len(), tasks.len(), "one count for each reader and input");
+    let rows: Vec<Row> = tasks.iter().zip(counts).map(|(task, cost)| task.row(cost)).collect();
+    report::table(&rows, Cost::Instructions);
+    report::growth(&rows);
 }
 
 fn main() {
-    let mut table = vec![0u8; 1 << 20];
-    let mut told = [0u64; 3];
-    println!("| what | bytes | proved, ns/byte | independent, ns/byte | ratio |\n|---|---|---|---|---|");
-    for size in [1024, 8192, 32768] {
-        lists(size, &mut table, &mut told);
-        headers(size, &mut table, &mut told);
+    let words: Vec<String> = std::env::args().skip(1).collect();
+    let inputs: Vec<Input> = Work::all()
+        .iter()
+        .flat_map(|work| work.sizes().iter().map(|size| inputs::input(*work, *size)))
+        .collect();
+    let mut tasks = vec![];
+    for input in &inputs {
+        for (reader, read, found) in readers::readers(input) {
+            tasks.push(Task { input, reader, read, found });
+        }
     }
-    let date = b"Monday, 21 Nov 1977 14:30:00-EST";
-    let mut value = 0i64;
-    let n = date.len();
-    let proved = best(|| for _ in 0..100 { unsafe { rfc733_date(date.as_ptr(), n, 0, n, told.as_mut_ptr(), 3, &mut value) } });
-    row("date", n, proved / 100.0, best(|| for _ in 0..100 { reader::date(date, 0, n); }) / 100.0);
+    readers::begin();
+    let words: Vec<&str> = words.iter().map(String::as_str).collect();
+    match words[..] {
+        ["times", seconds] => times(&tasks, seconds.parse().expect("seconds")),
+        ["counts"] => counts(&tasks),
+        ["counted", file] => counted_table(&tasks, file),
+        _ => panic!("usage: bench times SECONDS, bench counts, bench counted FILE"),
+    }
 }

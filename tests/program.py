@@ -164,6 +164,19 @@ angles = [f"address 2 {i} {i} {3 + i} {131 - i} {3 + i} {3 + i}" for i in range(
 expect("64 levels", b"To:" + b"<" * 64 + b">" * 64 + b"\r\n", ["field 0 2 3 131"] + angles)
 expect("65 levels", b"To:" + b"<" * 65 + b">" * 65 + b"\r\n", ["field 0 2 3 133", "refused 10 67"])
 
+# a listing that is printed in ten windows: towers of 64 levels, 32 to a field, in the longest message that holds whole ones
+tower = b"<" * 64 + b">" * 64 + b","
+field = b"To:" + tower * 32 + b"\r\n"
+last = b"To:" + tower * ((32768 - 7 * len(field) - 5) // len(tower)) + b"\r\n"
+message, lines, at = b"", [], 0
+for part in [field] * 7 + [last]:
+    lines.append(f"field {at} {at + 2} {at + 3} {at + len(part) - 2}")
+    for i in range(part.count(b",") * 64):
+        level, first = i % 64, at + 3 + i // 64 * len(tower)
+        lines.append(f"address 2 {level} {i if level else 0} {first + level} {first + 128 - level} {first + level} {first + level}")
+    message, at = message + part, at + len(part)
+expect("ten windows", message, lines)
+
 # any bytes: it ends, without a crash, and every line has one of the forms
 seed = 733
 random.seed(seed)

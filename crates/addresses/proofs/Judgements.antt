@@ -7,20 +7,18 @@ use native.Mathlib.Omega.{arith}
 use borrow.Author.Tests.{ltb-true, ltb-false}
 use lib.Dec.{ltb}
 use lib.ListN.{length, take}
-use Rattle.octets.specs.Classes.{classTable}
 use Rattle.octets.specs.Numbers.{messageLimit, levelLimit, messageTooLong, bodyOutOfOrder}
 use Rattle.octets.specs.declared.answers.Answer.{Answer}
 use Rattle.octets.specs.declared.answers.Answer.the-variants.{Accepted, Refused}
 use Rattle.scanner.specs.Scanning.{Scanned, ended, next, faultAt, scan}
-use Rattle.scanner.specs.Answers.{faultOf, bodyScanned}
+use Rattle.scanner.specs.Answers.{unlessFault, faultOf, bodyScanned}
 use Rattle.scanner.specs.declared.Class.{Class}
-use Rattle.scanner.proofs.BodyChecks.{too-long, out-of-order, past-the-end, in-order}
+use Rattle.scanner.proofs.BodyChecks.{too-long, out-of-order, past-the-end, in-order, unless-refused, unless-none}
 use Rattle.grammar.specs.Language.{Verdict, accepted, refused, number, positionOf}
 use Rattle.grammar.specs.Rfc733.{Derivation}
 use Rattle.grammar.proofs.Condition3.{answer, answer-accepts, answer-derives}
 use Rattle.addresses.specs.Outcome.{Outcome, refusal, decidedBy, bodySymbols, outcomeBy}
 use Rattle.addresses.specs.Condition3.{IsList}
-use Rattle.addresses.proofs.WholeLaws.{unless-refused, unless-none}
 
 -- a body within its message that scans without fault to a list with this derivation
 pub record ListBody (message : List ℕ) (start end : ℕ) (k : Derivation) : Type 0 where
@@ -37,7 +35,7 @@ pub data Judged (message : List ℕ) (start end : ℕ) : Type 0 where
 -- of a list it is written what is to be written of its derivation
 pub listed-outcome : {message : List ℕ} {start end : ℕ} {k : Derivation} → ListBody message start end k → (written : List ℕ → Derivation → Outcome) (lent : List ℕ) → outcomeBy written message start end lent ≡ written lent k
 listed-outcome {message} {start} {end} b written lent =
-    in-order (refusal lent) message start end _ (b .short) (b .ordered) (b .inside) ∙ unless-none classTable message lent (scan (take end message) start) _ (b .faultless)
+    in-order (refusal lent) message start end _ (b .short) (b .ordered) (b .inside) ∙ unless-none (refusal lent) (scan (take end message) start) _ (b .faultless)
     ∙ ap (decidedBy written end lent) (answer-accepts levelLimit (b .list .derived) (b .list .within))
 
 -- a scan has a first fault or none
@@ -46,7 +44,7 @@ data FaultCase (r : Answer) : Type 0 where
   faulty : (n p : ℕ) → Refused n p ≡ r → FaultCase r
 
 fault-case : (s : Scanned) → FaultCase (faultOf s)
-unfolding faultOf
+unfolding unlessFault
 fault-case ended = faultless refl
 fault-case (next x rest) = fault-case rest
 fault-case (faultAt n p) = faulty n p refl
@@ -63,12 +61,12 @@ module _ (message : List ℕ) (start end : ℕ) where
         listed k (record { short = h; ordered = i; inside = l; faultless = n; list = record { derived = d .0; within = d .1 } })
     by-verdict n (refused why rest) e =
         refusedAt (number why) (positionOf end rest)
-        (λ w o. in-order (refusal o) message start end _ h i l ∙ unless-none classTable message o (scan (take end message) start) _ n ∙ ap (decidedBy w end o) e)
+        (λ w o. in-order (refusal o) message start end _ h i l ∙ unless-none (refusal o) (scan (take end message) start) _ n ∙ ap (decidedBy w end o) e)
 
     by-fault : FaultCase (faultOf (scan (take end message) start)) → Judged message start end
     by-fault (faultless e) = by-verdict e _ refl
     by-fault (faulty n p e) =
-        refusedAt n p (λ w o. in-order (refusal o) message start end _ h i l ∙ unless-refused classTable message o (scan (take end message) start) _ e)
+        refusedAt n p (λ w o. in-order (refusal o) message start end _ h i l ∙ unless-refused (refusal o) (scan (take end message) start) _ e)
 
   by-checks : (a b c : Bool) → ltb messageLimit (length message) ≡ a → ltb end start ≡ b → ltb (length message) end ≡ c → Judged message start end
   by-checks true b c x y z = refusedAt messageTooLong messageLimit (λ w o. too-long (refusal o) message start end _ (ltb-true _ _ x))

@@ -12,3 +12,4 @@ pub mod NamedLaws
 pub mod WholeLaws
 pub mod Judgements
 pub mod BodyRecords
+pub mod RecordsRead

@@ -11,7 +11,7 @@ use Rattle.scanner.proofs.Next as next-declared
 use Rattle.octets.specs.Numbers.{noListGoesOn, endsTooSoon}
 use Rattle.octets.specs.declared.answers.Answer.the-variants.{Accepted}
 use Rattle.scanner.specs.Scanning.{scanBy, symbolsOf}
-use Rattle.scanner.specs.Answers.{nextOf, faultOf}
+use Rattle.scanner.specs.Answers.{nextOf, unlessFault, faultOf}
 use Rattle.scanner.specs.declared.Next.{Next}
 use Rattle.scanner.specs.declared.Next.the-variants.{Found, Ended, Fault}
 use Rattle.scanner.proofs.Unfolding.{SymbolAt, found, found-end, found-fault, fault-on}
@@ -29,7 +29,7 @@ module _ (classes text : List ℕ) where
   faultless-on f x = record { none = sym (fault-on classes text x) ∙ f .none }
 
   no-fault : {at number p : ℕ} → Faultless classes text at → Fault number p ≡ nextOf (scanBy classes text at) → ⊥
-  unfolding faultOf
+  unfolding unlessFault
   no-fault {at} f e = let g = ap faultOf (found-fault classes text at e) in let h = f .none in let z : _≡_ {A = ℕ} 0 1 = cc in omega arith
 
   -- where there is no fault, the next symbol is as it says

@@ -1,24 +1,22 @@
 -- A whole body: the verdict, and what follows from it for the answer and the table. Assumes nothing.
 use mathlib.Core.Path.{_≡_, refl, sym, ap, _∙_}
 use mathlib.Core.Bool.{Bool, true, false, true≢false}
-use mathlib.Core.List.{List, [], _∷_, _++_}
-use Prim.Native.Nat.{ℕ, _+_, _*_, _-_, _/_, _≤_, _<_}
+use mathlib.Core.List.{List, [], _∷_}
+use Prim.Native.Nat.{ℕ, _/_, _≤_, _<_}
 use native.Mathlib.Omega.{arith}
 use borrow.Author.Tests.{lt-ltb, le-ltb}
 use lib.ListN.{length, take}
 use lib.Seq.{sets, length-take-le}
-use types.Run.{OneOf, miss}
-use denote.Enum.Declared.{tagOf}
-use Rattle.octets.proofs.answers.Answer as answer-declared
 use Rattle.octets.specs.Classes.{classTable}
-use Rattle.octets.specs.Numbers.{messageLimit, levelLimit, noListGoesOn}
+use Rattle.octets.specs.Numbers.{messageLimit, levelLimit, addressRecordSize, noListGoesOn}
+use Rattle.octets.specs.Stored.{roomFor}
 use Rattle.octets.specs.declared.answers.Answer.{Answer}
 use Rattle.octets.specs.declared.answers.Answer.the-variants.{Accepted, Refused, NoRoom}
-use Rattle.scanner.specs.Scanning.{Scanned, ended, next, faultAt, scan, scanBy, symbolsOf}
-use Rattle.scanner.specs.Answers.{faultOf}
+use Rattle.scanner.specs.Scanning.{scan}
+use Rattle.scanner.specs.Answers.{unlessFault}
 use Rattle.scanner.specs.declared.Next.{Next}
 use Rattle.scanner.specs.declared.Next.the-variants.{Found, Ended, Fault}
-use Rattle.scanner.proofs.BodyChecks.{in-order}
+use Rattle.scanner.proofs.BodyChecks.{in-order, unless-none}
 use Rattle.grammar.specs.Grammar.{levels}
 use Rattle.grammar.specs.Language.{Refusal, unfit, Verdict, accepted, refused, number, positionOf}
 use Rattle.grammar.specs.Records.{count, records, tableBytes}
@@ -30,7 +28,7 @@ use Rattle.grammar.proofs.AddressMachine.{top, start, run, judge, read}
 use Rattle.grammar.proofs.Complete.{doneList, complete-doneList}
 use Rattle.grammar.proofs.Readers.{ListEnds}
 use Rattle.grammar.proofs.TreeRecords.{listCount, tree-records, tree-count}
-use Rattle.addresses.specs.Outcome.{Outcome, refusal, room, derived, decided, unlessFault, bodySymbols, outcome}
+use Rattle.addresses.specs.Outcome.{Outcome, refusal, derived, decided, bodySymbols, outcome}
 use Rattle.addresses.specs.Condition3.{IsList, RightlyRefused, Settled, Condition3}
 use Rattle.addresses.specs.Steps.{symbolsFrom, symbolsAhead, lexemeAt, ListRead, ListStops}
 use Rattle.addresses.specs.Whole.{IsListed, IsRefused, TwiceIs, TextIs}
@@ -88,15 +86,15 @@ module _ (classes text : List ℕ) where
 
     pub twice-no-room : {dry after : List ℕ} {n : ℕ} → IsListed classes text at dry after n → length table / 12 < n → TwiceIs classes text at table table (NoRoom n)
     twice-no-room l h =
-        let q : room table < count (l .derivation) = rw (← (l .count-is)) h in
-        record { answer-is = rw (l .verdict, lt-ltb (room table) (count (l .derivation)) q, l .count-is); table-is = rw (l .verdict, lt-ltb (room table) (count (l .derivation)) q) }
+        let q : roomFor addressRecordSize table < count (l .derivation) = rw (← (l .count-is)) h in
+        record { answer-is = rw (l .verdict, lt-ltb (roomFor addressRecordSize table) (count (l .derivation)) q, l .count-is); table-is = rw (l .verdict, lt-ltb (roomFor addressRecordSize table) (count (l .derivation)) q) }
 
     pub twice-accepted : {dry half after : List ℕ} {n m : ℕ} → IsListed classes text at dry half n → n ≤ length table / 12 → IsListed classes text at table after m → TwiceIs classes text at table after (Accepted m)
     twice-accepted d h l =
         let e : accepted (d .derivation) ≡ accepted (l .derivation) = sym (d .verdict) ∙ l .verdict in
         let k : d .derivation ≡ l .derivation = cc in
-        let q : count (l .derivation) ≤ room table = rw (← k, ← (d .count-is)) h in
-        record { answer-is = rw (l .verdict, le-ltb (room table) (count (l .derivation)) q, l .count-is); table-is = l .stored ∙ rw (l .verdict, le-ltb (room table) (count (l .derivation)) q) }
+        let q : count (l .derivation) ≤ roomFor addressRecordSize table = rw (← k, ← (d .count-is)) h in
+        record { answer-is = rw (l .verdict, le-ltb (roomFor addressRecordSize table) (count (l .derivation)) q, l .count-is); table-is = l .stored ∙ rw (l .verdict, le-ltb (roomFor addressRecordSize table) (count (l .derivation)) q) }
 
     -- a second run does not refuse what the first did not
     pub twice-never : {dry half : List ℕ} {n number-told place : ℕ} {A : Type 0} → IsListed classes text at dry half n → IsRefused classes text at number-told place → A
@@ -104,39 +102,14 @@ module _ (classes text : List ℕ) where
         let e : accepted (d .derivation) ≡ refused (s .why) (s .rest) = sym (d .verdict) ∙ s .verdict in
         absurd (let z : _≡_ {A = ℕ} 0 1 = cc in omega arith)
 
-  -- where there is a fault, and where there is none
-  pub unless-refused : (table : List ℕ) (s : Scanned) (otherwise : Outcome) {number-told place : ℕ} → Refused number-told place ≡ faultOf s → unlessFault table s otherwise ≡ refusal table number-told place
-  unfolding unlessFault faultOf
-  unless-refused table ended otherwise e = absurd (let z : _≡_ {A = ℕ} 0 1 = cc in omega arith)
-  unless-refused table (next x rest) otherwise e = unless-refused table rest otherwise e
-  unless-refused table (faultAt n p) otherwise e = ap (refusal-of table) (sym e)
-    where
-      refusal-of : List ℕ → Answer → Outcome
-      refusal-of t (Accepted w) = refusal t 0 0
-      refusal-of t (Refused m q) = refusal t m q
-      refusal-of t (NoRoom w) = refusal t 0 0
-
-  pub unless-none : (table : List ℕ) (s : Scanned) (otherwise : Outcome) → faultOf s ≡ Accepted 0 → unlessFault table s otherwise ≡ otherwise
-  unfolding unlessFault faultOf
-  unless-none table ended otherwise e = refl
-  unless-none table (next x rest) otherwise e = unless-none table rest otherwise e
-  unless-none table (faultAt n p) otherwise e = absurd (let z : _≡_ {A = ℕ} 0 1 = cc in omega arith)
-
--- a scan gives the first fault or none
-pub fault-or-none : (s : Scanned) → (r : Answer) → r ≡ faultOf s → OneOf (0 ∷ 2 ∷ []) (tagOf answer-declared.the-type r) → faultOf s ≡ Accepted 0
-unfolding faultOf
-fault-or-none ended r e o = refl
-fault-or-none (next x rest) r e o = fault-or-none rest r e o
-fault-or-none (faultAt n p) r e o = absurd (miss (0 ∷ 2 ∷ []) 1 tt (rw e at o))
-
 -- ---- condition 3
 
 module _ (symbols : List Sym) (end : ℕ) (table : List ℕ) where
   by-verdict : (v : Verdict Class Derivation) → answer levelLimit symbols ≡ v → Settled symbols end table (decided end table v .answer) (decided end table v .table)
   by-verdict (accepted k) e =
       record {
-        with-room = λ k′ d h. let q = same k′ d in (rw (le-ltb (room table) (count k) (rw q h)) (ap (λ z. Accepted (count z)) q), rw (le-ltb (room table) (count k) (rw q h)) (ap (λ z. sets table 0 (tableBytes (records z))) q));
-        without-room = λ k′ d h. let q = same k′ d in (rw (lt-ltb (room table) (count k) (rw q h)) (ap (λ z. NoRoom (count z)) q), rw (lt-ltb (room table) (count k) (rw q h)));
+        with-room = λ k′ d h. let q = same k′ d in (rw (le-ltb (roomFor addressRecordSize table) (count k) (rw q h)) (ap (λ z. Accepted (count z)) q), rw (le-ltb (roomFor addressRecordSize table) (count k) (rw q h)) (ap (λ z. sets table 0 (tableBytes (records z))) q));
+        without-room = λ k′ d h. let q = same k′ d in (rw (lt-ltb (roomFor addressRecordSize table) (count k) (rw q h)) (ap (λ z. NoRoom (count z)) q), rw (lt-ltb (roomFor addressRecordSize table) (count k) (rw q h)));
         no-list = λ f. absurd (f k (record { derived = answer-derives levelLimit {xs = symbols} e .0; within = answer-derives levelLimit {xs = symbols} e .1 }));
       }
     where
@@ -160,13 +133,8 @@ pub settles : (message : List ℕ) (start end : ℕ) (table : List ℕ) (r : Ans
     → Condition3 message start end table r after
 settles message start end table r after e f h k l n =
     let o : outcome message start end table ≡ decided end table (answer levelLimit (bodySymbols message start end)) =
-    in-order (refusal table) message start end _ h k l ∙ unless-none classTable message table (scan (take end message) start) _ n in
+    in-order (refusal table) message start end _ h k l ∙ unless-none (refusal table) (scan (take end message) start) _ n in
     rw (e, f, o) (by-verdict (bodySymbols message start end) end table (answer levelLimit (bodySymbols message start end)) refl)
-
--- a run on the empty part of a table leaves it as it was
-pub untouched : (part table : List ℕ) → length part ≡ 0 → part ++ table ≡ table
-untouched [] table e = refl
-untouched (b ∷ part) table e = absurd (omega arith)
 
 -- the two promises of the entry point
 abbrev pub Promised : List ℕ → ℕ → ℕ → List ℕ → Answer → List ℕ → Type 0
@@ -184,8 +152,8 @@ pub text-promised : (message : List ℕ) (start end : ℕ) (table after : List �
 text-promised message start end table after r h k l x =
     let text = take end message in
     let z = answer levelLimit (bodySymbols message start end) in
-    let e : unlessFault table (scan text start) (decided (length text) table z) ≡ outcome message start end table =
-    ap (λ (n : ℕ). unlessFault table (scan text start) (decided n table z)) (length-take-le end message l) ∙ sym (in-order (refusal table) message start end _ h k l) in
+    let e : unlessFault (refusal table) (scan text start) (decided (length text) table z) ≡ outcome message start end table =
+    ap (λ (n : ℕ). unlessFault (refusal table) (scan text start) (decided n table z)) (length-take-le end message l) ∙ sym (in-order (refusal table) message start end _ h k l) in
     let p : r ≡ outcome message start end table .answer = x .answer-is ∙ ap (λ (o : Outcome). o .answer) e in
     let q : after ≡ outcome message start end table .table = x .table-is ∙ ap (λ (o : Outcome). o .table) e in
     ((p, q), settles message start end table r after p q)

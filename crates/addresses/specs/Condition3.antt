@@ -4,7 +4,8 @@ use mathlib.Core.Path.{_≡_}
 use mathlib.Core.List.{List}
 use lib.ListN.{length, take}
 use lib.Seq.{sets}
-use Rattle.octets.specs.Numbers.{messageLimit, levelLimit}
+use Rattle.octets.specs.Numbers.{messageLimit, levelLimit, addressRecordSize}
+use Rattle.octets.specs.Stored.{roomFor}
 use Rattle.octets.specs.declared.answers.Answer.{Answer}
 use Rattle.octets.specs.declared.answers.Answer.the-variants.{Accepted, Refused, NoRoom}
 use Rattle.scanner.specs.Scanning.{scan}
@@ -15,7 +16,7 @@ use Rattle.grammar.specs.Grammar.{levels}
 use Rattle.grammar.specs.Language.{Refusal, refused, number, positionOf}
 use Rattle.grammar.specs.Records.{count, records, tableBytes}
 use Rattle.grammar.specs.Rfc733.{Derivation, DerivedList, RightVerdict}
-use Rattle.addresses.specs.Outcome.{room, bodySymbols}
+use Rattle.addresses.specs.Outcome.{bodySymbols}
 
 -- these symbols have this derivation, of at most 64 levels
 pub record IsList (symbols : List (Symbol Class)) (k : Derivation) : Type 0 where
@@ -32,9 +33,9 @@ pub record RightlyRefused (symbols : List (Symbol Class)) (end : ℕ) (r : Answe
 -- what condition 3 says of the symbols of a body with this end, a lent table, the answer and the table afterwards
 pub record Settled (symbols : List (Symbol Class)) (end : ℕ) (table : List ℕ) (r : Answer) (after : List ℕ) : Type 0 where
   -- a list, with room: accepted, with the count and the records of its one derivation, byte for byte, and nothing else changed
-  pub with-room : (k : Derivation) → IsList symbols k → count k ≤ room table → (r ≡ Accepted (count k)) × (after ≡ sets table 0 (tableBytes (records k)))
+  pub with-room : (k : Derivation) → IsList symbols k → count k ≤ roomFor addressRecordSize table → (r ≡ Accepted (count k)) × (after ≡ sets table 0 (tableBytes (records k)))
   -- a list, without room: 11 with the number of its addresses
-  pub without-room : (k : Derivation) → IsList symbols k → room table < count k → (r ≡ NoRoom (count k)) × (after ≡ table)
+  pub without-room : (k : Derivation) → IsList symbols k → roomFor addressRecordSize table < count k → (r ≡ NoRoom (count k)) × (after ≡ table)
   -- no list: refused, whatever the room
   pub no-list : ((k : Derivation) → IsList symbols k → ⊥) → RightlyRefused symbols end r × (after ≡ table)
 

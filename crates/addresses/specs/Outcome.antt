@@ -1,17 +1,18 @@
 -- What the address reader answers and leaves in the lent table, in document 01's order of checks: 1, 13, the faults of scanning, 8, 9 or 10, then 11.
 -- The verdict is that of the machine which the crate `grammar` proves right; `Condition3` says the same without it.
-use Prim.Native.Nat.{ℕ, _/_}
+use Prim.Native.Nat.{ℕ}
 use mathlib.Core.List.{List}
 use lib.Dec.{ltb}
-use lib.ListN.{length, take}
+use lib.ListN.{take}
 use lib.Seq.{sets}
 use Rattle.octets.specs.Choice.{pick}
 use Rattle.octets.specs.Numbers.{levelLimit, addressRecordSize}
+use Rattle.octets.specs.Stored.{roomFor}
 use Rattle.octets.specs.declared.answers.Answer.{Answer}
 use Rattle.octets.specs.declared.answers.Answer.the-variants.{Accepted, Refused, NoRoom}
 use Rattle.scanner.specs.Symbols.{Symbol}
-use Rattle.scanner.specs.Scanning.{Scanned, ended, next, faultAt, scan, symbolsOf}
-use Rattle.scanner.specs.Answers.{bodyChecked}
+use Rattle.scanner.specs.Scanning.{scan, symbolsOf}
+use Rattle.scanner.specs.Answers.{bodyChecked, unlessFault}
 use Rattle.scanner.specs.declared.Class.{Class}
 use Rattle.grammar.specs.Language.{Verdict, accepted, refused, number, positionOf}
 use Rattle.grammar.specs.Records.{count, records, tableBytes}
@@ -27,14 +28,10 @@ pub record Outcome : Type 0 where
 abbrev pub refusal : List ℕ → ℕ → ℕ → Outcome
 refusal table number position = record { answer = Refused number position; table = table }
 
--- room in a table is the whole number of records that fit
-abbrev pub room : List ℕ → ℕ
-room table = length table / addressRecordSize
-
 -- a derivation: its records at the front of the table, or 11 with their count where there is too little room
 abbrev pub derived : List ℕ → Derivation → Outcome
 derived table k =
-    pick (ltb (room table) (count k)) (record { answer = NoRoom (count k); table = table })
+    pick (ltb (roomFor addressRecordSize table) (count k)) (record { answer = NoRoom (count k); table = table })
     (record { answer = Accepted (count k); table = sets table 0 (tableBytes (records k)) })
 
 -- a verdict on a body with this end: what is written of a derivation, or the refusal
@@ -46,12 +43,6 @@ decidedBy written end lent (refused why rest) = refusal lent (number why) (posit
 abbrev pub decided : ℕ → List ℕ → Verdict Class Derivation → Outcome
 decided end table verdict = decidedBy derived end table verdict
 
--- the first fault of scanning, else what is decided
-unfoldable pub unlessFault : List ℕ → Scanned → Outcome → Outcome
-unlessFault table ended otherwise = otherwise
-unlessFault table (next x rest) otherwise = unlessFault table rest otherwise
-unlessFault table (faultAt number position) otherwise = refusal table number position
-
 -- the symbols of the body of a message from `start` up to `end`
 abbrev pub bodySymbols : List ℕ → ℕ → ℕ → List (Symbol Class)
 bodySymbols message start end = symbolsOf (scan (take end message) start)
@@ -60,7 +51,7 @@ bodySymbols message start end = symbolsOf (scan (take end message) start)
 abbrev pub outcomeBy : (List ℕ → Derivation → Outcome) → List ℕ → ℕ → ℕ → List ℕ → Outcome
 outcomeBy written message start end lent =
     bodyChecked (refusal lent) message start end
-    (unlessFault lent (scan (take end message) start) (decidedBy written end lent (answer levelLimit (bodySymbols message start end))))
+    (unlessFault (refusal lent) (scan (take end message) start) (decidedBy written end lent (answer levelLimit (bodySymbols message start end))))
 
 -- the outcome for any message, positions and table
 abbrev pub outcome : List ℕ → ℕ → ℕ → List ℕ → Outcome

@@ -7,12 +7,13 @@ use lib.Seq.{sets}
 use Rattle.octets.specs.Numbers.{messageLimit, levelLimit}
 use Rattle.octets.specs.declared.answers.Answer.{Answer}
 use Rattle.scanner.specs.Scanning.{scanBy}
+use Rattle.scanner.specs.Answers.{unlessFault}
 use Rattle.grammar.specs.Language.{Refusal, accepted, refused, number, positionOf}
 use Rattle.grammar.specs.Records.{count, records, tableBytes}
 use Rattle.grammar.specs.Rfc733.{Derivation}
 use Rattle.grammar.proofs.Condition3.{answer}
 use Rattle.grammar.proofs.Trees.{Sym}
-use Rattle.addresses.specs.Outcome.{decided, unlessFault}
+use Rattle.addresses.specs.Outcome.{refusal, decided}
 use Rattle.addresses.specs.Steps.{symbolsFrom, Faultless}
 use Rattle.addresses.specs.declared.Whole.{Whole}
 use Rattle.addresses.specs.declared.Whole.the-variants.{Listed, Refused}
@@ -47,5 +48,5 @@ module _ (classes text : List ℕ) where
 
   -- .. unless there is a fault
   pub record TextIs (at : ℕ) (table after : List ℕ) (r : Answer) : Type 0 where
-    pub answer-is : r ≡ unlessFault table (scanBy classes text at) (decided (length text) table (answer levelLimit (symbolsFrom classes text at))) .answer
-    pub table-is : after ≡ unlessFault table (scanBy classes text at) (decided (length text) table (answer levelLimit (symbolsFrom classes text at))) .table
+    pub answer-is : r ≡ unlessFault (refusal table) (scanBy classes text at) (decided (length text) table (answer levelLimit (symbolsFrom classes text at))) .answer
+    pub table-is : after ≡ unlessFault (refusal table) (scanBy classes text at) (decided (length text) table (answer levelLimit (symbolsFrom classes text at))) .table

@@ -85,6 +85,9 @@ fn put_record(table: &mut [u8], frame: Frame, kind: u8, end: usize, start: usize
     ensures { λ _. ⌜ now (table .exit) ≡ sets (now (table .entry)) (frame .number * 12) (recordBytes (recordBy kind (64 - frame .levels) (frame .parent) start end (name .start) (name .end))) ⌝ }
 {
     let at = frame.number * ADDRESS_RECORD_SIZE;
+    if table.len() <= at {
+        return;
+    }
     octets::stored::store_byte(table, at, kind);
     octets::stored::store_byte(table, at + 1, (LEVEL_LIMIT - frame.levels) as u8);
     octets::stored::store_two(table, at + 2, frame.parent);

@@ -15,16 +15,17 @@ use mir.Syntax.{w16}
 use mir.Val.{SFits}
 use mir.Facts.{sfits-lit}
 use Rattle.octets.specs.Classes.{letter, digit}
+use Rattle.octets.specs.Octets.{minusByte}
 use Rattle.octets.specs.Text.{part}
 use Rattle.octets.proofs.Tables.{at}
+use Rattle.octets.proofs.Parts.{part-cons, part-none, part-length}
 use Rattle.dates.specs.Names.{place, zoneNames, zoneMinutes}
-use Rattle.dates.specs.Parts.{Part, minus}
+use Rattle.dates.specs.Parts.{Part}
 use Rattle.dates.specs.Grammar.{numberFrom, number, offsetOf}
 use Rattle.dates.specs.Form.{firstKey, after, done, digitsOf, named, noZone, zoned, zoneNamed, hourAfter, pastDash, yearAfter}
 use Rattle.dates.specs.Steps.{TokenIs, NumberIs, NamedIs, SpotIs}
 use Rattle.dates.specs.declared.parts.Token.{Token}
 use Rattle.dates.specs.declared.form.Offset.the-variants.{Minutes, OutOfRange}
-use Rattle.dates.proofs.PartLaws.{part-cons, part-none, part-length}
 
 -- ---- the value of digits
 
@@ -81,13 +82,13 @@ module _ {classes text : List ℕ} {l : List Part} {t : Token} (x : TokenIs clas
     unfolding named
     a-name k n e = record { place-is = rw (x .key-is, eq-eqb (t .key) letter k, x .bytes-are) (sym e); rest-is = x .rest-is; place = x .place }
 
-  pub dash : t .key ≡ minus → SpotIs classes text (pastDash l) (record { at = t .stop; end = t .end })
+  pub dash : t .key ≡ minusByte → SpotIs classes text (pastDash l) (record { at = t .stop; end = t .end })
   unfolding pastDash
-  dash e = record { is = rw (x .key-is, eq-eqb (t .key) minus e) (x .rest-is); place = x .place }
+  dash e = record { is = rw (x .key-is, eq-eqb (t .key) minusByte e) (x .rest-is); place = x .place }
 
-  pub no-dash : (t .key ≡ minus → ⊥) → pastDash l ≡ l
+  pub no-dash : (t .key ≡ minusByte → ⊥) → pastDash l ≡ l
   unfolding pastDash
-  no-dash n = rw (x .key-is, ne-eqb (t .key) minus n)
+  no-dash n = rw (x .key-is, ne-eqb (t .key) minusByte n)
 
 pub all-done : {l : List Part} → l ≡ [] → done l ≡ true
 unfolding done

@@ -11,8 +11,9 @@ use lib.ListN.{length, getD}
 use borrow.Author.Tests.{eqb-true, ltb-true, leb-true, lt-ltb}
 use Rattle.octets.specs.Choice.{pick, both}
 use Rattle.octets.specs.Classes.{letter, digit}
+use Rattle.octets.specs.Octets.{plusByte, commaByte, minusByte, colonByte}
 use Rattle.dates.specs.Names.{dayNames, monthNames, zoneNames, zoneMinutes, place, ahead, behind}
-use Rattle.dates.specs.Parts.{Part, comma, colon, plus, minus}
+use Rattle.dates.specs.Parts.{Part}
 use Rattle.dates.specs.Grammar.{num, offsetOf, Digits, Name, DayNameIs, day-name, no-day-name, DashIs, dash, no-dash, DayIs, one-digit, two-digits, MonthIs, month, YearIs, short-year, full-year, HourIs, four, six, two-two, two-four, four-two, two-two-two, ZoneIs, zone-name, dashed-name, east, west, DateIs, date}
 use Rattle.dates.specs.Form.{firstKey, firstBytes, after, done, digitsOf, named, Hour, noHour, hour, secondFrom, secondAfter, minuteFrom, minuteAfter, hourFrom, hourOf, Zoned, noZone, zoned, zoneFrom, zoneNamed, signedFrom, zoneOf, ended, zoneAfter, hourAfter, pastDash, yearFrom, yearAfter, monthFrom, monthAfter, dayFrom, dayAfter, readingFrom, readingOf}
 use Rattle.dates.specs.declared.form.Offset.{Offset}
@@ -31,14 +32,14 @@ read-zone (east e d) = rw (e, d .run, d .many)
 read-zone (west e d) = rw (e, d .run, d .many)
 
 -- a zone does not start with a colon
-zone-starts : {l : List Part} {offset : Offset} → ZoneIs l offset → eqb (firstKey l) colon ≡ false
+zone-starts : {l : List Part} {offset : Offset} → ZoneIs l offset → eqb (firstKey l) colonByte ≡ false
 unfolding firstKey
 zone-starts (zone-name n) = rw (n .run)
 zone-starts (dashed-name e n) = rw e
 zone-starts (east e d) = rw e
 zone-starts (west e d) = rw e
 
-read-hour : {l r : List Part} {h m s : ℕ} → HourIs l h m s r → eqb (firstKey r) colon ≡ false → hourOf l ≡ hour h m s r
+read-hour : {l r : List Part} {h m s : ℕ} → HourIs l h m s r → eqb (firstKey r) colonByte ≡ false → hourOf l ≡ hour h m s r
 unfolding hourOf minuteAfter secondAfter digitsOf firstKey firstBytes after
 read-hour (four d) c = rw (d .run, d .many, c)
 read-hour (six d) c = rw (d .run, d .many)
@@ -59,16 +60,16 @@ module _ (name d m : ℕ) where
   read-year (full-year e) = rw (e .run, e .many)
 
 -- neither a year nor a month starts with a "-"
-year-starts : {l r : List Part} {y : ℕ} → YearIs l y r → eqb (firstKey l) minus ≡ false
+year-starts : {l r : List Part} {y : ℕ} → YearIs l y r → eqb (firstKey l) minusByte ≡ false
 unfolding firstKey
 year-starts (short-year e) = rw (e .run)
 year-starts (full-year e) = rw (e .run)
 
-month-starts : {l r : List Part} {m : ℕ} → MonthIs l m r → eqb (firstKey l) minus ≡ false
+month-starts : {l r : List Part} {m : ℕ} → MonthIs l m r → eqb (firstKey l) minusByte ≡ false
 unfolding firstKey
 month-starts (month e) = rw (e .run)
 
-read-dash : {l r : List Part} → DashIs l r → eqb (firstKey r) minus ≡ false → pastDash l ≡ r
+read-dash : {l r : List Part} → DashIs l r → eqb (firstKey r) minusByte ≡ false → pastDash l ≡ r
 unfolding pastDash firstKey after
 read-dash (dash e) c = rw e
 read-dash no-dash c = rw c
@@ -120,16 +121,16 @@ HourOk l noHour = Unit {0}
 HourOk l (hour h m s r) = HourIs l h m s r
 
 second-ok : (l : List Part) (h m : ℕ) (r : List Part) → HourIs l h m 0 r
-    → ((c q : Part) (z : List Part) → r ≡ c ∷ q ∷ z → c .key ≡ colon → Digits 2 q → HourIs l h m (num q) z) → HourOk l (secondAfter h m r)
+    → ((c q : Part) (z : List Part) → r ≡ c ∷ q ∷ z → c .key ≡ colonByte → Digits 2 q → HourIs l h m (num q) z) → HourOk l (secondAfter h m r)
 unfolding secondAfter digitsOf firstKey firstBytes after
 second-ok l h m [] x f = x
-second-ok l h m (c ∷ []) x f = pick-eq (HourOk l) (c .key) colon (λ e. tt) x
+second-ok l h m (c ∷ []) x f = pick-eq (HourOk l) (c .key) colonByte (λ e. tt) x
 second-ok l h m (c ∷ q ∷ z) x f =
-    pick-eq (HourOk l) (c .key) colon
+    pick-eq (HourOk l) (c .key) colonByte
     (λ e. pick-eq (λ d. HourOk l (secondFrom h m d z)) (q .key) digit
     (λ g. pick-eq (HourOk l) (length (q .bytes)) 2 (λ k. f c q z refl e record { run = g; many = k }) tt) tt) x
 
-minute-ok : (p c : Part) (r : List Part) → Digits 2 p → c .key ≡ colon → HourOk (p ∷ c ∷ r) (minuteAfter (num p) r)
+minute-ok : (p c : Part) (r : List Part) → Digits 2 p → c .key ≡ colonByte → HourOk (p ∷ c ∷ r) (minuteAfter (num p) r)
 unfolding minuteAfter digitsOf firstKey firstBytes after
 minute-ok p c [] d e = tt
 minute-ok p c (q ∷ z) d e =
@@ -139,10 +140,10 @@ minute-ok p c (q ∷ z) d e =
     (λ k. second-ok (p ∷ c ∷ q ∷ z) (num p) (num q) z (two-two d e record { run = g; many = k })
     (λ c′ s z′ w e′ d′. subst (λ (x : List Part). HourIs (p ∷ c ∷ q ∷ x) (num p) (num q) (num s) z′) (sym w) (two-two-two d e record { run = g; many = k } e′ d′))) tt)) tt
 
-colon-ok : (p : Part) (r : List Part) → Digits 2 p → HourOk (p ∷ r) (pick (eqb (firstKey r) colon) (minuteAfter (num p) (after r)) noHour)
+colon-ok : (p : Part) (r : List Part) → Digits 2 p → HourOk (p ∷ r) (pick (eqb (firstKey r) colonByte) (minuteAfter (num p) (after r)) noHour)
 unfolding firstKey after
 colon-ok p [] d = tt
-colon-ok p (c ∷ z) d = pick-eq (HourOk (p ∷ c ∷ z)) (c .key) colon (λ e. minute-ok p c z d e) tt
+colon-ok p (c ∷ z) d = pick-eq (HourOk (p ∷ c ∷ z)) (c .key) colonByte (λ e. minute-ok p c z d e) tt
 
 hour-ok : (l : List Part) → HourOk l (hourOf l)
 unfolding hourOf digitsOf firstKey firstBytes after
@@ -179,9 +180,9 @@ zone-ok : (l : List Part) → ZoneOk l (zoneOf l)
 unfolding zoneOf zoneNamed named digitsOf firstKey firstBytes after
 zone-ok [] = tt
 zone-ok (s ∷ r) =
-    pick-eq (ZoneOk (s ∷ r)) (s .key) plus
+    pick-eq (ZoneOk (s ∷ r)) (s .key) plusByte
     (λ e. signed-ok (s ∷ r) r ahead noZone tt (λ p w d. subst (λ (x : List Part). ZoneIs (s ∷ x) (offsetOf ahead (num p))) (sym w) (east e d)))
-    (pick-eq (ZoneOk (s ∷ r)) (s .key) minus
+    (pick-eq (ZoneOk (s ∷ r)) (s .key) minusByte
     (λ e. signed-ok (s ∷ r) r behind (zoneNamed r)
     (zone-name-ok (s ∷ r) r (λ p z w n. subst (λ (x : List Part). ZoneIs (s ∷ x) (Minutes (getD zoneMinutes z (pos 0)))) (sym w) (dashed-name e n)))
     (λ p w d. subst (λ (x : List Part). ZoneIs (s ∷ x) (offsetOf behind (num p))) (sym w) (west e d)))
@@ -224,7 +225,7 @@ year-ok l name d m (p ∷ r) f =
 dash-ok : (l : List Part) → DashIs l (pastDash l)
 unfolding pastDash firstKey after
 dash-ok [] = no-dash
-dash-ok (p ∷ r) = pick-eq (λ q. DashIs (p ∷ r) q) (p .key) minus (λ e. dash e) no-dash
+dash-ok (p ∷ r) = pick-eq (λ q. DashIs (p ∷ r) q) (p .key) minusByte (λ e. dash e) no-dash
 
 month-ok : (l : List Part) (name d : ℕ) (q : List Part)
     → ((m : ℕ) (r : List Part) → MonthIs q m r → (p : List Part) → DashIs r p → (y : ℕ) (z : List Part) → YearIs p y z → Ends l name d m y z) → ReadingOk l (monthAfter name d q)
@@ -256,10 +257,10 @@ day-ok l name (p ∷ r) x = pick-eq (λ b. ReadingOk l (dayFrom name b r)) (p .k
     go e true a false b = tt
     go e false a u b = tt
 
-day-name-ok : (p : Part) (r : List Part) (n : ℕ) → Name dayNames n p → ReadingOk (p ∷ r) (pick (eqb (firstKey r) comma) (dayAfter n (after r)) Wrong)
+day-name-ok : (p : Part) (r : List Part) (n : ℕ) → Name dayNames n p → ReadingOk (p ∷ r) (pick (eqb (firstKey r) commaByte) (dayAfter n (after r)) Wrong)
 unfolding firstKey after
 day-name-ok p [] n x = tt
-day-name-ok p (q ∷ z) n x = pick-eq (ReadingOk (p ∷ q ∷ z)) (q .key) comma (λ e. day-ok (p ∷ q ∷ z) n z (day-name x e)) tt
+day-name-ok p (q ∷ z) n x = pick-eq (ReadingOk (p ∷ q ∷ z)) (q .key) commaByte (λ e. day-ok (p ∷ q ∷ z) n z (day-name x e)) tt
 
 reading-ok : (l : List Part) → ReadingOk l (readingOf l)
 unfolding readingOf named firstKey firstBytes after

@@ -11,12 +11,12 @@ use lib.Signed.{mag}
 use mir.Syntax.{w16, w64}
 use mir.Val.{SFits}
 use Rattle.octets.specs.Choice.{both}
+use Rattle.octets.proofs.ChoiceLaws.{both-parts}
 use Rattle.dates.specs.Calendar.{monthLength}
 use Rattle.dates.specs.Answers.{dayExists, timeExists, nameTrue, daysOf, localSeconds, seconds, inZone, momentOf}
 use Rattle.dates.specs.declared.form.Written.{Written}
 use Rattle.dates.specs.declared.moment.Moment.the-variants.{Impossible}
 use Rattle.dates.proofs.CalendarLaws.{no-month, length-small}
-use Rattle.dates.proofs.NameLaws.{both-true}
 
 -- ---- days
 
@@ -47,9 +47,9 @@ module _ (year month day : ℕ) where
   pub in-calendar : dayExists year month day ≡ true → InCalendar
   unfolding dayExists
   in-calendar e =
-      let a = both-true (both (leb 1900 year) (leb year 9999)) _ e in
-      let y = both-true (leb 1900 year) _ (a .0) in
-      let d = both-true (leb 1 day) _ (a .1) in
+      let a = both-parts (both (leb 1900 year) (leb year 9999)) _ e in
+      let y = both-parts (leb 1900 year) _ (a .0) in
+      let d = both-parts (leb 1 day) _ (a .1) in
       let one : 1 ≤ day = leb-true _ _ (d .0) in
       let most : day ≤ monthLength year month = leb-true _ _ (d .1) in
       let m : month < 12 = elim (decLt month 12) [ yes h ↦ h | no h ↦ absurd (omega (arith, no-month year month (omega arith))) ] in
@@ -78,8 +78,8 @@ module _ (hour minute second : ℕ) where
   pub in-day : timeExists hour minute second ≡ true → InDay
   unfolding timeExists
   in-day e =
-      let a = both-true (leb hour 23) _ e in
-      let b = both-true (leb minute 59) _ (a .1) in
+      let a = both-parts (leb hour 23) _ e in
+      let b = both-parts (leb minute 59) _ (a .1) in
       record { hours = leb-true _ _ (a .0); minutes = leb-true _ _ (b .0); seconds-are = leb-true _ _ (b .1) }
 
 -- ---- names

@@ -1,18 +1,19 @@
 -- The laws of looking up a name in a table. Assumes nothing.
 use mathlib.Core.Path.{_≡_, refl, sym, ap, _∙_}
-use mathlib.Core.Bool.{Bool, true, false}
+use mathlib.Core.Bool.{true, false}
 use mathlib.Core.List.{List, [], _∷_}
 use Prim.Native.Nat.{ℕ, suc, _+_, _≤_, _<_}
 use native.Mathlib.Nat.{add-zero}
-use native.Mathlib.Numerals.{add-one}
 use native.Mathlib.Omega.{arith}
 use borrow.Author.Tests.{leb-true}
 use lib.Dec.{leb}
 use lib.ListN.{length, drop, getD, take, drop-of-length-le}
-use lib.Seq.{drop-cons, take-all}
-use Rattle.octets.specs.Choice.{pick, both}
+use lib.Seq.{take-all}
+use Rattle.octets.specs.Choice.{pick}
 use Rattle.octets.specs.Letters.{sameLetters}
 use Rattle.octets.specs.Text.{part}
+use Rattle.octets.proofs.ChoiceLaws.{both-parts}
+use Rattle.octets.proofs.Parts.{from-here}
 use Rattle.dates.specs.Names.{called, place}
 use Rattle.dates.specs.Steps.{rows, ascend}
 
@@ -33,10 +34,6 @@ module _ (full name : List ℕ) where
 
 -- ---- the rows of a table
 
-pub both-true : (a b : Bool) → both a b ≡ true → (a ≡ true) × (b ≡ true)
-both-true true b e = (refl, e)
-both-true false b e = absurd (let z : _≡_ {A = ℕ} 0 1 = cc in omega arith)
-
 pub length-rows : (text : List ℕ) (start : ℕ) (ends : List ℕ) → length (rows text start ends) ≡ length ends
 unfolding rows
 length-rows text start [] = refl
@@ -44,9 +41,6 @@ length-rows text start (end ∷ ends) = ap suc (length-rows text end ends)
 
 -- a row whose names stand from `start` on
 module _ (size start : ℕ) (ends : List ℕ) (i : ℕ) (h : i < length ends) where
-  here : drop i ends ≡ getD ends i 0 ∷ drop (i + 1) ends
-  here = rw add-one (drop-cons ends i 0 h)
-
   pub record Row : Type 0 where
     pub order : start ≤ getD ends i 0
     pub within : getD ends i 0 ≤ size
@@ -55,8 +49,8 @@ module _ (size start : ℕ) (ends : List ℕ) (i : ℕ) (h : i < length ends) wh
   pub row : ascend size start (drop i ends) ≡ true → Row
   unfolding ascend
   row e =
-      let a = both-true (leb start (getD ends i 0)) _ (sym (ap (λ (l : List ℕ). ascend size start l) here) ∙ e) in
-      let b = both-true (leb (getD ends i 0) size) _ (a .1) in
+      let a = both-parts (leb start (getD ends i 0)) _ (sym (ap (λ (l : List ℕ). ascend size start l) (from-here ends i 0 h)) ∙ e) in
+      let b = both-parts (leb (getD ends i 0) size) _ (a .1) in
       record { order = leb-true _ _ (a .0); within = leb-true _ _ (b .0); others = b .1 }
 
 module _ (text : List ℕ) (start : ℕ) (ends name : List ℕ) (i : ℕ) (h : i < length ends) where
@@ -65,7 +59,7 @@ module _ (text : List ℕ) (start : ℕ) (ends name : List ℕ) (i : ℕ) (h : i
 
   one : from start i ≡ pick (called (part text start (getD ends i 0)) name) 0 (suc (from (getD ends i 0) (i + 1)))
   unfolding rows place
-  one = ap (λ (l : List ℕ). place (rows text start l) name) (here 0 start ends i h)
+  one = ap (λ (l : List ℕ). place (rows text start l) name) (from-here ends i 0 h)
 
   -- the row that is called so
   pub row-found : called (part text start (getD ends i 0)) name ≡ true → i + from start i ≡ i

@@ -2,72 +2,47 @@
 use mathlib.Core.Path.{_≡_, refl, sym, ap, _∙_}
 use mathlib.Core.Bool.{Bool, true, false}
 use mathlib.Core.List.{List, [], _∷_, _++_}
-use Prim.Native.Nat.{ℕ, zero, suc, _+_, _-_, _≤_, _<_}
-use native.Mathlib.Nat.{sub-zero, zero-sub}
+use Prim.Native.Nat.{ℕ, suc, _+_, _≤_, _<_}
 use native.Mathlib.Omega.{arith}
-use native.Mathlib.Numerals.{add-one}
 use lib.Dec.{eqb}
-use lib.ListN.{length, take, drop, getD, length-drop}
-use lib.Seq.{drop-cons, take-nil, take-take, drop-drop, length-take-le}
+use lib.ListN.{length, take, drop, getD}
 use borrow.Author.Tests.{eq-eqb, ne-eqb, eqb-true}
 use denote.Enum.Declared.{tagOf}
 use types.Run.{OneOf, miss}
 use Rattle.octets.specs.Choice.{pick, both}
 use Rattle.octets.specs.Classes.{letter, digit}
+use Rattle.octets.specs.Octets.{plusByte, commaByte, minusByte, colonByte}
 use Rattle.octets.specs.Text.{part}
+use Rattle.octets.proofs.ChoiceLaws.{both-false}
+use Rattle.octets.proofs.Parts.{part-cons, part-none, part-drop, part-take}
 use Rattle.scanner.specs.Scanning.{Scanned, ended, faultAt, scanBy}
 use Rattle.scanner.specs.declared.Class.{Class}
 use Rattle.scanner.specs.declared.Class.the-variants.{Atom, Quoted, At, LessThan, GreaterThan, Comma, Semicolon, Colon, Stray}
 use Rattle.scanner.proofs.Class.{the-type}
 use Rattle.scanner.proofs.Meanings.{meaningAt}
 use Rattle.scanner.proofs.Unfolding.{SymbolAt}
-use Rattle.dates.specs.Parts.{Part, otherPart, noPart, comma, colon, plus, minus, isMark, isRun, keyOf, before, runs, partsOf, parts}
+use Rattle.dates.specs.Parts.{Part, otherPart, noPart, isMark, isRun, keyOf, before, runs, partsOf, parts}
 use Rattle.dates.specs.Form.{firstKey, firstBytes, after}
 use Rattle.dates.specs.Steps.{left, span, RunEnds, TokenIs}
-
--- ---- parts of a text
-
-pub part-cons : (text : List ℕ) (at end : ℕ) → at < end → end ≤ length text → part text at end ≡ getD text at 0 ∷ part text (at + 1) end
-part-cons text at end h k =
-    let n : end - at ≡ suc (end - (at + 1)) = omega arith in
-    rw (n, drop-cons text at 0 (omega arith), add-one)
-
-pub part-none : (text : List ℕ) (at end : ℕ) → end ≤ at → part text at end ≡ []
-part-none text at end h = let n : end - at ≡ 0 = omega arith in rw n
-
-pub part-length : (text : List ℕ) (at end : ℕ) → end ≤ length text → length (part text at end) ≡ end - at
-part-length text at end h = length-take-le (end - at) (drop at text) (omega (arith, length-drop at text))
-
-drop-take : (n m : ℕ) (l : List ℕ) → drop n (take m l) ≡ take (m - n) (drop n l)
-drop-take zero m l = rw sub-zero
-drop-take (suc n) zero l = rw (zero-sub (suc n))
-drop-take (suc n) (suc m) [] = sym (take-nil (suc m - suc n))
-drop-take (suc n) (suc m) (x ∷ l) = let e : suc m - suc n ≡ m - n = omega arith in rw e (drop-take n m l)
-
-part-drop : (text : List ℕ) (at end n : ℕ) → drop n (part text at end) ≡ part text (at + n) end
-part-drop text at end n = let k : end - at - n ≡ end - (at + n) = omega arith in drop-take n (end - at) (drop at text) ∙ rw (drop-drop n at text, k)
-
-part-take : (text : List ℕ) (at end n : ℕ) → at + n ≤ end → take n (part text at end) ≡ part text at (at + n)
-part-take text at end n h = let k : at + n - at ≡ n = omega arith in take-take n (end - at) (drop at text) (omega arith) ∙ rw k
 
 -- ---- keys
 
 module _ (b : ℕ) where
-  pub is-comma : b ≡ comma → true ≡ isMark b
+  pub is-comma : b ≡ commaByte → true ≡ isMark b
   unfolding isMark
-  is-comma e = rw (eq-eqb b comma e)
+  is-comma e = rw (eq-eqb b commaByte e)
 
-  pub is-colon : (b ≡ comma → ⊥) → b ≡ colon → true ≡ isMark b
+  pub is-colon : (b ≡ commaByte → ⊥) → b ≡ colonByte → true ≡ isMark b
   unfolding isMark
-  is-colon m e = rw (ne-eqb b comma m, eq-eqb b colon e)
+  is-colon m e = rw (ne-eqb b commaByte m, eq-eqb b colonByte e)
 
-  pub is-plus : (b ≡ comma → ⊥) → (b ≡ colon → ⊥) → b ≡ plus → true ≡ isMark b
+  pub is-plus : (b ≡ commaByte → ⊥) → (b ≡ colonByte → ⊥) → b ≡ plusByte → true ≡ isMark b
   unfolding isMark
-  is-plus m n e = rw (ne-eqb b comma m, ne-eqb b colon n, eq-eqb b plus e)
+  is-plus m n e = rw (ne-eqb b commaByte m, ne-eqb b colonByte n, eq-eqb b plusByte e)
 
-  pub is-minus : (b ≡ comma → ⊥) → (b ≡ colon → ⊥) → (b ≡ plus → ⊥) → eqb b minus ≡ isMark b
+  pub is-minus : (b ≡ commaByte → ⊥) → (b ≡ colonByte → ⊥) → (b ≡ plusByte → ⊥) → eqb b minusByte ≡ isMark b
   unfolding isMark
-  is-minus m n o = rw (ne-eqb b comma m, ne-eqb b colon n, ne-eqb b plus o)
+  is-minus m n o = rw (ne-eqb b commaByte m, ne-eqb b colonByte n, ne-eqb b plusByte o)
 
 pub run-of-digits : (key : ℕ) → key ≡ digit → true ≡ isRun key
 unfolding isRun
@@ -118,10 +93,6 @@ module _ (classes : List ℕ) (key : ℕ) (text : List ℕ) (at end : ℕ) where
 -- ---- a run and what follows it
 
 module _ (classes : List ℕ) where
-  both-false : (t : Bool) → both t false ≡ false
-  both-false true = refl
-  both-false false = refl
-
   -- a byte before another key is a part by itself
   apart : (key b j x : ℕ) (r : List Part) → eqb j key ≡ false → before key b (before j x r) ≡ record { key = key; bytes = b ∷ [] } ∷ before j x r
   apart key b j x [] e = rw (e, both-false (isRun key))

@@ -8,10 +8,8 @@ use lib.ListN.{length, take}
 use Rattle.octets.specs.Choice.{pick, both, either}
 use Rattle.octets.specs.Classes.{classTable}
 use Rattle.octets.specs.Numbers.{accepted, dateForm, dateImpossible}
-use Rattle.octets.specs.declared.answers.Answer.{Answer}
-use Rattle.octets.specs.declared.answers.Answer.the-variants as answer
 use Rattle.scanner.specs.Scanning.{Scanned, scan}
-use Rattle.scanner.specs.Answers.{bodyChecked, faultOf}
+use Rattle.scanner.specs.Answers.{bodyChecked, unlessFault}
 use Rattle.dates.specs.Names.{dayNames}
 use Rattle.dates.specs.Parts.{parts}
 use Rattle.dates.specs.Form.{readingOf}
@@ -65,20 +63,14 @@ abbrev pub momentAnswer : ℕ → Moment → DateAnswer
 momentAnswer start Impossible = Refused dateImpossible start
 momentAnswer start (At value) = Accepted value
 
--- 12, then 14
+-- 12, then 14; law `date-by-grammar` says it by the grammar alone
 abbrev pub readingAnswer : ℕ → Reading → DateAnswer
 readingAnswer start Wrong = Refused dateForm start
 readingAnswer start (Right w) = momentAnswer start (momentOf w)
 
--- a fault of scanning, else what comes then
-abbrev pub unlessFault : Answer → DateAnswer → DateAnswer
-unlessFault (answer.Accepted written) otherwise = otherwise
-unlessFault (answer.Refused number position) otherwise = Refused number position
-unlessFault (answer.NoRoom needed) otherwise = otherwise
-
 -- the answer for what a body scans to
 abbrev pub scannedAnswer : List ℕ → ℕ → Scanned → DateAnswer
-scannedAnswer classes start scanned = unlessFault (faultOf scanned) (readingAnswer start (readingOf (parts classes scanned)))
+scannedAnswer classes start scanned = unlessFault Refused scanned (readingAnswer start (readingOf (parts classes scanned)))
 
 -- the answer for the body of a message from `start` up to `end`
 unfoldable pub dateAnswer : List ℕ → ℕ → ℕ → DateAnswer

@@ -1,4 +1,4 @@
--- A reader of the grammar, over the parts from left to right. Laws show that it reads what the grammar derives and nothing else, so nothing here needs to be believed.
+-- A reader of the grammar, over the parts from left to right. Nothing here needs to be believed: law `date-by-grammar` of `AnswerLaws` says by the grammar alone what is answered.
 use Prim.Native.Nat.{ℕ, _+_, _/_, _%_}
 use mathlib.Core.Bool.{Bool, true, false}
 use mathlib.Core.List.{List, [], _∷_}
@@ -7,8 +7,9 @@ use lib.IntN.{ℤ, pos}
 use lib.ListN.{length, getD}
 use Rattle.octets.specs.Choice.{pick, both}
 use Rattle.octets.specs.Classes.{letter, digit}
+use Rattle.octets.specs.Octets.{plusByte, commaByte, minusByte, colonByte}
 use Rattle.dates.specs.Names.{dayNames, monthNames, zoneNames, zoneMinutes, place, ahead, behind}
-use Rattle.dates.specs.Parts.{Part, noPart, comma, colon, plus, minus}
+use Rattle.dates.specs.Parts.{Part, noPart}
 use Rattle.dates.specs.Grammar.{number, offsetOf}
 use Rattle.dates.specs.declared.form.Offset.{Offset}
 use Rattle.dates.specs.declared.form.Offset.the-variants.{Minutes}
@@ -54,7 +55,7 @@ secondFrom h m d rest = pick (eqb (length d) 2) (hour h m (number d) rest) noHou
 
 -- a colon and the second; or neither
 unfoldable pub secondAfter : ℕ → ℕ → List Part → Hour
-secondAfter h m l = pick (eqb (firstKey l) colon) (secondFrom h m (digitsOf (after l)) (after (after l))) (hour h m 0 l)
+secondAfter h m l = pick (eqb (firstKey l) colonByte) (secondFrom h m (digitsOf (after l)) (after (after l))) (hour h m 0 l)
 
 -- four digits; or two, and perhaps the second
 abbrev pub minuteFrom : ℕ → List ℕ → List Part → Hour
@@ -69,7 +70,7 @@ abbrev pub hourFrom : List ℕ → List Part → Hour
 hourFrom d rest =
     pick (eqb (length d) 6) (hour (number d / 10000) (number d / 100 % 100) (number d % 100) rest)
     (pick (eqb (length d) 4) (secondAfter (number d / 100) (number d % 100) rest)
-    (pick (eqb (length d) 2) (pick (eqb (firstKey rest) colon) (minuteAfter (number d) (after rest)) noHour) noHour))
+    (pick (eqb (length d) 2) (pick (eqb (firstKey rest) colonByte) (minuteAfter (number d) (after rest)) noHour) noHour))
 
 unfoldable pub hourOf : List Part → Hour
 hourOf l = hourFrom (digitsOf l) (after l)
@@ -93,8 +94,8 @@ signedFrom direction d rest otherwise = pick (eqb (length d) 4) (zoned (offsetOf
 
 unfoldable pub zoneOf : List Part → Zoned
 zoneOf l =
-    pick (eqb (firstKey l) plus) (signedFrom ahead (digitsOf (after l)) (after (after l)) noZone)
-    (pick (eqb (firstKey l) minus) (signedFrom behind (digitsOf (after l)) (after (after l)) (zoneNamed (after l))) (zoneNamed l))
+    pick (eqb (firstKey l) plusByte) (signedFrom ahead (digitsOf (after l)) (after (after l)) noZone)
+    (pick (eqb (firstKey l) minusByte) (signedFrom behind (digitsOf (after l)) (after (after l)) (zoneNamed (after l))) (zoneNamed l))
 
 -- ---- the date: the place of the day's name, day, month and year come before the hour
 
@@ -113,7 +114,7 @@ hourAfter name day month year l = zoneAfter name day month year (hourOf l)
 
 -- past a "-" that may stand there
 unfoldable pub pastDash : List Part → List Part
-pastDash l = pick (eqb (firstKey l) minus) (after l) l
+pastDash l = pick (eqb (firstKey l) minusByte) (after l) l
 
 abbrev pub yearFrom : ℕ → ℕ → ℕ → List ℕ → List Part → Reading
 yearFrom name day month d rest =
@@ -138,7 +139,7 @@ dayAfter name l = dayFrom name (digitsOf l) (after l)
 -- a day's name and a comma; or neither
 abbrev pub readingFrom : List Part → ℕ → List Part → Reading
 readingFrom l n rest =
-    pick (ltb n (length dayNames)) (pick (eqb (firstKey rest) comma) (dayAfter n (after rest)) Wrong) (dayAfter (length dayNames) l)
+    pick (ltb n (length dayNames)) (pick (eqb (firstKey rest) commaByte) (dayAfter n (after rest)) Wrong) (dayAfter (length dayNames) l)
 
 unfoldable pub readingOf : List Part → Reading
 readingOf l = readingFrom l (named dayNames l) (after l)

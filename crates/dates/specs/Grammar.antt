@@ -7,8 +7,9 @@ use lib.IntN.{ℤ, pos}
 use lib.ListN.{length, getD}
 use Rattle.octets.specs.Choice.{pick, both}
 use Rattle.octets.specs.Classes.{letter, digit}
+use Rattle.octets.specs.Octets.{plusByte, commaByte, minusByte, zeroByte, colonByte}
 use Rattle.dates.specs.Names.{dayNames, monthNames, zoneNames, zoneMinutes, place, ahead, behind}
-use Rattle.dates.specs.Parts.{Part, comma, colon, plus, minus}
+use Rattle.dates.specs.Parts.{Part}
 use Rattle.dates.specs.declared.form.Offset.{Offset}
 use Rattle.dates.specs.declared.form.Offset.the-variants.{Minutes, OutOfRange}
 use Rattle.dates.specs.declared.form.Written.{Written}
@@ -16,7 +17,7 @@ use Rattle.dates.specs.declared.form.Written.{Written}
 -- the decimal number whose digits are those of `high` and then these
 abbrev pub numberFrom : ℕ → List ℕ → ℕ
 numberFrom high [] = high
-numberFrom high (b ∷ rest) = numberFrom (high * 10 + (b - 48)) rest
+numberFrom high (b ∷ rest) = numberFrom (high * 10 + (b - zeroByte)) rest
 
 unfoldable pub number : List ℕ → ℕ
 number digits = numberFrom 0 digits
@@ -43,12 +44,12 @@ pub record Name (names : List (List ℕ)) (at : ℕ) (p : Part) : Type 0 where
 
 -- day name and comma, which may be missing: then its place is past the last
 pub data DayNameIs : List Part → ℕ → List Part → Type 0 where
-  day-name : {p q : Part} {r : List Part} {name : ℕ} → Name dayNames name p → q .key ≡ comma → DayNameIs (p ∷ q ∷ r) name r
+  day-name : {p q : Part} {r : List Part} {name : ℕ} → Name dayNames name p → q .key ≡ commaByte → DayNameIs (p ∷ q ∷ r) name r
   no-day-name : {r : List Part} → DayNameIs r (length dayNames) r
 
 -- a "-", which may be missing
 pub data DashIs : List Part → List Part → Type 0 where
-  dash : {p : Part} {r : List Part} → p .key ≡ minus → DashIs (p ∷ r) r
+  dash : {p : Part} {r : List Part} → p .key ≡ minusByte → DashIs (p ∷ r) r
   no-dash : {r : List Part} → DashIs r r
 
 -- 1 or 2 digits
@@ -68,18 +69,18 @@ pub data YearIs : List Part → ℕ → List Part → Type 0 where
 pub data HourIs : List Part → ℕ → ℕ → ℕ → List Part → Type 0 where
   four : {p : Part} {r : List Part} → Digits 4 p → HourIs (p ∷ r) (num p / 100) (num p % 100) 0 r
   six : {p : Part} {r : List Part} → Digits 6 p → HourIs (p ∷ r) (num p / 10000) (num p / 100 % 100) (num p % 100) r
-  two-two : {p c q : Part} {r : List Part} → Digits 2 p → c .key ≡ colon → Digits 2 q → HourIs (p ∷ c ∷ q ∷ r) (num p) (num q) 0 r
-  two-four : {p c q : Part} {r : List Part} → Digits 2 p → c .key ≡ colon → Digits 4 q → HourIs (p ∷ c ∷ q ∷ r) (num p) (num q / 100) (num q % 100) r
-  four-two : {p c q : Part} {r : List Part} → Digits 4 p → c .key ≡ colon → Digits 2 q → HourIs (p ∷ c ∷ q ∷ r) (num p / 100) (num p % 100) (num q) r
-  two-two-two : {p c q d s : Part} {r : List Part} → Digits 2 p → c .key ≡ colon → Digits 2 q → d .key ≡ colon → Digits 2 s
+  two-two : {p c q : Part} {r : List Part} → Digits 2 p → c .key ≡ colonByte → Digits 2 q → HourIs (p ∷ c ∷ q ∷ r) (num p) (num q) 0 r
+  two-four : {p c q : Part} {r : List Part} → Digits 2 p → c .key ≡ colonByte → Digits 4 q → HourIs (p ∷ c ∷ q ∷ r) (num p) (num q / 100) (num q % 100) r
+  four-two : {p c q : Part} {r : List Part} → Digits 4 p → c .key ≡ colonByte → Digits 2 q → HourIs (p ∷ c ∷ q ∷ r) (num p / 100) (num p % 100) (num q) r
+  two-two-two : {p c q d s : Part} {r : List Part} → Digits 2 p → c .key ≡ colonByte → Digits 2 q → d .key ≡ colonByte → Digits 2 s
       → HourIs (p ∷ c ∷ q ∷ d ∷ s ∷ r) (num p) (num q) (num s) r
 
 -- a name or letter, before which a "-" may stand, or a sign and HHMM; nothing follows the zone
 pub data ZoneIs : List Part → Offset → Type 0 where
   zone-name : {p : Part} {z : ℕ} → Name zoneNames z p → ZoneIs (p ∷ []) (Minutes (getD zoneMinutes z (pos 0)))
-  dashed-name : {s p : Part} {z : ℕ} → s .key ≡ minus → Name zoneNames z p → ZoneIs (s ∷ p ∷ []) (Minutes (getD zoneMinutes z (pos 0)))
-  east : {s p : Part} → s .key ≡ plus → Digits 4 p → ZoneIs (s ∷ p ∷ []) (offsetOf ahead (num p))
-  west : {s p : Part} → s .key ≡ minus → Digits 4 p → ZoneIs (s ∷ p ∷ []) (offsetOf behind (num p))
+  dashed-name : {s p : Part} {z : ℕ} → s .key ≡ minusByte → Name zoneNames z p → ZoneIs (s ∷ p ∷ []) (Minutes (getD zoneMinutes z (pos 0)))
+  east : {s p : Part} → s .key ≡ plusByte → Digits 4 p → ZoneIs (s ∷ p ∷ []) (offsetOf ahead (num p))
+  west : {s p : Part} → s .key ≡ minusByte → Digits 4 p → ZoneIs (s ∷ p ∷ []) (offsetOf behind (num p))
 
 -- the parts write the date
 pub data DateIs : List Part → Written → Type 0 where

@@ -6,6 +6,7 @@ use lib.Dec.{eqb}
 use lib.ListN.{getD}
 use Rattle.octets.specs.Choice.{pick, both, either}
 use Rattle.octets.specs.Classes.{letter, digit}
+use Rattle.octets.specs.Octets.{plusByte, commaByte, minusByte, colonByte}
 use Rattle.scanner.specs.Scanning.{Scanned, ended, next, faultAt}
 use Rattle.scanner.specs.declared.Class.{Class}
 use Rattle.scanner.specs.declared.Class.the-variants.{Atom, Quoted, At, LessThan, GreaterThan, Comma, Semicolon, Colon, Stray}
@@ -23,21 +24,9 @@ otherPart = 0
 abbrev pub noPart : ℕ
 noPart = 1
 
--- the marks
-abbrev pub comma : ℕ
-comma = 44
-
-abbrev pub colon : ℕ
-colon = 58
-
-abbrev pub plus : ℕ
-plus = 43
-
-abbrev pub minus : ℕ
-minus = 45
-
+-- one of the marks
 unfoldable pub isMark : ℕ → Bool
-isMark b = either (eqb b comma) (either (eqb b colon) (either (eqb b plus) (eqb b minus)))
+isMark b = either (eqb b commaByte) (either (eqb b colonByte) (either (eqb b plusByte) (eqb b minusByte)))
 
 -- digits and letters form runs
 unfoldable pub isRun : ℕ → Bool

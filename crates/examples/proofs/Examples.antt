@@ -5,8 +5,7 @@ use Rattle.octets.specs.Letters.{lower, same}
 use Rattle.scanner.specs.Kinds.{kindOf}
 use Rattle.scanner.specs.Characters.{charactersFrom}
 use Rattle.scanner.specs.Scanning.{scanFrom, symbolsOf}
-use Rattle.scanner.specs.Answers.{faultOf}
-use Rattle.addresses.specs.Outcome.{unlessFault}
+use Rattle.scanner.specs.Answers.{unlessFault}
 use Rattle.dates.specs.Names.{called, place}
 use Rattle.dates.specs.Parts.{isMark, isRun, keyOf, runs, parts}
 use Rattle.dates.specs.Grammar.{number, offsetOf}
@@ -16,5 +15,5 @@ use Rattle.dates.specs.Answers.{dayExists, timeExists, nameTrue, momentOf, date
 use Rattle.examples.specs.Examples.{ExamplesHold}
 
 pub examples-hold : ExamplesHold
-unfolding scanFrom symbolsOf charactersFrom kindOf classOf classTable lower same unlessFault faultOf called place isMark isRun keyOf runs parts number offsetOf leap monthLength daysBeforeMonth daysOfYears dayNumber firstKey firstBytes after done digitsOf named secondAfter minuteAfter hourOf zoneNamed zoneOf hourAfter pastDash yearAfter monthAfter dayAfter readingOf dayExists timeExists nameTrue momentOf dateAnswer
+unfolding scanFrom symbolsOf charactersFrom kindOf classOf classTable lower same unlessFault called place isMark isRun keyOf runs parts number offsetOf leap monthLength daysBeforeMonth daysOfYears dayNumber firstKey firstBytes after done digitsOf named secondAfter minuteAfter hourOf zoneNamed zoneOf hourAfter pastDash yearAfter monthAfter dayAfter readingOf dayExists timeExists nameTrue momentOf dateAnswer
 examples-hold = (refl, (refl, (refl, (refl, (refl, (refl, (refl, (refl, (refl, (refl, (refl, (refl, (refl, tt)))))))))))))

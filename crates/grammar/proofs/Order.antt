@@ -1,11 +1,11 @@
 -- Records of symbols that stand one after the other in a body: at most half as many as the body has bytes, their starts ascend,
 -- their spans and names lie in the body, and none is deeper than the levels. Assumes nothing.
-use Prim.Native.Nat.{ℕ, suc, _+_, _*_, max, _≤_, _<_}
+use Prim.Native.Nat.{ℕ, zero, suc, _+_, _*_, max, _≤_, _<_}
 use native.Mathlib.Omega.{arith}
 use mathlib.Core.Path.{_≡_, refl, ap, _∙_}
 use mathlib.Core.List.{List, [], _∷_, _++_}
 use mathlib.Core.Option.{Option, none, some}
-use lib.ListN.{length}
+use lib.ListN.{length, getD}
 use Rattle.grammar.specs.Grammar.{levels}
 use Rattle.grammar.specs.Language.{accepted}
 use Rattle.grammar.specs.Records.{AddressRecord, count, records}
@@ -67,6 +67,13 @@ ascending-append : (a b c : ℕ) (rs ss : List AddressRecord) → Ascending a b 
 ascending-append a b c [] ss h g = ascending-widen b c a c ss g h (omega arith)
 ascending-append a b c (r ∷ rs) ss h g =
     (lies-widen a b a c r (h .0) (omega arith) (ascending-le b c ss g), ascending-append (suc (r .start)) b c rs ss (h .1) g)
+
+-- each of them lies there
+pub lies-at : (from to : ℕ) (rs : List AddressRecord) (i : ℕ) (d : AddressRecord) → Ascending from to rs → i < length rs → Lies from to (getD rs i d)
+lies-at from to [] i d h l = absurd (omega arith)
+lies-at from to (r ∷ rs) zero d h l = h .0
+lies-at from to (r ∷ rs) (suc i) d h l =
+    lies-widen (suc (r .start)) to from to (getD rs i d) (lies-at (suc (r .start)) to rs i d (h .1) (omega arith)) (omega (arith, h .0)) (omega arith)
 
 -- ---- the parts of a list in order
 

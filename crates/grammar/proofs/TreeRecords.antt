@@ -148,7 +148,8 @@ same-record d par a b c f g = cc
 cons-record : {r r′ : AddressRecord} {a a′ : List AddressRecord} → r ≡ r′ → a ≡ a′ → r ∷ a ≡ r′ ∷ a′
 cons-record e f = cc
 
-part-phrase : (p : Phrase) (k : Derivation) → partOf 0 (phraseRow p k) ≡ phraseThen p []
+-- the phrase is the first part of a row
+pub part-phrase : (p : Phrase) (k : Derivation) → partOf 0 (phraseRow p k) ≡ phraseThen p []
 part-phrase (one w) k = phrase-yield (one w) nil []
 part-phrase (more p w) k = phrase-yield (more p w) nil []
 

@@ -2,6 +2,7 @@
 use Prim.Native.Nat.{ℕ, zero, suc, _+_}
 use mathlib.Core.List.{List, [], _∷_, _++_}
 use mathlib.Core.Option.{Option, none, some}
+use Rattle.octets.specs.Numbers.{numberWidth}
 use Rattle.octets.specs.Stored.{bytesOf}
 use Rattle.scanner.specs.Symbols.{Symbol}
 use Rattle.grammar.specs.Grammar.{Makes, Row, nil, leaf, branch, yield}
@@ -83,10 +84,6 @@ module _ {C N : Type 0} where
   records row = recordsFrom row 0 0 0
 
 -- ---- bytes
-
--- the bytes of a parent's number and of a position
-abbrev pub numberWidth : ℕ
-numberWidth = 2
 
 -- the bytes of a record
 abbrev pub recordBytes : AddressRecord → List ℕ

@@ -1,6 +1,6 @@
 -- Which bytes a name holds, and where CRLF and a body's end stand, from tests of single bytes. Assumes nothing.
-use mathlib.Core.Path.{_≡_, refl, _∙_}
-use mathlib.Core.Bool.{Bool, true, false, not}
+use mathlib.Core.Path.{_≡_, _∙_}
+use mathlib.Core.Bool.{true, false, not}
 use mathlib.Core.List.{List}
 use Prim.Native.Nat.{ℕ, _+_, _≤_, _<_}
 use native.Mathlib.Nat.{add-zero}
@@ -11,15 +11,9 @@ use lib.ListN.{length, drop, getD, List·getD-eq-default}
 use lib.Seq.{getD-drop}
 use Rattle.octets.specs.Choice.{both}
 use Rattle.octets.specs.Classes.{isWhite}
-use Rattle.header.specs.Fields.{carriageReturn, lineFeed, colonByte, nameHolds, nameStartsWith, crlf, endsBody}
-
-both-true : (t : Bool) → both t true ≡ t
-both-true true = refl
-both-true false = refl
-
-both-false : (t : Bool) → both t false ≡ false
-both-false true = refl
-both-false false = refl
+use Rattle.octets.specs.Octets.{lineFeedByte, returnByte, colonByte}
+use Rattle.octets.proofs.ChoiceLaws.{both-true, both-false}
+use Rattle.header.specs.Fields.{nameHolds, nameStartsWith, crlf, endsBody}
 
 module _ (b : ℕ) where
   -- SPACE, else HTAB
@@ -61,18 +55,18 @@ module _ (message : List ℕ) (at : ℕ) where
   pub first-byte : getD (drop at message) 0 0 ≡ getD message at 0
   first-byte = rw (getD-drop, add-zero)
 
-  two-bytes : crlf (drop at message) ≡ both (eqb (getD message at 0) carriageReturn) (eqb (getD message (at + 1) 0) lineFeed)
+  two-bytes : crlf (drop at message) ≡ both (eqb (getD message at 0) returnByte) (eqb (getD message (at + 1) 0) lineFeedByte)
   unfolding crlf
   two-bytes = simp (getD-drop, add-zero)
 
   -- CRLF at a position: CR there, and LF after it
-  pub crlf-other : (getD message at 0 ≡ carriageReturn → ⊥) → crlf (drop at message) ≡ false
+  pub crlf-other : (getD message at 0 ≡ returnByte → ⊥) → crlf (drop at message) ≡ false
   crlf-other n = two-bytes ∙ rw (ne-eqb _ _ n)
 
   pub crlf-last : length message ≤ at + 1 → crlf (drop at message) ≡ false
-  crlf-last h = two-bytes ∙ rw (List·getD-eq-default message 0 h) (both-false (eqb (getD message at 0) carriageReturn))
+  crlf-last h = two-bytes ∙ rw (List·getD-eq-default message 0 h) (both-false (eqb (getD message at 0) returnByte))
 
-  pub crlf-second : getD message at 0 ≡ carriageReturn → crlf (drop at message) ≡ eqb (getD message (at + 1) 0) lineFeed
+  pub crlf-second : getD message at 0 ≡ returnByte → crlf (drop at message) ≡ eqb (getD message (at + 1) 0) lineFeedByte
   crlf-second e = two-bytes ∙ rw (eq-eqb _ _ e)
 
   -- a body's end at a position: CRLF, and no white space after it

@@ -1,7 +1,7 @@
 -- The positions of a field are ordered and lie in the message, and fields ascend. Assumes nothing.
 use mathlib.Core.Path.{_≡_, refl, sym, subst, subst⁻¹, _∙_}
 use mathlib.Core.Bool.{Bool, true, false}
-use mathlib.Core.List.{List, [], _∷_}
+use mathlib.Core.List.{List}
 use Prim.Native.Nat.{ℕ, zero, suc, _+_, _*_, _-_, _≤_, _<_}
 use native.Mathlib.Decide.{decLt}
 use native.Mathlib.Omega.{arith}
@@ -9,7 +9,8 @@ use borrow.Author.Tests.{eqb-true, eqb-false}
 use lib.Dec.{eqb}
 use lib.ListN.{length, drop, getD}
 use Rattle.octets.specs.Classes.{isWhite}
-use Rattle.header.specs.Fields.{Field, fieldOf, Header, field, ended, fault, Place, lineStart, inName, inBody, beforeLineFeed, colonByte, nameHolds, nameStartsWith, crlf, endsBody, headerAt, headerOf}
+use Rattle.octets.specs.Octets.{colonByte}
+use Rattle.header.specs.Fields.{Field, fieldOf, Header, field, ended, fault, fieldsOf, Place, lineStart, inName, inBody, beforeLineFeed, nameHolds, nameStartsWith, crlf, endsBody, headerAt, headerOf}
 use Rattle.header.proofs.ByteLaws.{crlf-last, body-other}
 use Rattle.header.proofs.HeaderLaws.{ends, moves, empty-line, name-starts, no-name, name-ends, name-fault, name-white, name-other, body-fault, body-goes, body-ends}
 
@@ -120,12 +121,6 @@ abbrev pub Ascend : List ℕ → ℕ → Header → Type 0
 Ascend message start (field f rest) = Found message start f rest × Ascend message (f .bodyEnd + 2) rest
 Ascend message start ended = start ≤ length message
 Ascend message start (fault number position) = start ≤ length message
-
--- the fields of a header, in order
-abbrev pub fieldsOf : Header → List Field
-fieldsOf (field f rest) = f ∷ fieldsOf rest
-fieldsOf ended = []
-fieldsOf (fault number position) = []
 
 -- what `getD` gives past the fields
 abbrev pub noField : Field

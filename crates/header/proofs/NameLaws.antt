@@ -1,16 +1,16 @@
 -- The search for a known name goes on to the first that agrees; and the rows of a table that hold the known names. Assumes nothing.
-use mathlib.Core.Path.{_≡_, refl, sym, ap, _∙_}
+use mathlib.Core.Path.{_≡_, ap, _∙_}
 use mathlib.Core.Bool.{Bool, true, false}
 use mathlib.Core.List.{List, []}
 use Prim.Native.Nat.{ℕ, _+_, _≤_, _<_}
 use native.Mathlib.Numerals.{add-one}
 use lib.Dec.{T, eqb, leb, eqb→eq, leb→le}
-use lib.ListN.{length, take, drop, getD, drop-of-length-le, List·getD-map}
+use lib.ListN.{length, take, drop, getD, drop-of-length-le}
 use lib.Seq.{drop-cons, getD-take}
 use Rattle.octets.specs.Choice.{both}
 use Rattle.octets.specs.Letters.{sameBytes, sameLetters}
-use Rattle.octets.proofs.LetterLaws.{same-true}
-use Rattle.octets.proofs.Tables.{both-left, both-right}
+use Rattle.octets.proofs.LetterLaws.{same-bytes}
+use Rattle.octets.proofs.Tables.{is-true, both-left, both-right}
 use Rattle.header.specs.Names.{KnownName, knownIn}
 use Rattle.header.specs.declared.names.Known.the-variants.{Date, Other}
 
@@ -45,10 +45,6 @@ pub record Holds (width : ℕ) (text row : List ℕ) (size : ℕ) : Type 0 where
 abbrev pub holds : ℕ → List ℕ → List ℕ → ℕ → Bool
 holds width text row size = both (eqb (length text) size) (both (leb size width) (sameBytes text (take size row)))
 
-is-true : (t : Bool) → T t → t ≡ true
-is-true true h = refl
-is-true false h = absurd h
-
 pub holds-true : (width : ℕ) (text row : List ℕ) (size : ℕ) → T (holds width text row size) → Holds width text row size
 holds-true width text row size t =
     let more = both-right (eqb (length text) size) (both (leb size width) (sameBytes text (take size row))) t in
@@ -57,8 +53,5 @@ holds-true width text row size t =
       sized = eqb→eq _ _ (both-left (eqb (length text) size) (both (leb size width) (sameBytes text (take size row))) t);
       fits = leb→le _ _ (both-left (leb size width) (sameBytes text (take size row)) more);
       letters = λ j h.
-          sym (List·getD-map (λ (b : ℕ). b) text j 0)
-          ∙ ap (λ (l : List ℕ). getD l j 0) (same-true (λ b. b) text (take size row) same)
-          ∙ List·getD-map (λ (b : ℕ). b) (take size row) j 0
-          ∙ getD-take size row j 0 h;
+          ap (λ (l : List ℕ). getD l j 0) (same-bytes text (take size row) same) ∙ getD-take size row j 0 h;
     }

@@ -5,11 +5,11 @@ use Prim.Native.Nat.{ℕ, _+_, _*_}
 use native.Mathlib.Omega.{arith}
 use lib.ListN.{length}
 use lib.Seq.{sets}
-use Rattle.octets.specs.Numbers.{fieldRecordSize}
+use Rattle.octets.specs.Numbers.{fieldRecordSize, numberWidth}
 use Rattle.octets.specs.Stored.{bytesOf}
 use Rattle.octets.proofs.Parts.{sets-append}
 use Rattle.header.specs.Fields.{Field, fieldOf, Header, field}
-use Rattle.header.specs.Split.{positionWidth, recordOf, recordsOf}
+use Rattle.header.specs.Split.{recordOf, recordsOf}
 
 -- four runs of one length, one behind the other, are one
 four-runs : (u v w x table : List ℕ) (i n : ℕ) → length u ≡ n → length v ≡ n → length w ≡ n
@@ -24,16 +24,16 @@ four-runs u v w x table i n a b c =
 
 -- the four positions of a field, stored one behind the other, are its record
 pub record-stored : (table : List ℕ) (i a b c d : ℕ) {first second third fourth : List ℕ}
-    → first ≡ sets table i (bytesOf positionWidth a)
-    → second ≡ sets first (i + positionWidth) (bytesOf positionWidth b)
-    → third ≡ sets second (i + 2 * positionWidth) (bytesOf positionWidth c)
-    → fourth ≡ sets third (i + 3 * positionWidth) (bytesOf positionWidth d)
+    → first ≡ sets table i (bytesOf numberWidth a)
+    → second ≡ sets first (i + numberWidth) (bytesOf numberWidth b)
+    → third ≡ sets second (i + 2 * numberWidth) (bytesOf numberWidth c)
+    → fourth ≡ sets third (i + 3 * numberWidth) (bytesOf numberWidth d)
     → fourth ≡ sets table i (recordOf (fieldOf a b c d))
 unfolding recordOf
 record-stored table i a b c d e f g h =
     h
     ∙ rw (g, f, e)
-    (four-runs (bytesOf positionWidth a) (bytesOf positionWidth b) (bytesOf positionWidth c) (bytesOf positionWidth d) table i positionWidth refl refl refl)
+    (four-runs (bytesOf numberWidth a) (bytesOf numberWidth b) (bytesOf numberWidth c) (bytesOf numberWidth d) table i numberWidth refl refl refl)
 
 -- as many bytes as a record has
 pub length-record : (f : Field) → length (recordOf f) ≡ fieldRecordSize

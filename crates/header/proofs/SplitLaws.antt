@@ -1,16 +1,17 @@
 -- Splitting a message goes field by field: the header, answered and stored, is what is left of it. Assumes nothing.
 use mathlib.Core.Path.{_≡_, refl, sym, ap, _∙_}
-use mathlib.Core.List.{List, [], _∷_, _++_}
+use mathlib.Core.List.{List}
 use Prim.Native.Nat.{ℕ, _+_, _*_, _≤_, _<_}
 use native.Mathlib.Omega.{arith}
 use borrow.Author.Tests.{lt-ltb, le-ltb}
 use lib.ListN.{length}
 use lib.Seq.{sets, length-sets}
 use Rattle.octets.specs.Numbers.{messageLimit, fieldRecordSize, messageTooLong}
+use Rattle.octets.specs.Stored.{roomFor}
 use Rattle.octets.specs.declared.answers.Answer.{Answer}
 use Rattle.octets.specs.declared.answers.Answer.the-variants.{Accepted, Refused, NoRoom}
 use Rattle.header.specs.Fields.{fieldOf, Header, ended, fault, lineStart, headerAt, headerOf}
-use Rattle.header.specs.Split.{recordOf, recordsOf, answerIn, roomOf, splitAnswer, tableAfter, splitTable}
+use Rattle.header.specs.Split.{recordOf, recordsOf, answerIn, answerFor, splitAnswer, tableAfter, splitTable}
 use Rattle.header.proofs.RecordLaws.{records-stored}
 use Rattle.header.proofs.StepLaws.{Gave}
 
@@ -58,11 +59,6 @@ module _ {message : List ℕ} {room : ℕ} {lent table : List ℕ} {at count : �
   unfolding answerIn recordsOf
   at-fault e = (sym (left .answer ∙ rw e), sym (left .stored ∙ rw e))
 
--- a part of no bytes in front of the rest changes nothing
-pub no-front : (front rest : List ℕ) → length front ≡ 0 → front ++ rest ≡ rest
-no-front [] rest e = refl
-no-front (b ∷ front) rest e = absurd (omega arith)
-
 -- the answer of splitting, and the table afterwards
 abbrev pub Split : List ℕ → List ℕ → Answer → List ℕ → Type 0
 Split message table r after = (r ≡ splitAnswer message table) × (after ≡ splitTable message table)
@@ -72,25 +68,25 @@ module _ (message table : List ℕ) where
   settled r e = (sym e, rw e)
 
   pub too-long : messageLimit < length message → Split message table (Refused messageTooLong messageLimit) table
-  unfolding splitAnswer
+  unfolding answerFor
   too-long h = settled (Refused messageTooLong messageLimit) (rw (lt-ltb _ _ h))
 
   module _ (h : length message ≤ messageLimit) where
-    within-limit : {r : Answer} → r ≡ answerIn (roomOf table) 0 (headerOf message) → splitAnswer message table ≡ r
-    unfolding splitAnswer
+    within-limit : {r : Answer} → r ≡ answerIn (roomFor fieldRecordSize table) 0 (headerOf message) → splitAnswer message table ≡ r
+    unfolding answerFor
     within-limit e = rw (le-ltb _ _ h) (sym e)
 
-    pub refused : {n p : ℕ} {after : List ℕ} → after ≡ table → Refused n p ≡ answerIn (roomOf table) 0 (headerOf message)
+    pub refused : {n p : ℕ} {after : List ℕ} → after ≡ table → Refused n p ≡ answerIn (roomFor fieldRecordSize table) 0 (headerOf message)
         → Split message table (Refused n p) after
     refused {n} {p} same e = let (r, t) = settled (Refused n p) (within-limit e) in (r, same ∙ t)
 
-    pub no-room : {n : ℕ} {after : List ℕ} → after ≡ table → NoRoom n ≡ answerIn (roomOf table) 0 (headerOf message)
+    pub no-room : {n : ℕ} {after : List ℕ} → after ≡ table → NoRoom n ≡ answerIn (roomFor fieldRecordSize table) 0 (headerOf message)
         → Split message table (NoRoom n) after
     no-room {n} same e = let (r, t) = settled (NoRoom n) (within-limit e) in (r, same ∙ t)
 
     -- accepted by the first run, and stored by the second
     pub accepted : {n : ℕ} {before after : List ℕ} {r : Answer} → before ≡ table
-        → Accepted n ≡ answerIn (roomOf table) 0 (headerOf message) → Done message (roomOf table) before r after → Split message table r after
+        → Accepted n ≡ answerIn (roomFor fieldRecordSize table) 0 (headerOf message) → Done message (roomFor fieldRecordSize table) before r after → Split message table r after
     accepted {n} same e done =
         let (a, t) = settled (Accepted n) (within-limit e) in
         (done .0 ∙ sym e ∙ a, done .1 ∙ rw same t)

@@ -7,6 +7,7 @@ use lib.ListN.{drop, getD}
 use Rattle.octets.specs.Choice.{pick, both, either}
 use Rattle.octets.specs.Classes.{within, isWhite}
 use Rattle.octets.specs.Numbers.{nameFault, byteAbove127, headerNotEnded}
+use Rattle.octets.specs.Octets.{lineFeedByte, returnByte, colonByte}
 
 -- where a field's name and body start and end
 pub record Field : Type 0 where
@@ -26,15 +27,11 @@ pub data Header : Type 0 where
   ended : Header
   fault : ℕ → ℕ → Header
 
--- CR, LF and the colon
-abbrev pub carriageReturn : ℕ
-carriageReturn = 13
-
-abbrev pub lineFeed : ℕ
-lineFeed = 10
-
-abbrev pub colonByte : ℕ
-colonByte = 58
+-- the fields, in order
+abbrev pub fieldsOf : Header → List Field
+fieldsOf (field f rest) = f ∷ fieldsOf rest
+fieldsOf ended = []
+fieldsOf (fault number position) = []
 
 -- a name holds 33 to 126 without the colon, and SPACE and HTAB
 unfoldable pub nameHolds : ℕ → Bool
@@ -46,7 +43,7 @@ nameStartsWith b = both (nameHolds b) (not (isWhite b))
 
 -- the first of these bytes are CR and LF
 unfoldable pub crlf : List ℕ → Bool
-crlf bytes = both (eqb (getD bytes 0 0) carriageReturn) (eqb (getD bytes 1 0) lineFeed)
+crlf bytes = both (eqb (getD bytes 0 0) returnByte) (eqb (getD bytes 1 0) lineFeedByte)
 
 -- they are CR and LF that are not followed by SPACE or HTAB
 unfoldable pub endsBody : List ℕ → Bool

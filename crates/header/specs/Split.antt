@@ -1,25 +1,21 @@
 -- Document 01, "Fields" and "Answer numbers": the field records of a message, the answer of splitting it, and the lent table afterwards.
-use Prim.Native.Nat.{ℕ, _+_, _/_}
+use Prim.Native.Nat.{ℕ, _+_}
 use mathlib.Core.List.{List, [], _++_}
 use lib.Dec.{ltb}
 use lib.ListN.{length}
 use lib.Seq.{sets}
 use Rattle.octets.specs.Choice.{pick}
-use Rattle.octets.specs.Numbers.{messageLimit, fieldRecordSize, messageTooLong}
-use Rattle.octets.specs.Stored.{bytesOf}
+use Rattle.octets.specs.Numbers.{messageLimit, fieldRecordSize, numberWidth, messageTooLong}
+use Rattle.octets.specs.Stored.{bytesOf, roomFor}
 use Rattle.octets.specs.declared.answers.Answer.{Answer}
 use Rattle.octets.specs.declared.answers.Answer.the-variants.{Accepted, Refused, NoRoom}
 use Rattle.header.specs.Fields.{Field, Header, field, ended, fault, headerOf}
 
--- the bytes of a position in a record
-abbrev pub positionWidth : ℕ
-positionWidth = 2
-
 -- a field record: name start, name end, body start, body end, each high byte first
 unfoldable pub recordOf : Field → List ℕ
 recordOf f =
-    bytesOf positionWidth (f .nameStart)
-    ++ (bytesOf positionWidth (f .nameEnd) ++ (bytesOf positionWidth (f .bodyStart) ++ bytesOf positionWidth (f .bodyEnd)))
+    bytesOf numberWidth (f .nameStart)
+    ++ (bytesOf numberWidth (f .nameEnd) ++ (bytesOf numberWidth (f .bodyStart) ++ bytesOf numberWidth (f .bodyEnd)))
 
 -- the records of the fields, in order
 unfoldable pub recordsOf : Header → List ℕ
@@ -33,14 +29,14 @@ answerIn room count (field f rest) = answerIn room (count + 1) rest
 answerIn room count ended = pick (ltb room count) (NoRoom count) (Accepted count)
 answerIn room count (fault number position) = Refused number position
 
--- the whole number of records that fit
-abbrev pub roomOf : List ℕ → ℕ
-roomOf table = length table / fieldRecordSize
+-- the answer where `room` records fit: a message over its limit comes first
+unfoldable pub answerFor : ℕ → List ℕ → Answer
+answerFor room message =
+    pick (ltb messageLimit (length message)) (Refused messageTooLong messageLimit) (answerIn room 0 (headerOf message))
 
--- the answer: a message over its limit comes first
-unfoldable pub splitAnswer : List ℕ → List ℕ → Answer
-splitAnswer message table =
-    pick (ltb messageLimit (length message)) (Refused messageTooLong messageLimit) (answerIn (roomOf table) 0 (headerOf message))
+-- the answer for a lent table
+abbrev pub splitAnswer : List ℕ → List ℕ → Answer
+splitAnswer message table = answerFor (roomFor fieldRecordSize table) message
 
 -- the table after an answer: the records at its front if the message is accepted, else as it was
 abbrev pub tableAfter : Answer → List ℕ → List ℕ → List ℕ

@@ -7,7 +7,7 @@ ghost use Rattle.octets.specs.Classes.{isWhite};
 ghost use Rattle.octets.specs.Numbers.{messageLimit, fieldRecordSize};
 ghost use Rattle.header.specs.Fields.{nameHolds, nameStartsWith, crlf, endsBody, lineStart, inName, inBody, fieldOf, headerAt, headerOf};
 ghost use Rattle.header.specs.Split.{recordOf, recordsOf, answerIn, splitAnswer, splitTable};
-ghost use Rattle.header.specs.Steps.{firstOf};
+ghost use Rattle.header.specs.Steps.{firstOf, GoesOn};
 use octets::answers::Answer;
 use octets::numbers::BYTE_ABOVE_127;
 use octets::numbers::FIELD_RECORD_SIZE;
@@ -105,13 +105,35 @@ fn ends_body(message: &[u8], at: usize) -> bool
     false
 }
 
+// The first byte at or after a position that may end a body or be a fault in it. Bytes from 14 to 127 do neither.
+fn past_plain(message: &[u8], at: usize) -> usize
+    requires { ⌜ at ≤ length (now message) ⌝ }
+    ensures { λ r. ⌜ GoesOn (now (message .entry)) at r ⌝ }
+{
+    let mut p = at;
+    while p < message.len() {
+        if message[p] < 14 {
+            return p;
+        }
+        if 127 < message[p] {
+            return p;
+        }
+        p += 1;
+    }
+    p
+}
+
 // The field whose body starts at a position.
 fn body_rest(message: &[u8], name_start: usize, name_end: usize, body_start: usize) -> Next
     requires { ⌜ «body_start» ≤ length (now message) ⌝ }
     ensures { λ r. ⌜ r ≡ firstOf (headerAt (now (message .entry)) «body_start» (inBody «name_start» «name_end» «body_start»)) ⌝ }
 {
     let mut at = body_start;
-    while at < message.len() {
+    loop {
+        at = past_plain(message, at);
+        if message.len() <= at {
+            return Next::Fault(HEADER_NOT_ENDED, at);
+        }
         if 127 < message[at] {
             return Next::Fault(BYTE_ABOVE_127, at);
         }
@@ -120,7 +142,6 @@ fn body_rest(message: &[u8], name_start: usize, name_end: usize, body_start: usi
         }
         at += 1;
     }
-    Next::Fault(HEADER_NOT_ENDED, at)
 }
 
 // The field whose name starts at a position.

@@ -1,7 +1,7 @@
 -- The laws of comparing two texts. Assumes nothing.
-use mathlib.Core.Path.{_≡_, refl, ap, ap₂, _∙_}
+use mathlib.Core.Path.{_≡_, refl, sym, ap, ap₂, _∙_}
 use mathlib.Core.Bool.{Bool, true, false}
-use mathlib.Core.List.{List, [], _∷_, map}
+use mathlib.Core.List.{List, [], _∷_, map, map-id}
 use Prim.Native.Nat.{ℕ, suc, _+_, _≤_, _<_}
 use native.Mathlib.Omega.{arith}
 use native.Mathlib.Numerals.{add-one}
@@ -10,7 +10,8 @@ use lib.Dec.{eqb}
 use lib.ListN.{length, drop, getD, drop-of-length-le}
 use lib.Seq.{drop-cons}
 use Rattle.octets.specs.Choice.{both}
-use Rattle.octets.specs.Letters.{lower, same}
+use Rattle.octets.specs.Letters.{lower, same, sameBytes}
+use Rattle.octets.proofs.ChoiceLaws.{both-false, both-parts}
 
 -- only a capital letter has another small letter
 pub lower-below : (b : ℕ) → b < 65 → lower b ≡ b
@@ -24,14 +25,6 @@ lower-above b h = rw (le-leb 65 b (omega arith), lt-leb b 90 h)
 pub lower-capital : (b : ℕ) → 65 ≤ b → b ≤ 90 → lower b ≡ b + 32
 unfolding lower
 lower-capital b h k = rw (le-leb 65 b h, le-leb b 90 k)
-
-both-false : (t : Bool) → both t false ≡ false
-both-false true = refl
-both-false false = refl
-
-both-true : (a b : Bool) → both a b ≡ true → (a ≡ true) × (b ≡ true)
-both-true true b e = (refl, e)
-both-true false b e = absurd (let z : _≡_ {A = ℕ} 0 1 = cc in omega arith)
 
 module _ (f : ℕ → ℕ) where
   -- texts of different lengths differ
@@ -55,7 +48,7 @@ module _ (f : ℕ → ℕ) where
   same-true [] (b ∷ y) e = absurd (let z : _≡_ {A = ℕ} 0 1 = cc in omega arith)
   same-true (a ∷ x) [] e = absurd (let z : _≡_ {A = ℕ} 0 1 = cc in omega arith)
   same-true (a ∷ x) (b ∷ y) e =
-      let (h, t) = both-true (eqb (f a) (f b)) (same f x y) e in
+      let (h, t) = both-parts (eqb (f a) (f b)) (same f x y) e in
       ap₂ (λ c z. c ∷ z) (eqb-true (f a) (f b) h) (same-true x y t)
 
   module _ (x y : List ℕ) (i : ℕ) (h : i < length x) (k : i < length y) where
@@ -75,3 +68,7 @@ module _ (f : ℕ → ℕ) where
   pub both-end : (x y : List ℕ) (i : ℕ) → length x ≤ i → length y ≤ i → same f (drop i x) (drop i y) ≡ true
   unfolding same
   both-end x y i h k = rw (drop-of-length-le x h, drop-of-length-le y k)
+
+-- the same bytes are the same text
+pub same-bytes : (x y : List ℕ) → sameBytes x y ≡ true → x ≡ y
+same-bytes x y e = sym (map-id x) ∙ same-true (λ b. b) x y e ∙ map-id y

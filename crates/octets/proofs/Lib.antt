@@ -1,6 +1,9 @@
 -- Laws that several crates cite.
+pub mod ChoiceLaws
 pub mod Tables
 pub mod ClassLaws
 pub mod LetterLaws
 pub mod StoredLaws
 pub mod Parts
+pub mod Writes
+pub mod RecordsBack

@@ -1,13 +1,24 @@
 -- Laws of stored runs and of parts of a list, beside those of `lib.Seq`. Assumes nothing.
 use mathlib.Core.Path.{_≡_, refl, sym, ap, _∙_}
 use mathlib.Core.List.{List, [], _∷_, _++_, append-assoc}
-use Prim.Native.Nat.{ℕ, suc, _+_, _≤_, _<_}
-use native.Mathlib.Nat.{add-zero}
+use Prim.Native.Nat.{ℕ, zero, suc, _+_, _-_, _≤_, _<_}
+use native.Mathlib.Nat.{add-zero, sub-zero, zero-sub}
+use native.Mathlib.Numerals.{add-one}
 use native.Mathlib.Omega.{arith}
-use lib.ListN.{length, getD, take, drop, set}
-use lib.Seq.{sets, sets-eq, drop-at, take-append-seam, take-set-le, drop-set-lt, set-comm, set-out, length-take-le, getD-set-other}
+use lib.ListN.{length, getD, take, drop, set, length-drop}
+use lib.Seq.{sets, sets-eq, drop-at, drop-cons, drop-drop, take-append-seam, take-set-le, take-nil, take-take, drop-set-lt, set-comm, set-out, length-take-le, getD-set-other}
+use Rattle.octets.specs.Text.{part}
 
 module _ {A : Type 0} where
+  -- a part of no elements in front of the rest changes nothing
+  pub no-front : (front rest : List A) → length front ≡ 0 → front ++ rest ≡ rest
+  no-front [] rest e = refl
+  no-front (x ∷ front) rest e = absurd (omega arith)
+
+  -- from a place on: the element there, and those behind it
+  pub from-here : (l : List A) (i : ℕ) (d : A) → i < length l → drop i l ≡ getD l i d ∷ drop (i + 1) l
+  from-here l i d h = rw add-one (drop-cons l i d h)
+
   -- past the end nothing is stored
   pub sets-out : (vs table : List A) (i : ℕ) → length table ≤ i → sets table i vs ≡ table
   sets-out [] table i h = refl
@@ -55,3 +66,28 @@ module _ {A : Type 0} where
       let n : length (take i table) ≡ i = length-take-le i table (omega arith) in
       rw (sets-eq vs table i h, append-assoc, drop-at (take i table) (vs ++ drop (i + length vs) table) i n)
       (take-append-seam vs (drop (i + length vs) table))
+
+-- ---- the part of a text from a position up to another
+
+pub part-cons : (text : List ℕ) (at end : ℕ) → at < end → end ≤ length text → part text at end ≡ getD text at 0 ∷ part text (at + 1) end
+part-cons text at end h k =
+    let n : end - at ≡ suc (end - (at + 1)) = omega arith in
+    rw (n, drop-cons text at 0 (omega arith), add-one)
+
+pub part-none : (text : List ℕ) (at end : ℕ) → end ≤ at → part text at end ≡ []
+part-none text at end h = let n : end - at ≡ 0 = omega arith in rw n
+
+pub part-length : (text : List ℕ) (at end : ℕ) → end ≤ length text → length (part text at end) ≡ end - at
+part-length text at end h = length-take-le (end - at) (drop at text) (omega (arith, length-drop at text))
+
+drop-take : (n m : ℕ) (l : List ℕ) → drop n (take m l) ≡ take (m - n) (drop n l)
+drop-take zero m l = rw sub-zero
+drop-take (suc n) zero l = rw (zero-sub (suc n))
+drop-take (suc n) (suc m) [] = sym (take-nil (suc m - suc n))
+drop-take (suc n) (suc m) (x ∷ l) = let e : suc m - suc n ≡ m - n = omega arith in rw e (drop-take n m l)
+
+pub part-drop : (text : List ℕ) (at end n : ℕ) → drop n (part text at end) ≡ part text (at + n) end
+part-drop text at end n = let k : end - at - n ≡ end - (at + n) = omega arith in drop-take n (end - at) (drop at text) ∙ rw (drop-drop n at text, k)
+
+pub part-take : (text : List ℕ) (at end n : ℕ) → at + n ≤ end → take n (part text at end) ≡ part text at (at + n)
+part-take text at end n h = let k : at + n - at ≡ n = omega arith in take-take n (end - at) (drop at text) (omega arith) ∙ rw k

@@ -1,5 +1,5 @@
 -- The rule of a table, proved at each of its entries by one test that is computed over the whole. Assumes nothing.
-use mathlib.Core.Path.{_≡_, _∙_, sym, subst}
+use mathlib.Core.Path.{_≡_, refl, _∙_, sym, subst}
 use mathlib.Core.Bool.{Bool, true, false}
 use mathlib.Core.List.{List, [], _∷_}
 use Prim.Native.Nat.{ℕ, zero, suc, _+_, _<_}
@@ -7,6 +7,10 @@ use native.Mathlib.Nat.{add-zero, zero-add, add-suc, suc-add, le-of-suc-le-suc, 
 use lib.Dec.{T}
 use lib.ListN.{length, getD}
 use Rattle.octets.specs.Choice.{both}
+
+pub is-true : (t : Bool) → T t → t ≡ true
+is-true true h = refl
+is-true false h = absurd h
 
 pub both-left : (a b : Bool) → T (both a b) → T a
 both-left true b t = tt

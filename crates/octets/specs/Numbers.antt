@@ -17,6 +17,10 @@ fieldRecordSize = 8
 abbrev pub addressRecordSize : ℕ
 addressRecordSize = 12
 
+-- the bytes of a position, and of any other number of a record but kind and depth
+abbrev pub numberWidth : ℕ
+numberWidth = 2
+
 -- 0: accepted
 abbrev pub accepted : ℕ
 accepted = 0

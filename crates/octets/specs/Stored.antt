@@ -1,7 +1,7 @@
 -- Numbers stored in bytes, high byte first.
 use Prim.Native.Nat.{ℕ, zero, suc, _+_, _*_, _/_, _%_}
 use mathlib.Core.List.{List, [], _∷_, _++_}
-use lib.ListN.{getD}
+use lib.ListN.{length, getD}
 
 -- the lowest `width` bytes of a number, high byte first
 abbrev pub bytesOf : ℕ → ℕ → List ℕ
@@ -21,3 +21,7 @@ numberFrom high (b ∷ bytes) = numberFrom (high * 256 + b) bytes
 -- the number in `width` bytes of a table from a place on
 abbrev pub numberAt : ℕ → List ℕ → ℕ → ℕ
 numberAt width table at = numberFrom 0 (bytesAt width table at)
+
+-- room in a table: the whole number of records of a size that fit
+abbrev pub roomFor : ℕ → List ℕ → ℕ
+roomFor size table = length table / size

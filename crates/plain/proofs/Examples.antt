@@ -1,9 +1,9 @@
 -- Bodies and their plain texts, worked out by hand from document 01, in one table with one statement over its rows. Assumes nothing.
 use Prim.Native.Nat.{ℕ, _≤_, _<_}
 use native.Mathlib.Omega.{arith}
-use mathlib.Core.Path.{_≡_, refl, sym, ap, _∙_}
-use mathlib.Core.Bool.{Bool, true, false}
-use mathlib.Core.List.{List, [], _∷_, _++_, map}
+use mathlib.Core.Path.{_≡_, refl, ap, _∙_}
+use mathlib.Core.Bool.{Bool, false}
+use mathlib.Core.List.{List, [], _∷_, _++_}
 use mathlib.Core.Option.{Option, none, some}
 use lib.Dec.{T, leb, leb→le}
 use lib.ListN.{length, take, getD}
@@ -13,15 +13,14 @@ use Rattle.octets.specs.Choice.{both}
 use Rattle.octets.specs.Letters.{lower, same, sameBytes}
 use Rattle.octets.specs.Numbers.{messageLimit, levelLimit}
 use Rattle.octets.specs.Text.{bytes}
-use Rattle.octets.specs.declared.answers.Answer.{Answer}
-use Rattle.octets.specs.declared.answers.Answer.the-variants.{Accepted, Refused, NoRoom}
-use Rattle.octets.proofs.Tables.{every, at, both-left, both-right}
-use Rattle.octets.proofs.LetterLaws.{same-true}
+use Rattle.octets.specs.declared.answers.Answer.the-variants.{Accepted, Refused}
+use Rattle.octets.proofs.Tables.{is-true, every, at, both-left, both-right}
+use Rattle.octets.proofs.LetterLaws.{same-bytes}
 use Rattle.scanner.specs.Kinds.{kindOf}
 use Rattle.scanner.specs.Characters.{charactersFrom}
 use Rattle.scanner.specs.Scanning.{Scanned, ended, next, faultAt, scanFrom, scan, symbolsOf}
 use Rattle.scanner.proofs.BodyChecks.{in-order}
-use Rattle.scanner.specs.Answers.{faultOf}
+use Rattle.scanner.specs.Answers.{unlessFault, faultOf}
 use Rattle.grammar.specs.Language.{Verdict, accepted, refused}
 use Rattle.grammar.specs.Grammar.{levels}
 use Rattle.grammar.specs.Rfc733.{Derivation, DerivedList}
@@ -36,13 +35,8 @@ abbrev pub ofVerdict : Verdict Class Derivation → Option (List ℕ)
 ofVerdict (accepted k) = some (plainText k)
 ofVerdict (refused why rest) = none
 
-abbrev pub unlessFault : Answer → Option (List ℕ) → Option (List ℕ)
-unlessFault (Accepted count) text = text
-unlessFault (Refused number position) text = none
-unlessFault (NoRoom count) text = none
-
 abbrev pub plainOf : List ℕ → Option (List ℕ)
-plainOf body = unlessFault (faultOf (scan body 0)) (ofVerdict (answer levelLimit (symbolsOf (scan body 0))))
+plainOf body = unlessFault (λ number p. none) (scan body 0) (ofVerdict (answer levelLimit (symbolsOf (scan body 0))))
 
 -- ---- the table
 
@@ -124,48 +118,34 @@ abbrev right : ℕ → Example → Bool
 right i e = both (leb (length (e .body)) messageLimit) (isText (plainOf (e .body)) (e .plain))
 
 every-right : T (every right 0 table)
-unfolding scanFrom charactersFrom symbolsOf faultOf kindOf classOf classTable lower same
+unfolding scanFrom charactersFrom symbolsOf unlessFault kindOf classOf classTable lower same
 every-right = tt
 
 -- ---- what the test says
 
-map-same : (x : List ℕ) → map (λ b. b) x ≡ x
-map-same [] = refl
-map-same (b ∷ x) = ap (λ y. b ∷ y) (map-same x)
-
-is-true : (x : Bool) → T x → x ≡ true
-is-true true t = refl
-is-true false t = absurd t
-
 is-text : (o : Option (List ℕ)) (t : List ℕ) → T (isText o t) → o ≡ some t
 is-text none t h = absurd h
-is-text (some u) t h = ap some (sym (map-same u) ∙ same-true (λ b. b) u t (is-true (sameBytes u t) h) ∙ map-same t)
+is-text (some u) t h = ap some (same-bytes u t (is-true (sameBytes u t) h))
 
 of-verdict : (v : Verdict Class Derivation) {t : List ℕ} → ofVerdict v ≡ some t → (k : Derivation) × (v ≡ accepted k) × (plainText k ≡ t)
 of-verdict (accepted k) e = (k, refl, cc)
 of-verdict (refused why rest) e = absurd (let o : _≡_ {A = ℕ} 0 1 = cc in omega arith)
 
-no-fault : (a : Answer) {o : Option (List ℕ)} {t : List ℕ} → unlessFault a o ≡ some t → (count : ℕ) × (a ≡ Accepted count) × (o ≡ some t)
-no-fault (Accepted count) e = (count, refl, e)
-no-fault (Refused number position) e = absurd (let o : _≡_ {A = ℕ} 0 1 = cc in omega arith)
-no-fault (NoRoom count) e = absurd (let o : _≡_ {A = ℕ} 0 1 = cc in omega arith)
-
--- a fault counts nothing
-count-none : (s : Scanned) {count : ℕ} → faultOf s ≡ Accepted count → faultOf s ≡ Accepted 0
-unfolding faultOf
-count-none ended e = refl
-count-none (next x rest) e = count-none rest e
-count-none (faultAt number p) e = absurd (let o : _≡_ {A = ℕ} 0 1 = cc in omega arith)
+no-fault : (s : Scanned) (o : Option (List ℕ)) {t : List ℕ} → unlessFault (λ number p. none) s o ≡ some t → (faultOf s ≡ Accepted 0) × (o ≡ some t)
+unfolding unlessFault
+no-fault ended o e = (refl, e)
+no-fault (next x rest) o e = no-fault rest o e
+no-fault (faultAt number p) o e = absurd (let z : _≡_ {A = ℕ} 0 1 = cc in omega arith)
 
 -- the body is accepted, and the text beside it is the plain text of its derivation
 accepted-as : (body : List ℕ) {t : List ℕ} → length body ≤ messageLimit → plainOf body ≡ some t → (k : Derivation) × AcceptedBody body 0 (length body) k × (plainText k ≡ t)
 accepted-as body h e =
-    let (count, f, g) = no-fault (faultOf (scan body 0)) e in
+    let (f, g) = no-fault (scan body 0) (ofVerdict (answer levelLimit (symbolsOf (scan body 0)))) e in
     let (k, v, p) = of-verdict (answer levelLimit (symbolsOf (scan body 0))) g in
     let (d, n) : DerivedList k (symbolsOf (scan body 0)) × (levels k ≤ levelLimit) = answer-derives levelLimit v in
     let a : AcceptedBody body 0 (length body) k =
     record {
-      scans = in-order Refused body 0 (length body) (faultOf (scan (take (length body) body) 0)) h (omega arith) (omega arith) ∙ rw take-length (count-none (scan body 0) f);
+      scans = in-order Refused body 0 (length body) (faultOf (scan (take (length body) body) 0)) h (omega arith) (omega arith) ∙ rw take-length f;
       derived = rw take-length d;
       within = n;
     } in

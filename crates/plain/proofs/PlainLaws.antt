@@ -12,15 +12,17 @@ use denote.Enum.Declared.{tagOf}
 use Rattle.octets.proofs.answers.Answer as answer-declared
 use Rattle.octets.specs.Classes.{classTable}
 use Rattle.octets.specs.Choice.{pick}
+use Rattle.octets.specs.Fitting.{fittingAnswer, fittingText}
+use Rattle.octets.specs.Numbers.{addressRecordSize}
+use Rattle.octets.specs.Stored.{roomFor}
 use Rattle.octets.specs.declared.answers.Answer.{Answer}
 use Rattle.octets.specs.declared.answers.Answer.the-variants.{Accepted, Refused, NoRoom}
 use Rattle.grammar.specs.Records.{count}
 use Rattle.grammar.specs.Rfc733.{Derivation}
-use Rattle.addresses.specs.Outcome.{Outcome, refusal, room, derived, outcome}
+use Rattle.addresses.specs.Outcome.{Outcome, refusal, derived, outcome}
 use Rattle.addresses.proofs.Judgements.{ListBody, Judged, refusedAt, listed, listed-outcome, judged, scanned-body, list-scanned}
 use Rattle.plain.specs.PlainText.{plainText}
 use Rattle.plain.specs.Walking.{writtenText}
-use Rattle.plain.specs.Fitting.{fittingAnswer, fittingText}
 use Rattle.plain.specs.RoundTrip.{AcceptedBody}
 use Rattle.plain.specs.Written.{written, plainOutcome, Condition2}
 use Rattle.plain.proofs.RoundTrips.{round-trip, written-accepted}
@@ -68,7 +70,7 @@ module _ (message : List ℕ) (start end : ℕ) where
         let j : p ≡ q = cc in
         rw (i, j) (promised (refusal lent m q) (f written lent))
     refused-by (listed k b) table n p e =
-        absurd (derived-by (ltb (room table) (count k)) n p _ _ refl refl (e ∙ ap (λ (z : Outcome). z .answer) (listed-outcome b derived table)))
+        absurd (derived-by (ltb (roomFor addressRecordSize table) (count k)) n p _ _ refl refl (e ∙ ap (λ (z : Outcome). z .answer) (listed-outcome b derived table)))
 
     pub refused-promised : (table : List ℕ) (n p : ℕ) → Refused n p ≡ outcome message start end table .answer → Promised (Refused n p) lent
     refused-promised = refused-by (judged message start end)

@@ -8,17 +8,18 @@ use lib.Dec.{eqb, T}
 use lib.ListN.{getD}
 use mir.Val.{hasKey}
 use types.Run.{hit}
-use Rattle.octets.specs.Choice.{pick, both, either}
+use Rattle.octets.specs.Choice.{pick, either}
 use Rattle.octets.specs.Classes.{classOf, classTable, letter, backslash, quote}
 use Rattle.octets.specs.Letters.{lower, same}
 use Rattle.octets.specs.Text.{bytes}
 use Rattle.octets.specs.declared.answers.Answer.the-variants.{Accepted}
+use Rattle.octets.proofs.ChoiceLaws.{both-false}
 use Rattle.scanner.specs.Symbols.{Symbol}
 use Rattle.scanner.specs.Kinds.{kindOfClass, kindOf}
 use Rattle.scanner.specs.Characters.{foldAt, none, charactersFrom}
 use Rattle.scanner.specs.Scanning.{Scanned, ended, next, State, outside, inAtom, inQuoted, takingInQuoted, atomClass, move, then, scanFrom, symbolsOf}
 use Rattle.scanner.specs.Scanning as scanning
-use Rattle.scanner.specs.Answers.{faultOf}
+use Rattle.scanner.specs.Answers.{unlessFault, faultOf}
 use Rattle.scanner.proofs.MoveLaws.{tag, quoted-data, taken}
 use Rattle.grammar.proofs.Trees.{Class, Atom, Quoted, LessThan, GreaterThan, Semicolon, Colon}
 use Rattle.plain.specs.Meaning.{Word, atom, quotedString, Words, noWord, andWord, Addresses, noAddress, andAddress}
@@ -35,7 +36,7 @@ pub data Seen : Scanned → List Mark → Type 0 where
   then-one : {x : Symbol Class} {rest : Scanned} {ms : List Mark} → Seen rest ms → Seen (next x rest) (mark (x .class) (x .lexeme .meaning) ∷ ms)
 
 pub seen-faultless : {s : Scanned} {ms : List Mark} → Seen s ms → faultOf s ≡ Accepted 0
-unfolding faultOf
+unfolding unlessFault
 seen-faultless over = refl
 seen-faultless (then-one v) = seen-faultless v
 
@@ -184,12 +185,8 @@ data-first : (bs r : List ℕ) → eqb (getD (dataText bs (34 ∷ r)) 0 0) 10 �
 data-first [] r = refl
 data-first (b ∷ bs) r = first-byte (eqb b 34) (eqb b 92) (eqb b 13) (eqb b 10) b (dataText bs (34 ∷ r)) refl
 
-never : (x : Bool) → both x false ≡ false
-never true = refl
-never false = refl
-
 data-no-fold : (b : ℕ) (bs r : List ℕ) → foldAt (b ∷ dataText bs (34 ∷ r)) 0 ≡ false
-data-no-fold b bs r = rw (data-first bs r) (never (eqb b 13))
+data-no-fold b bs r = rw (data-first bs r) (both-false (eqb b 13))
 
 -- one byte of data, with its backslash or without
 data-step : (x : Bool) (b : ℕ) (bs r : List ℕ) (p s : ℕ) (t : List ℕ) → T (pick x (hasKey takenKeys (tag (kindOf classTable b))) (hasKey dataKeys (tag (kindOf classTable b))))

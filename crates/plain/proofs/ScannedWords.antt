@@ -9,11 +9,13 @@ use mathlib.Core.Logic.{_⊎_, inl, inr, ⊎-elim}
 use borrow.Author.Tests.{eqb-true}
 use lib.Dec.{eqb}
 use lib.ListN.{getD}
-use Rattle.octets.specs.Choice.{pick, both, either}
+use Rattle.octets.specs.Choice.{pick}
 use Rattle.octets.specs.Classes.{classOf, classTable, letter, white}
 use Rattle.octets.specs.Classes as classes
 use Rattle.octets.specs.Letters.{sameLetters}
+use Rattle.octets.specs.Octets.{lineFeedByte, returnByte}
 use Rattle.octets.specs.Text.{bytes}
+use Rattle.octets.proofs.ChoiceLaws.{both-parts, either-parts}
 use Rattle.scanner.specs.Kinds.{kindOfClass, kindOf, characterKind}
 use Rattle.scanner.specs.Characters.{Character, character, foldAt, InFold, lineFeed, charactersFrom, charactersAt}
 use Rattle.scanner.specs.Characters as characters
@@ -64,12 +66,8 @@ unfolding kindOf classTable classOf
 white-byte b (inl e) = record { view = isWhite; plain = λ q. absurd (let o : _≡_ {A = ℕ} 0 1 = cc in omega arith); data-is = λ q. rw e tt }
 white-byte b (inr e) = record { view = isWhite; plain = λ q. absurd (let o : _≡_ {A = ℕ} 0 1 = cc in omega arith); data-is = λ q. rw e tt }
 
-either-true : (x y : Bool) → either x y ≡ true → (x ≡ true) ⊎ (y ≡ true)
-either-true true y e = inl refl
-either-true false y e = inr e
-
 white-known : (b : ℕ) → classes.isWhite b ≡ true → Known b (kindOfClass white)
-white-known b e = white-byte b (⊎-elim (λ z. inl (eqb-true _ _ z)) (λ z. inr (eqb-true _ _ z)) (either-true (eqb b 32) (eqb b 9) e))
+white-known b e = white-byte b (⊎-elim (λ z. inl (eqb-true _ _ z)) (λ z. inr (eqb-true _ _ z)) (either-parts (eqb b 32) (eqb b 9) e))
 
 -- in a fold its white space is still to come
 abbrev Folding : InFold → List ℕ → Type 0
@@ -77,15 +75,10 @@ Folding characters.none l = Unit {0}
 Folding lineFeed l = classes.isWhite (getD l 1 0) ≡ true
 Folding characters.white l = classes.isWhite (getD l 0 0) ≡ true
 
-both-last : (x y z : Bool) → both x (both y z) ≡ true → z ≡ true
-both-last true true z e = e
-both-last true false z e = absurd (let o : _≡_ {A = ℕ} 0 1 = cc in omega arith)
-both-last false y z e = absurd (let o : _≡_ {A = ℕ} 0 1 = cc in omega arith)
-
 -- a byte that may start a fold
 known-next : (x : Bool) (b : ℕ) (r : List ℕ) (p : ℕ) → foldAt (b ∷ r) 0 ≡ x → (Folding lineFeed r → KnownAll (charactersFrom lineFeed r (p + 1))) → KnownAll (charactersFrom characters.none r (p + 1))
     → KnownAll (elim x [ true ↦ charactersFrom lineFeed r (p + 1) | false ↦ character b p false ∷ charactersFrom characters.none r (p + 1) ])
-known-next true b r p e f g = f (both-last (eqb b 13) (eqb (getD r 0 0) 10) (classes.isWhite (getD r 1 0)) e)
+known-next true b r p e f g = f (both-parts (eqb (getD r 0 0) lineFeedByte) _ (both-parts (eqb b returnByte) _ e .1) .1)
 known-next false b r p e f g = (record { view = byte-view b; plain = λ q. q; data-is = λ q. datum b q }, g)
 
 known : (fold : InFold) (l : List ℕ) (p : ℕ) → Folding fold l → KnownAll (charactersFrom fold l p)

@@ -16,7 +16,8 @@ use Rattle.grammar.specs.Rfc733 as rfc733
 use Rattle.grammar.proofs.Trees.{Atom, Colon, LessThan, GreaterThan, Semicolon, Lexeme, Sym, of, atomWord, quotedWord, Phrase, one, more, Nodes, first, next, Place, empty, comma, AddressList, idle, full, mailbox, angle, group, quoted, typed, phraseThen, nodesThen, placeLevels, listLevels, addressLevels}
 use Rattle.grammar.proofs.Trees as trees
 use Rattle.grammar.proofs.HouseRule as house
-use Rattle.grammar.proofs.Rows.{wordRow, phraseRow, nodesRow, placeRow, listRow, addressRow, phrase-yield, nodes-yield, asRow}
+use Rattle.grammar.proofs.Rows.{wordRow, phraseRow, nodesRow, placeRow, listRow, addressRow, nodes-yield, asRow}
+use Rattle.grammar.proofs.TreeRecords.{part-phrase}
 use Rattle.plain.specs.Meaning.{Word, atom, quotedString, Words, noWord, andWord, Addresses, noAddress, andAddress, Address, address, wordsAfter, wordsOf, nodesOf, addressesAfter, meaning}
 use Rattle.plain.specs.PlainText.{atomGroup, addressText}
 
@@ -82,11 +83,7 @@ words-nodes (first t (quotedWord w)) xs = refl
 words-nodes (next m t (atomWord w)) xs = words-nodes m _
 words-nodes (next m t (quotedWord w)) xs = words-nodes m _
 
--- the phrase is the first part of a row, and the rest of the row follows
-first-phrase : (p : Phrase) (k : Derivation) → partOf 0 (phraseRow p k) ≡ phraseThen p []
-first-phrase (one w) k = phrase-yield (one w) nil []
-first-phrase (more p w) k = phrase-yield (more p w) nil []
-
+-- the rest of a row follows its phrase
 second-part : (p : Phrase) (k : Derivation) → partOf 1 (phraseRow p k) ≡ partOf 0 k
 second-part (one w) k = refl
 second-part (more p w) k = refl
@@ -96,7 +93,7 @@ first-nodes (first t w) k = nodes-yield (first t w) nil []
 first-nodes (next m t w) k = nodes-yield (next m t w) nil []
 
 name-words : (p : Phrase) (k : Derivation) → wordsOf (partOf 0 (phraseRow p k)) ≡ phraseMeaning p
-name-words p k = ap wordsOf (first-phrase p k) ∙ words-phrase p []
+name-words p k = ap wordsOf (part-phrase p k) ∙ words-phrase p []
 
 node-words : (p : Phrase) (m : Nodes) (k : Derivation) → wordsOf (partOf 1 (phraseRow p (nodesRow m k))) ≡ nodesMeaning m
 node-words p m k = ap wordsOf (second-part p _ ∙ first-nodes m k) ∙ words-nodes m []

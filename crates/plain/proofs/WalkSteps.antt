@@ -8,6 +8,8 @@ use lib.ListN.{length}
 use lib.Seq.{sets}
 use types.Run.{OneOf, miss}
 use denote.Enum.Declared.{tagOf}
+use Rattle.octets.specs.Writing.{Wrote}
+use Rattle.octets.proofs.Writes.{wrote-both}
 use Rattle.scanner.proofs.Class.{the-type as class-type}
 use Rattle.scanner.proofs.Next.{the-type as next-type}
 use Rattle.grammar.specs.Rfc733.{sameClass}
@@ -19,8 +21,9 @@ use Rattle.scanner.specs.declared.Next.{Next}
 use Rattle.scanner.specs.declared.Next.the-variants.{Found, Ended, Fault}
 use Rattle.scanner.proofs.Meanings.{meaningAt}
 use Rattle.scanner.proofs.Unfolding.{SymbolAt, Unfolded, no-symbol, a-symbol, a-fault, unfolded, found}
-use Rattle.plain.specs.Walking.{symbolText, after, colonNext, walkText, textFrom, writtenText}
-use Rattle.plain.specs.Writing.{textLimit, Wrote, isColon}
+use Rattle.plain.specs.Walking.{gapText, symbolText, after, colonNext, walkText, textFrom, writtenText}
+use Rattle.plain.specs.Writing.{textLimit, isColon}
+use Rattle.plain.specs.declared.places.Gap.{Gap}
 use Rattle.plain.specs.declared.places.Place.{Place}
 use Rattle.plain.specs.declared.places.Place.the-variants.{Start}
 
@@ -88,6 +91,11 @@ less-by x (a-fault e) = rw e (omega (arith, x .starts, x .within))
 pub behind-less : {classes text : List ℕ} {at : ℕ} {class : Class} {first end : ℕ} {coming later : Next} → SymbolAt classes text at class first end → coming ≡ Found class first end
     → later ≡ nextOf (scanBy classes text end) → behind (length text) later < behind (length text) coming
 behind-less {classes} {text} {end = end} x e k = rw (e, k) (less-by x (unfolded classes text end))
+
+-- ---- a gap, and what stands behind it
+
+pub wrote-gap : {gap gap′ : Gap} {g : List ℕ → List ℕ} {o p q : List ℕ} {n m k : ℕ} → gap ≡ gap′ → Wrote (gapText gap) o n p m → Wrote g p m q k → Wrote (λ rest. gapText gap′ (g rest)) o n q k
+wrote-gap {gap} {gap′} {g} e a b = wrote-both {f = gapText gap′} {g = g} (rw e at a) b
 
 -- ---- the loop
 

@@ -2,7 +2,6 @@
 pub mod Meaning
 pub mod PlainText
 pub mod RoundTrip
-pub mod Fitting
 pub mod Walking
 pub mod Writing
 pub mod Written

@@ -4,6 +4,7 @@ use mathlib.Core.Bool.{Bool, true, false}
 use mathlib.Core.List.{List, [], _∷_, _++_}
 use lib.Dec.{eqb}
 use Rattle.octets.specs.Choice.{pick, both, either}
+use Rattle.octets.specs.Octets.{lineFeedByte, returnByte, quoteByte, backslashByte}
 use Rattle.octets.specs.Text.{bytes}
 use Rattle.grammar.specs.Rfc733.{Derivation, kindNumber, mailbox, angleList, group, quoted}
 use Rattle.plain.specs.Meaning.{Word, atom, quotedString, Words, noWord, andWord, Addresses, noAddress, andAddress, Address, address, meaning}
@@ -12,11 +13,11 @@ use Rattle.plain.specs.Meaning.{Word, atom, quotedString, Words, noWord,
 
 -- a backslash stands before quote, backslash, CR and LF only
 abbrev pub needsBackslash : ℕ → Bool
-needsBackslash b = either (eqb b 34) (either (eqb b 92) (either (eqb b 13) (eqb b 10)))
+needsBackslash b = either (eqb b quoteByte) (either (eqb b backslashByte) (either (eqb b returnByte) (eqb b lineFeedByte)))
 
 -- a backslash, if it is needed
 abbrev pub backslashText : Bool → List ℕ → List ℕ
-backslashText true rest = 92 ∷ rest
+backslashText true rest = backslashByte ∷ rest
 backslashText false rest = rest
 
 -- the data of a quoted-string

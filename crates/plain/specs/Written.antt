@@ -3,12 +3,12 @@ use Prim.Native.Nat.{ℕ, _≤_}
 use mathlib.Core.Path.{_≡_}
 use mathlib.Core.List.{List}
 use lib.ListN.{length}
+use Rattle.octets.specs.Fitting.{fittingAnswer, fittingText}
 use Rattle.octets.specs.Numbers.{messageLimit}
 use Rattle.octets.specs.declared.answers.Answer.{Answer}
 use Rattle.grammar.specs.Rfc733.{Derivation}
 use Rattle.addresses.specs.Outcome.{Outcome, outcomeBy}
 use Rattle.plain.specs.PlainText.{plainText}
-use Rattle.plain.specs.Fitting.{fittingAnswer, fittingText}
 use Rattle.plain.specs.RoundTrip.{AcceptedBody, RoundTrip}
 
 -- a derivation: its plain text at the front of the lent text, or 11 with its length where there is too little room

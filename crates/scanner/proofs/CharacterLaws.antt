@@ -6,19 +6,22 @@ use mathlib.Core.List.{List, [], _∷_}
 use Prim.Native.Nat.{ℕ, suc, _+_, _≤_, _<_}
 use native.Mathlib.Nat.{add-zero}
 use native.Mathlib.Decide.{decLt}
-use native.Mathlib.Numerals.{add-one, towards-suc}
+use native.Mathlib.Numerals.{towards-suc}
 use native.Mathlib.Omega.{arith}
 use borrow.Author.Tests.{eq-eqb, ne-eqb, eqb-true}
 use lib.Dec.{eqb}
 use lib.ListN.{length, drop, getD, drop-of-length-le, List·getD-eq-default}
-use lib.Seq.{drop-cons, getD-drop}
-use Rattle.octets.specs.Choice.{both, either}
+use lib.Seq.{getD-drop}
+use Rattle.octets.specs.Choice.{both}
 use Rattle.octets.specs.Classes.{isWhite}
+use Rattle.octets.specs.Octets.{lineFeedByte, returnByte}
+use Rattle.octets.proofs.ChoiceLaws.{both-parts, either-parts}
+use Rattle.octets.proofs.Parts.{from-here}
 use Rattle.scanner.specs.Kinds.{kindOf, kindOfClass}
 use Rattle.scanner.specs.Characters.{character, foldAt, none, charactersFrom, charactersAt}
 use Rattle.scanner.specs.Steps.{FirstCharacter}
 use Rattle.scanner.specs.declared.Kind.{Kind}
-use Rattle.scanner.specs.declared.Kind.the-variants.{White}
+use Rattle.scanner.specs.declared.Kind.the-variants.{White, Return}
 
 -- past the end there is none
 pub no-character : (text : List ℕ) (at : ℕ) → length text ≤ at → charactersAt text at ≡ []
@@ -34,13 +37,9 @@ plain-here b rest p h = rw (h, charactersFrom)
 fold-drop : (text : List ℕ) (at : ℕ) → foldAt (drop at text) 0 ≡ foldAt text at
 fold-drop text at = simp (getD-drop, add-zero)
 
--- what stands at a position, and the rest
-from-here : (text : List ℕ) (at : ℕ) → at < length text → drop at text ≡ getD text at 0 ∷ drop (at + 1) text
-from-here text at h = rw add-one (drop-cons text at 0 h)
-
 pub plain-at : (text : List ℕ) (at : ℕ) → at < length text → foldAt text at ≡ false → charactersAt text at ≡ character (getD text at 0) at false ∷ charactersAt text (at + 1)
 plain-at text at h e =
-    let d : drop at text ≡ getD text at 0 ∷ drop (at + 1) text = from-here text at h in
+    let d : drop at text ≡ getD text at 0 ∷ drop (at + 1) text = from-here text at 0 h in
     ap (λ (l : List ℕ). charactersFrom none l at) d ∙ plain-here (getD text at 0) (drop (at + 1) text) at (rw d at (fold-drop text at ∙ e))
 
 -- ---- a fold
@@ -49,17 +48,12 @@ fold-here : (a b c : ℕ) (rest : List ℕ) (p : ℕ) → foldAt (a ∷ b ∷ c 
 unfolding charactersFrom
 fold-here a b c rest p h = rw (h, charactersFrom)
 
-whites : (x y z w : Bool) → both x (both y (either z w)) ≡ true → (z ≡ true) ⊎ (w ≡ true)
-whites true true true w e = inl refl
-whites true true false w e = inr e
-whites true false z w e = absurd (let o : _≡_ {A = ℕ} 0 1 = cc in omega arith)
-whites false y z w e = absurd (let o : _≡_ {A = ℕ} 0 1 = cc in omega arith)
-
 -- behind its CRLF stands SPACE or HTAB
 fold-white : (text : List ℕ) (i : ℕ) → foldAt text i ≡ true → (getD text (i + 2) 0 ≡ 32) ⊎ (getD text (i + 2) 0 ≡ 9)
 fold-white text i e =
-    ⊎-elim (λ z. inl (eqb-true _ _ z)) (λ z. inr (eqb-true _ _ z))
-    (whites (eqb (getD text i 0) 13) (eqb (getD text (i + 1) 0) 10) (eqb (getD text (i + 2) 0) 32) (eqb (getD text (i + 2) 0) 9) e)
+    let two = both-parts (eqb (getD text i 0) returnByte) _ e in
+    let three = both-parts (eqb (getD text (i + 1) 0) lineFeedByte) _ (two .1) in
+    ⊎-elim (λ z. inl (eqb-true _ _ z)) (λ z. inr (eqb-true _ _ z)) (either-parts (eqb (getD text (i + 2) 0) 32) (eqb (getD text (i + 2) 0) 9) (three .1))
 
 in-range : (text : List ℕ) (i v : ℕ) → getD text i 0 ≡ suc v → i < length text
 in-range text i v e = elim (decLt i (length text)) [ yes h ↦ h | no h ↦ absurd (omega (arith, List·getD-eq-default {A = ℕ} text 0 {n = i} (omega arith))) ]
@@ -75,7 +69,7 @@ fold-at text at e =
     let two : at + 1 + 1 ≡ at + 2 = omega arith in
     let three : at + 2 + 1 ≡ at + 3 = omega arith in
     let d : drop at text ≡ getD text at 0 ∷ getD text (at + 1) 0 ∷ getD text (at + 2) 0 ∷ drop (at + 3) text =
-    from-here text at (omega arith) ∙ rw (from-here text (at + 1) (omega arith), two, from-here text (at + 2) h, three) in
+    from-here text at 0 (omega arith) ∙ rw (from-here text (at + 1) 0 (omega arith), two, from-here text (at + 2) 0 h, three) in
     ap (λ (l : List ℕ). charactersFrom none l at) d
     ∙ fold-here (getD text at 0) (getD text (at + 1) 0) (getD text (at + 2) 0) (drop (at + 3) text) at (rw d at (fold-drop text at ∙ e))
     ∙ rw (two, three)
@@ -90,6 +84,11 @@ pub no-fold : (text : List ℕ) (i : ℕ) → length text ≤ i + 2 → foldAt t
 no-fold text i h = rw (List·getD-eq-default text 0 h) (both-false (eqb (getD text i 0) 13) (eqb (getD text (i + 1) 0) 10))
 
 -- ---- what a test of the bytes at a position says of a fold there
+
+-- CR has a kind of its own
+pub return-kind : (classes : List ℕ) (b : ℕ) → b ≡ returnByte → Return ≡ kindOf classes b
+unfolding kindOf
+return-kind classes b e = rw (eq-eqb b returnByte e)
 
 pub no-return : (text : List ℕ) (i : ℕ) → (getD text i 0 ≡ 13 → ⊥) → foldAt text i ≡ false
 no-return text i n = rw (ne-eqb (getD text i 0) 13 n)

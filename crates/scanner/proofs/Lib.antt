@@ -7,3 +7,4 @@ pub mod Unfolding
 pub mod Spans
 pub mod BodyChecks
 pub mod Examples
+pub mod FaultLaws

@@ -10,6 +10,7 @@ use types.Run.{OneOf, miss}
 use denote.Enum.Declared.{tagOf}
 use Rattle.octets.specs.Numbers.{byteAbove127, strayControl}
 use Rattle.octets.specs.Text.{part}
+use Rattle.octets.proofs.Parts.{part-none}
 use Rattle.scanner.specs.Symbols.{Symbol}
 use Rattle.scanner.specs.Characters.{Character, character, charactersAt}
 use Rattle.scanner.specs.Scanning.{Scanned, next, faultAt, State, outside, inAtom, inQuoted, takingInQuoted, inComment, takingInComment, Move, go, halt, symbol, atom, single, move, moveInAtom, closed, atEnd, then, scanFrom, scanBy}
@@ -146,12 +147,9 @@ part-more text start p h k =
     let j : p - start < length (drop start text) = rw length-drop (omega arith) in
     rw e (sym (take-suc (drop start text) (p - start) 0 j ∙ rw g))
 
-part-none : (text : List ℕ) (start : ℕ) → part text start start ≡ []
-part-none text start = let e : start - start ≡ 0 = omega arith in rw e
-
 -- the part of one byte
 pub part-one : (text : List ℕ) (p q : ℕ) → q ≡ p + 1 → q ≤ length text → getD text p 0 ∷ [] ≡ part text p q
-part-one text p q e h = rw e (ap (λ l. l ++ (getD text p 0 ∷ [])) (sym (part-none text p)) ∙ part-more text p p (omega arith) (omega arith))
+part-one text p q e h = rw e (ap (λ l. l ++ (getD text p 0 ∷ [])) (sym (part-none text p p (omega arith))) ∙ part-more text p p (omega arith) (omega arith))
 
 plain-white : Plain ≡ White → ⊥
 plain-white e = let o : _≡_ {A = ℕ} 0 1 = cc in omega arith

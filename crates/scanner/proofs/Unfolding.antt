@@ -18,7 +18,7 @@ use Rattle.scanner.specs.Symbols.{Symbol}
 use Rattle.scanner.specs.Kinds.{kindOfClass, kindOf, characterKind}
 use Rattle.scanner.specs.Characters.{charactersAt}
 use Rattle.scanner.specs.Scanning.{Scanned, ended, next, faultAt, outside, inAtom, inQuoted, takingInQuoted, inComment, takingInComment, go, halt, symbol, atom, atomClass, atEnd, scanFrom, scanBy}
-use Rattle.scanner.specs.Answers.{nextOf, faultOf}
+use Rattle.scanner.specs.Answers.{nextOf, unlessFault, faultOf}
 use Rattle.scanner.specs.Steps.{FirstCharacter, AtomEnds, CommentEnds}
 use Rattle.scanner.specs.declared.Class.{Class}
 use Rattle.scanner.specs.declared.Class.the-variants.{Atom, Quoted, At, LessThan, GreaterThan, Comma, Semicolon, Colon, Stray}
@@ -387,5 +387,5 @@ module _ (classes text : List ℕ) where
 
   -- up to a symbol's end there is no fault: the first fault is that from its end on
   pub fault-on : {at : ℕ} {class : Class} {start end : ℕ} → SymbolAt classes text at class start end → faultOf (scanBy classes text at) ≡ faultOf (scanBy classes text end)
-  unfolding faultOf
+  unfolding unlessFault
   fault-on x = rw (x .same)

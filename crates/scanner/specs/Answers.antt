@@ -19,11 +19,15 @@ bodyChecked refused message start end otherwise =
     pick (ltb messageLimit (length message)) (refused messageTooLong messageLimit)
     (pick (either (ltb end start) (ltb (length message) end)) (refused bodyOutOfOrder 0) otherwise)
 
+-- the first fault of scanning is refused; where there is none, what else is answered
+unfoldable pub unlessFault : {A : Type 0} → (ℕ → ℕ → A) → Scanned → A → A
+unlessFault refused ended otherwise = otherwise
+unlessFault refused (next x rest) otherwise = unlessFault refused rest otherwise
+unlessFault refused (faultAt number p) otherwise = refused number p
+
 -- the first fault of scanning, if there is one; nothing is lent, so the count is 0
-unfoldable pub faultOf : Scanned → Answer
-faultOf ended = Accepted 0
-faultOf (next x rest) = faultOf rest
-faultOf (faultAt number p) = Refused number p
+abbrev pub faultOf : Scanned → Answer
+faultOf s = unlessFault Refused s (Accepted 0)
 
 -- the answer of scanning the body of a message from `start` up to `end`
 abbrev pub bodyScanned : List ℕ → ℕ → ℕ → Answer

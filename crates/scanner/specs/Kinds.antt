@@ -6,6 +6,7 @@ use lib.Dec.{eqb}
 use lib.ListN.{getD}
 use Rattle.octets.specs.Choice.{pick}
 use Rattle.octets.specs.Classes.{white, control, openParenthesis, closeParenthesis, lessThan, greaterThan, atSign, comma, semicolon, colon, backslash, quote, above127}
+use Rattle.octets.specs.Octets.{returnByte}
 use Rattle.scanner.specs.declared.Class.the-variants.{At, LessThan, GreaterThan, Comma, Semicolon, Colon}
 use Rattle.scanner.specs.declared.Kind.{Kind}
 use Rattle.scanner.specs.declared.Kind.the-variants.{White, Control, Return, Plain, Open, Close, Quote, Backslash, Mark, Above}
@@ -23,7 +24,7 @@ kindOfClass class =
 
 -- the kind of a byte, by a table of classes: CR is told apart from the other control bytes
 unfoldable pub kindOf : List ℕ → ℕ → Kind
-kindOf classes b = pick (eqb b 13) Return (kindOfClass (getD classes b 0))
+kindOf classes b = pick (eqb b returnByte) Return (kindOfClass (getD classes b 0))
 
 -- the kind of a character: the one behind the CRLF of a fold is white space
 abbrev pub characterKind : List ℕ → ℕ → Bool → Kind

@@ -118,10 +118,13 @@ fn character(classes: &[u8; 256], text: &[u8], at: usize) -> Step
     if text.len() <= at {
         return Step::Done;
     }
+    if text[at] != b'\r' {
+        return Step::Byte(kind_of(classes, text[at]), at, at + 1);
+    }
     if folds(text, at) {
         Step::Byte(Kind::White, at + 2, at + 3)
     } else {
-        Step::Byte(kind_of(classes, text[at]), at, at + 1)
+        Step::Byte(Kind::Return, at, at + 1)
     }
 }
 
@@ -273,10 +276,22 @@ pub fn fault_by(classes: &[u8; 256], text: &[u8], at: usize) -> Answer
 {
     let mut p = at;
     loop {
-        match next_by(classes, text, p) {
-            Next::Found(_, _, end) => p = end,
-            Next::Ended => return Answer::Accepted(0),
-            Next::Fault(number, place) => return Answer::Refused(number, place),
+        let Step::Byte(kind, here, q) = character(classes, text, p) else {
+            return Answer::Accepted(0);
+        };
+        match kind {
+            Kind::Open => match comment_end(classes, text, here, q) {
+                Comment::Past(behind) => p = behind,
+                Comment::Open(number, place) => return Answer::Refused(number, place),
+            },
+            Kind::Quote => match quoted_end(classes, text, here, q) {
+                Next::Found(_, _, end) => p = end,
+                Next::Ended => return Answer::Accepted(0),
+                Next::Fault(number, place) => return Answer::Refused(number, place),
+            },
+            Kind::Control | Kind::Return => return Answer::Refused(STRAY_CONTROL, here),
+            Kind::Above => return Answer::Refused(BYTE_ABOVE_127, here),
+            _ => p = q,
         }
     }
 }

@@ -1,4 +1,9 @@
 -- `addresses::put_record` meets its contract. Assumes nothing.
+use mathlib.Core.Path.{sym}
+use Prim.Native.Nat.{_*_, _-_}
+use Rattle.octets.proofs.Parts.{sets-out}
+use Rattle.grammar.specs.Records.{recordBytes}
+use Rattle.grammar.proofs.TreeRecords.{recordBy}
 use Rattle.addresses.proofs.RecordLaws.{record-stored}
 use borrow.Author.Needs.{needs}
 use Rattle.addresses.proofs.put_record.Statement.{statement}
@@ -6,6 +11,11 @@ use Rattle.addresses.proofs.put_record.Tie as tie
 
 mul-at : tie.Need-mul-at
 mul-at c = search needs
+
+returns : tie.Need-returns
+returns c =
+    let a = c .before .before .before .args in
+    sym (sets-out (recordBytes (recordBy (a .kind) (64 - a .frame .levels) (a .frame .parent) (a .start) (a .end) (a .name .start) (a .name .end))) (a .table .now) (a .frame .number * 12) (c .if1 .taken))
 
 store-byte-requires : tie.Need-store-byte-requires
 store-byte-requires c κs = search needs
@@ -55,9 +65,9 @@ store-two-requires-5 c κs = search needs
 same-length : tie.Need-same-length
 same-length c = search needs
 
-returns : tie.Need-returns
-returns c =
-    let a = c .before .before .before .before .before .before .before .before .before .before .before .before .before .before .before .before .before .before .before .before .before .before .before .before .before .before .before .before .before .before .before .args in
+returns-2 : tie.Need-returns-2
+returns-2 c =
+    let a = c .before .before .before .before .before .before .before .before .before .before .before .before .before .before .before .before .before .before .before .before .before .before .before .before .before .before .before .before .before .before .before .before .args in
     record-stored (a .table .now) _ (a .kind) _ (a .frame .parent) (a .start) (a .end) (a .name .start) (a .name .end) (c .before .before .before .before .before .before .before .before .before .before .before .before .before .before .before .before .before .before .before .before .before .before .before .before .before .before .before .store-byte .ensures)
     (c .before .before .before .before .before .before .before .before .before .before .before .before .before .before .before .before .before .before .before .before .before .before .store-byte2 .ensures) (c .before .before .before .before .before .before .before .before .before .before .before .before .before .before .before .before .before .before .store-two .ensures)
     (c .before .before .before .before .before .before .before .before .before .before .before .before .before .before .store-two2 .ensures) (c .before .before .before .before .before .before .before .before .before .before .store-two3 .ensures) (c .before .before .before .before .before .before .store-two4 .ensures) (c .before .before .store-two5 .ensures)
@@ -67,6 +77,7 @@ put-record-spec =
     tie.close
     (tie.spec
     mul-at
+    returns
     store-byte-requires
     add-store-byte
     sub-store-byte
@@ -83,4 +94,4 @@ put-record-spec =
     add-store-two-5
     store-two-requires-5
     same-length
-    returns)
+    returns-2)

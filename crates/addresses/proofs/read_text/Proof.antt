@@ -1,8 +1,8 @@
 -- `addresses::read_text` meets its contract. Assumes nothing.
 use mathlib.Core.Path.{_≡_, sym, ap, _∙_}
 use Rattle.scanner.specs.Scanning.{scanBy}
-use Rattle.addresses.specs.Outcome.{Outcome}
-use Rattle.addresses.proofs.WholeLaws.{unless-refused, unless-none, fault-or-none}
+use Rattle.scanner.proofs.BodyChecks.{unless-refused, unless-none, fault-or-none}
+use Rattle.addresses.specs.Outcome.{Outcome, refusal}
 use borrow.Author.Needs.{needs}
 use Rattle.addresses.proofs.read_text.Statement.{statement}
 use Rattle.addresses.proofs.read_text.Tie as tie
@@ -21,7 +21,7 @@ read-twice-requires c κs =
 returns : tie.Need-returns
 returns c =
     let a = c .before .before .before .before .before .before .args in
-    let e = unless-refused (a .classes .now) (a .text .now) (a .table .now) (scanBy (a .classes .now) (a .text .now) (a .at)) _ (rw (c .before .number .given .1) at (c .before .before .before .fault-by .ensures)) in
+    let e = unless-refused (refusal (a .table .now)) (scanBy (a .classes .now) (a .text .now) (a .at)) _ (rw (c .before .number .given .1) at (c .before .before .before .fault-by .ensures)) in
     record { answer-is = ap (λ (o : Outcome). o .answer) (sym e); table-is = ap (λ (o : Outcome). o .table) (sym e) }
 
 same-length : tie.Need-same-length
@@ -30,7 +30,7 @@ same-length c = search needs
 returns-2 : tie.Need-returns-2
 returns-2 c =
     let a = c .before .before .before .before .before .before .before .before .args in
-    let e = unless-none (a .classes .now) (a .text .now) (a .table .now) (scanBy (a .classes .now) (a .text .now) (a .at)) _ (fault-or-none _ (c .before .before .before .before .before .fault-by .result) (c .before .before .before .before .before .fault-by .ensures) (c .before .before .before .before .match .keys2)) in
+    let e = unless-none (refusal (a .table .now)) (scanBy (a .classes .now) (a .text .now) (a .at)) _ (fault-or-none _ (c .before .before .before .before .before .fault-by .result) (c .before .before .before .before .before .fault-by .ensures) (c .before .before .before .before .match .keys2)) in
     record { answer-is = c .before .before .read-twice .ensures .answer-is ∙ ap (λ (o : Outcome). o .answer) (sym e); table-is = c .before .before .read-twice .ensures .table-is ∙ ap (λ (o : Outcome). o .table) (sym e) }
 
 pub read-text-spec : {M : Type 1} → statement M

@@ -7,7 +7,7 @@ use mir.Syntax.{w64}
 use mir.Val.{SFits}
 use mir.Facts.{toZ-ofZ}
 use Rattle.octets.specs.Classes.{classOf, classTable}
-use Rattle.scanner.proofs.BodyChecks.{too-long, out-of-order, past-the-end}
+use Rattle.scanner.proofs.BodyChecks.{too-long, out-of-order, past-the-end, fault-or-none}
 use Rattle.dates.specs.Answers.{momentAnswer, readingAnswer, dateAnswer}
 use Rattle.dates.specs.declared.DateAnswer.the-variants.{Accepted, Refused}
 use Rattle.dates.proofs.AnswerLaws.{with-fault, without-fault}
@@ -21,7 +21,7 @@ answered c =
     let a = c .before .before .before .before .before .before .before .before .before .args in
     let fault-by = c .before .before .fault-by in
     without-fault (a .message .now) (a .start) (a .end) (omega arith) (omega arith) (omega arith)
-    (fault-by .result) (fault-by .ensures) (c .before .match .keys2)
+    (fault-or-none _ (fault-by .result) (fault-by .ensures) (c .before .match .keys2))
     (c .read-form .result) (c .read-form .ensures)
 
 returns : tie.Need-returns
@@ -57,7 +57,7 @@ returns-4 c =
     let a = c .before .before .before .before .before .before .before .before .before .before .args in
     let fault-by = c .before .before .before .fault-by in
     let number = c .before .number in
-    with-fault (a .message .now) (a .start) (a .end) (omega arith) (omega arith) (omega arith) (fault-by .result) (fault-by .ensures) (number .given .1)
+    with-fault (a .message .now) (a .start) (a .end) (omega arith) (omega arith) (omega arith) (rw (number .given .1) at (fault-by .ensures))
 
 read-form-requires : tie.Need-read-form-requires
 read-form-requires c κs =

@@ -1,6 +1,6 @@
 -- `plain::put` meets its contract. Assumes nothing.
 use mathlib.Core.Path.{refl}
-use Rattle.plain.proofs.Writes.{wrote-byte}
+use Rattle.octets.proofs.Writes.{wrote-byte}
 use borrow.Author.Needs.{needs}
 use Rattle.plain.proofs.put.Statement.{statement}
 use Rattle.plain.proofs.put.Tie as tie

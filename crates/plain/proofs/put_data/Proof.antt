@@ -7,7 +7,7 @@ use lib.ListN.{length}
 use Rattle.scanner.proofs.Meanings.{dataAt}
 use Rattle.plain.specs.PlainText.{dataText}
 use Rattle.plain.specs.declared.Role.the-variants.{Datum, Takes, Closes}
-use Rattle.plain.proofs.Writes.{Left, left-all, left-as, left-after, left-none}
+use Rattle.octets.proofs.Writes.{Left, left-all, left-as, left-after, left-none}
 use Rattle.plain.proofs.QuotedData.{dataLeft, data-step, data-end}
 use Rattle.plain.proofs.put_data.Statement.{statement}
 use Rattle.plain.proofs.put_data.Tie as tie

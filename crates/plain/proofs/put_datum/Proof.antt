@@ -1,6 +1,6 @@
 -- `plain::put_datum` meets its contract. Assumes nothing.
 use native.Mathlib.Omega.{arith}
-use Rattle.plain.proofs.Writes.{wrote-both}
+use Rattle.octets.proofs.Writes.{wrote-both}
 use borrow.Author.Needs.{needs}
 use Rattle.plain.proofs.put_datum.Statement.{statement}
 use Rattle.plain.proofs.put_datum.Tie as tie

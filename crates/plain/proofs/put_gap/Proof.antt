@@ -1,6 +1,6 @@
 -- `plain::put_gap` meets its contract. Assumes nothing.
 use native.Mathlib.Omega.{arith}
-use Rattle.plain.proofs.Writes.{wrote-nothing, wrote-both}
+use Rattle.octets.proofs.Writes.{wrote-nothing, wrote-both}
 use borrow.Author.Needs.{needs}
 use Rattle.plain.proofs.put_gap.Statement.{statement}
 use Rattle.plain.proofs.put_gap.Tie as tie

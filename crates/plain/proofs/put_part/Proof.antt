@@ -6,7 +6,8 @@ use native.Mathlib.Omega.{arith}
 use borrow.Author.Needs.{needs}
 use lib.ListN.{length}
 use Rattle.octets.specs.Text.{part}
-use Rattle.plain.proofs.Writes.{Left, left-all, left-after, left-none, part-none, part-next}
+use Rattle.octets.proofs.Parts.{part-cons, part-none}
+use Rattle.octets.proofs.Writes.{Left, left-all, left-after, left-none}
 use Rattle.plain.proofs.put_part.Statement.{statement}
 use Rattle.plain.proofs.put_part.Tie as tie
 
@@ -40,7 +41,7 @@ loop-again c =
       omega arith,
       omega (arith, c .before .before .put .ensures .1),
       c .before .before .put .kept .0 ∙ l .inv .3,
-      left-after (l .inv .4) (λ rest. ap (λ t. t ++ rest) (part-next (a .text .now) (l .i) (a .end) (omega arith) (omega arith))) (c .before .before .put .ensures .0),
+      left-after (l .inv .4) (λ rest. ap (λ t. t ++ rest) (part-cons (a .text .now) (l .i) (a .end) (omega arith) (omega arith))) (c .before .before .put .ensures .0),
     )
 
 same-length : tie.Need-same-length Inv-loop μ-loop
@@ -51,7 +52,7 @@ returns c =
     let a = c .before .before .before .before .args in
     let l = c .before .loop in
     let e : l .i ≡ a .end = omega arith in
-    (left-none (l .inv .4) (λ rest. rw (e, part-none)), omega arith)
+    (left-none (l .inv .4) (λ rest. rw (e, part-none (a .text .now) (a .end) (a .end) (omega arith))), omega arith)
 
 pub put-part-spec : {M : Type 1} → statement M
 put-part-spec =

@@ -1,6 +1,6 @@
 -- `plain::put_quoted` meets its contract. Assumes nothing.
 use native.Mathlib.Omega.{arith}
-use Rattle.plain.proofs.Writes.{wrote-three}
+use Rattle.octets.proofs.Writes.{wrote-three}
 use borrow.Author.Needs.{needs}
 use Rattle.plain.proofs.put_quoted.Statement.{statement}
 use Rattle.plain.proofs.put_quoted.Tie as tie

@@ -1,6 +1,7 @@
 -- `plain::put_symbol` meets its contract. Assumes nothing.
 use native.Mathlib.Omega.{arith}
-use Rattle.plain.proofs.Writes.{wrote-nothing, wrote-three, wrote-gap}
+use Rattle.octets.proofs.Writes.{wrote-nothing, wrote-three}
+use Rattle.plain.proofs.WalkSteps.{wrote-gap}
 use borrow.Author.Needs.{needs}
 use Rattle.plain.proofs.put_symbol.Statement.{statement}
 use Rattle.plain.proofs.put_symbol.Tie as tie

@@ -1,6 +1,6 @@
 -- `plain::write_fitting` meets its contract: the first run stores nothing. Assumes nothing.
 use Rattle.plain.specs.Walking.{writtenText}
-use Rattle.plain.proofs.Writes.{too-long, fitting}
+use Rattle.octets.proofs.Writes.{too-long, fitting}
 use borrow.Author.Needs.{needs}
 use Rattle.plain.proofs.write_fitting.Statement.{statement}
 use Rattle.plain.proofs.write_fitting.Tie as tie

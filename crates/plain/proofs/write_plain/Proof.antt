@@ -3,7 +3,7 @@ use native.Mathlib.Omega.{arith}
 use mathlib.Core.Path.{_≡_, sym}
 use lib.Seq.{length-take-le}
 use Rattle.octets.specs.Classes.{classOf, classTable}
-use Rattle.addresses.proofs.WholeLaws.{untouched}
+use Rattle.octets.proofs.Parts.{no-front}
 use Rattle.plain.proofs.PlainLaws.{SomeList, some-list, refused-promised, list-promised}
 use borrow.Author.Needs.{needs}
 use Rattle.plain.proofs.write_plain.Statement.{statement}
@@ -42,7 +42,7 @@ returns : tie.Need-returns
 returns c =
     let a = c .before .before .before .before .before .before .before .before .before .args in
     let r = c .before .before .before .before .before .read-addresses in
-    let u = untouched (r .last .1 .1 .1 .0) (a .text .now) (r .kept .1 .1 .1 .0) in
+    let u = no-front (r .last .1 .1 .1 .0) (a .text .now) (r .kept .1 .1 .1 .0) in
     rw u (refused-promised (a .message .now) (a .start) (a .end) (a .text .now) _ _ _ (rw (c .before .number .given .1) at (r .ensures .0 .0)))
 
 same-length-2 : tie.Need-same-length-2
@@ -53,7 +53,7 @@ unfolding classTable classOf
 returns-2 c =
     let a = c .before .before .before .before .before .before .before .before .before .before .before .before .before .args in
     let r = c .before .before .before .before .before .before .before .before .before .read-addresses in
-    let u = untouched (r .last .1 .1 .1 .0) (a .text .now) (r .kept .1 .1 .1 .0) in
+    let u = no-front (r .last .1 .1 .1 .0) (a .text .now) (r .kept .1 .1 .1 .0) in
     let s = some-list (a .message .now) (a .start) (a .end) _ (r .result) (r .ensures .0 .0) (c .before .before .before .before .before .before .match .keys2) in
     list-promised (a .message .now) (a .start) (a .end) (a .text .now) s _ _ (rw u at (c .before .before .write-fitting .ensures))
 

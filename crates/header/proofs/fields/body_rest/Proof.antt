@@ -19,52 +19,55 @@ abbrev μ-loop : tie.MeasureT-loop
 loop-holds : tie.Need-loop-holds Inv-loop μ-loop
 loop-holds c = (omega arith, refl)
 
-shared-slice-read-if1 : tie.Need-shared-slice-read-if1 Inv-loop μ-loop
-shared-slice-read-if1 c = omega arith
+past-plain-requires : tie.Need-past-plain-requires Inv-loop μ-loop
+past-plain-requires c κs = c .loop .inv .0
 
 returns : tie.Need-returns Inv-loop μ-loop
 unfolding firstOf
 returns c =
-    let l = c .before .before .before .loop in
-    let a = c .before .before .before .before .before .args in
-    sym (ap firstOf (l .inv .1 ∙ body-fault (a .message .now) (l .at) (omega arith) (a .name-start) (a .name-end) (a .body-start) (omega arith)))
+    let a = c .before .before .before .before .args in
+    let l = c .before .before .loop in
+    let p = c .before .past-plain in
+    let here = l .inv .1 ∙ p .ensures .same (a .name-start) (a .name-end) (a .body-start) in
+    sym (ap firstOf (here ∙ ends (a .message .now) (p .result) (inBody (a .name-start) (a .name-end) (a .body-start)) (omega (arith, p .ensures .within))))
 
-ends-body-requires : tie.Need-ends-body-requires Inv-loop μ-loop
-ends-body-requires c κs = omega arith
+shared-slice-read-if2 : tie.Need-shared-slice-read-if2 Inv-loop μ-loop
+shared-slice-read-if2 c = omega arith
 
 returns-2 : tie.Need-returns-2 Inv-loop μ-loop
 unfolding firstOf
 returns-2 c =
-    let l = c .before .before .before .before .before .loop in
-    let a = c .before .before .before .before .before .before .before .args in
-    sym
-    (ap firstOf
-    (l .inv .1
-    ∙ body-ends (a .message .now) (l .at) (omega arith) (a .name-start) (a .name-end) (a .body-start) (omega arith)
-    (sym (c .before .ends-body .ensures) ∙ c .if2 .taken)))
+    let a = c .before .before .before .before .before .before .args in
+    let l = c .before .before .before .before .loop in
+    let p = c .before .before .before .past-plain in
+    let here = l .inv .1 ∙ p .ensures .same (a .name-start) (a .name-end) (a .body-start) in
+    sym (ap firstOf (here ∙ body-fault (a .message .now) (p .result) (omega arith) (a .name-start) (a .name-end) (a .body-start) (omega arith)))
+
+ends-body-requires : tie.Need-ends-body-requires Inv-loop μ-loop
+ends-body-requires c κs = omega arith
+
+returns-3 : tie.Need-returns-3 Inv-loop μ-loop
+unfolding firstOf
+returns-3 c =
+    let a = c .before .before .before .before .before .before .before .before .args in
+    let l = c .before .before .before .before .before .before .loop in
+    let p = c .before .before .before .before .before .past-plain in
+    let here = l .inv .1 ∙ p .ensures .same (a .name-start) (a .name-end) (a .body-start) in
+    sym (ap firstOf (here ∙ body-ends (a .message .now) (p .result) (omega arith) (a .name-start) (a .name-end) (a .body-start) (omega arith) (sym (c .before .ends-body .ensures) ∙ c .if3 .taken)))
 
 add-at : tie.Need-add-at Inv-loop μ-loop
 add-at c = omega arith
 
 loop-less : tie.Need-loop-less Inv-loop μ-loop
-loop-less c = omega arith
+loop-less c = let p = c .before .before .before .before .before .past-plain in omega (arith, p .ensures .from)
 
 loop-again : tie.Need-loop-again Inv-loop μ-loop
 loop-again c =
-    let l = c .before .before .before .before .before .loop in
-    let a = c .before .before .before .before .before .before .before .args in (
-      omega arith,
-      l .inv .1
-          ∙ body-goes (a .message .now) (l .at) (omega arith) (a .name-start) (a .name-end) (a .body-start) (omega arith)
-          (sym (c .before .ends-body .ensures) ∙ c .if2 .left),
-    )
-
-returns-3 : tie.Need-returns-3 Inv-loop μ-loop
-unfolding firstOf
-returns-3 c =
-    let l = c .before .loop in
-    let a = c .before .before .before .args in
-    sym (ap firstOf (l .inv .1 ∙ ends (a .message .now) (l .at) (inBody (a .name-start) (a .name-end) (a .body-start)) (omega arith)))
+    let a = c .before .before .before .before .before .before .before .before .args in
+    let l = c .before .before .before .before .before .before .loop in
+    let p = c .before .before .before .before .before .past-plain in
+    let here = l .inv .1 ∙ p .ensures .same (a .name-start) (a .name-end) (a .body-start) in
+    (omega arith, here ∙ body-goes (a .message .now) (p .result) (omega arith) (a .name-start) (a .name-end) (a .body-start) (omega arith) (sym (c .before .ends-body .ensures) ∙ c .if3 .left))
 
 pub body-rest-spec : {M : Type 1} → statement M
 body-rest-spec =
@@ -73,11 +76,12 @@ body-rest-spec =
     Inv-loop
     μ-loop
     loop-holds
-    shared-slice-read-if1
+    past-plain-requires
     returns
-    ends-body-requires
+    shared-slice-read-if2
     returns-2
+    ends-body-requires
+    returns-3
     add-at
     loop-less
-    loop-again
-    returns-3)
+    loop-again)

@@ -2,7 +2,8 @@
 use borrow.Author.Needs.{needs}
 use native.Mathlib.Omega.{arith}
 use mathlib.Core.Path.{sym, _∙_}
-use Rattle.header.proofs.SplitLaws.{no-front, too-long, refused, no-room, accepted}
+use Rattle.octets.proofs.Parts.{no-front}
+use Rattle.header.proofs.SplitLaws.{too-long, refused, no-room, accepted}
 use Rattle.header.proofs.fields.split.Statement.{statement}
 use Rattle.header.proofs.fields.split.Tie as tie
 

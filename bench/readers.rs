@@ -1,0 +1,148 @@
+// The readers, each as a function that works on a desk and tells what it found.
+use crate::inputs::{Input, Work};
+use crate::reader;
+
+// A fresh copy of an input, with a NUL behind it, and a table to write into.
+pub struct Desk {
+    pub text: Vec<u8>,
+    pub length: usize,
+    pub table: Vec<u8>,
+}
+
+// Room for as many records as a message can have, and for its plain text.
+const TABLE: usize = 12 * 16_384;
+
+impl Desk {
+    pub fn new() -> Desk {
+        Desk { text: vec![], length: 0, table: vec![0; TABLE] }
+    }
+
+    pub fn lay(&mut self, text: &[u8]) {
+        self.text.clear();
+        self.text.extend_from_slice(text);
+        self.text.push(0);
+        self.length = text.len();
+    }
+}
+
+pub type Read = fn(&mut Desk) -> usize;
+
+pub const PROVED: &str = "proved";
+pub const INDEPENDENT: &str = "independent";
+// c-client holds back alarms at each allocation and release by a system call; here it is told not to.
+pub const NO_ALARMS: &str = "c-client, no alarms";
+
+mod rfc733 {
+    extern "C" {
+        pub fn rfc733_split(m: *const u8, n: usize, table: *mut u8, room: usize, told: *mut u64, three: usize);
+        pub fn rfc733_addresses(m: *const u8, n: usize, start: usize, end: usize, table: *mut u8, room: usize, told: *mut u64, three: usize);
+        pub fn rfc733_date(m: *const u8, n: usize, start: usize, end: usize, told: *mut u64, three: usize, value: *mut i64);
+        pub fn rfc733_plain(m: *const u8, n: usize, start: usize, end: usize, text: *mut u8, room: usize, told: *mut u64, three: usize);
+    }
+}
+
+fn proved_addresses(desk: &mut Desk) -> usize {
+    let (n, room, mut told) = (desk.length, desk.table.len(), [0u64; 3]);
+    unsafe { rfc733::rfc733_addresses(desk.text.as_ptr(), n, 0, n, desk.table.as_mut_ptr(), room, told.as_mut_ptr(), 3) };
+    told[2] as usize
+}
+
+fn proved_plain(desk: &mut Desk) -> usize {
+    let (n, room, mut told) = (desk.length, desk.table.len(), [0u64; 3]);
+    unsafe { rfc733::rfc733_plain(desk.text.as_ptr(), n, 0, n, desk.table.as_mut_ptr(), room, told.as_mut_ptr(), 3) };
+    told[2] as usize
+}
+
+fn proved_split(desk: &mut Desk) -> usize {
+    let (n, room, mut told) = (desk.length, desk.table.len(), [0u64; 3]);
+    unsafe { rfc733::rfc733_split(desk.text.as_ptr(), n, desk.table.as_mut_ptr(), room, told.as_mut_ptr(), 3) };
+    told[2] as usize
+}
+
+fn proved_date(desk: &mut Desk) -> usize {
+    let (n, mut told, mut value) = (desk.length, [0u64; 3], 0i64);
+    unsafe { rfc733::rfc733_date(desk.text.as_ptr(), n, 0, n, told.as_mut_ptr(), 3, &mut value) };
+    value as usize
+}
+
+fn independent_addresses(desk: &mut Desk) -> usize {
+    reader::addresses(&desk.text[..desk.length], 0, desk.length, &mut desk.table).count as usize
+}
+
+fn independent_plain(desk: &mut Desk) -> usize {
+    reader::plain(&desk.text[..desk.length], 0, desk.length, &mut desk.table).count as usize
+}
+
+fn independent_split(desk: &mut Desk) -> usize {
+    reader::split(&desk.text[..desk.length], &mut desk.table).count as usize
+}
+
+fn independent_date(desk: &mut Desk) -> usize {
+    reader::date(&desk.text[..desk.length], 0, desk.length).1 as usize
+}
+
+// A C library's function that counts the addresses of a list with a NUL behind it.
+#[allow(unused_macros)]
+macro_rules! library {
+    ($wrapper:ident, $function:ident) => {
+        fn $wrapper(desk: &mut Desk) -> usize {
+            extern "C" {
+                fn $function(list: *mut u8, length: usize) -> usize;
+            }
+            unsafe { $function(desk.text.as_mut_ptr(), desk.length) }
+        }
+    };
+}
+
+#[cfg(gmime)]
+library!(gmime, gmime_addresses);
+#[cfg(etpan)]
+library!(etpan, etpan_addresses);
+#[cfg(cclient)]
+library!(cclient, cclient_addresses);
+#[cfg(cclient)]
+library!(cclient_quiet, cclient_quiet_addresses);
+
+// What a library does once, before anything is measured.
+pub fn begin() {
+    #[cfg(gmime)]
+    {
+        extern "C" {
+            fn gmime_begin();
+        }
+        unsafe { gmime_begin() };
+    }
+}
+
+// The C libraries that are here.
+#[allow(unused_mut)]
+fn libraries() -> Vec<(&'static str, Read)> {
+    let mut here: Vec<(&'static str, Read)> = vec![];
+    #[cfg(gmime)]
+    here.push(("GMime", gmime));
+    #[cfg(etpan)]
+    here.push(("libetpan", etpan));
+    #[cfg(cclient)]
+    here.extend([("c-client", cclient as Read), (NO_ALARMS, cclient_quiet)]);
+    here
+}
+
+// The proved and the independent function for a work.
+fn pair(work: Work) -> [(&'static str, Read); 2] {
+    let (proved, independent): (Read, Read) = match work {
+        Work::Common(_) | Work::List => (proved_addresses, independent_addresses),
+        Work::Plain => (proved_plain, independent_plain),
+        Work::Split => (proved_split, independent_split),
+        Work::Date => (proved_date, independent_date),
+    };
+    [(PROVED, proved), (INDEPENDENT, independent)]
+}
+
+// The readers of an input, and what each is to find.
+pub fn readers(input: &Input) -> Vec<(&'static str, Read, usize)> {
+    let mut all: Vec<_> = pair(input.work).iter().map(|(name, read)| (*name, *read, input.found)).collect();
+    if matches!(input.work, Work::Common(_)) {
+        all.extend(libraries().iter().map(|(name, read)| (*name, *read, input.addresses)));
+    }
+    all
+}

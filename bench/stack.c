@@ -1,0 +1,124 @@
+/* The stack that each function of the library touches on its worst inputs, as a table.
+ *
+ * Each call runs in a thread whose stack is painted with one byte; where the paint is gone, the stack was touched.
+ * Counted is what lies below the caller's frame. */
+#include <pthread.h>
+#include <stdio.h>
+#include <stdlib.h>
+#include <string.h>
+
+#include "rfc733.h"
+
+enum { STACK = 1 << 20, LIMIT = 32768, PAINT = 0xA5, FUNCTIONS = 7 };
+
+static _Alignas(4096) uint8_t stack[STACK];
+static uint8_t message[LIMIT], table[12 * LIMIT];
+static size_t length;
+static uint64_t told[3];
+static const uint8_t nothing[1];
+
+/* An input: three texts, each so many times, and the answer's number of one function, by document 01. */
+struct worst {
+    const char *name, *front, *middle, *back;
+    size_t fronts, middles, backs;
+    int function;
+    unsigned number;
+};
+
+enum { SPLIT, NAME, SCAN, ADDRESSES, PLAIN, DATE, REPLY };
+
+static const struct worst inputs[] = {
+    {"empty", "", "", "", 0, 0, 0, ADDRESSES, 0},
+    {"64 levels of `<`", "<", "", ">", 64, 0, 64, ADDRESSES, 0},
+    {"64 levels of `a:`", "a:", "", ";", 64, 0, 64, ADDRESSES, 0},
+    {"64 levels of `:`", ":", "", ";", 64, 0, 64, ADDRESSES, 0},
+    {"64 levels of `:a:`", ":a:", "x at y", "", 64, 1, 0, ADDRESSES, 0},
+    {"65 levels of `:a:`", ":a:", "x at y", "", 65, 1, 0, ADDRESSES, 10},
+    {"`<`", "<", "", "", LIMIT, 0, 0, ADDRESSES, 10},
+    {"`(`", "(", "", "", LIMIT, 0, 0, ADDRESSES, 6},
+    {"`\"\",`", "\"\",", "", "", LIMIT / 3, 0, 0, ADDRESSES, 0},
+    {"`,`", ",", "", "", LIMIT, 0, 0, ADDRESSES, 0},
+    {"long list at level 64 of `<`", "<", "a@b,", ">", 64, 8160, 64, ADDRESSES, 0},
+    {"long list at level 64 of `a:`", "a:", "a@b,", ";", 64, 8144, 64, ADDRESSES, 0},
+    {"every word at level 64 of `:`", ":", "\"a\"(b)at\"c\"at d,", ";", 64, 1900, 64, ADDRESSES, 0},
+    {"long phrase", "a ", "at b", "", 16382, 1, 0, ADDRESSES, 0},
+    {"many nodes", "a", "@a", "", 1, 16383, 0, ADDRESSES, 0},
+    {"long quoted-string", "\"", "\\\"", "\"", 1, 16383, 1, ADDRESSES, 0},
+    {"header of one field", "A:", "x", "\r\n", 1, LIMIT - 4, 1, SPLIT, 0},
+    {"header of many fields", "a:\r\n", "", "", LIMIT / 4, 0, 0, SPLIT, 0},
+    {"long date", " ", "1 Jan 1900 0000 Z", "", LIMIT - 17, 1, 0, DATE, 0},
+    {"many parts of a date", "1 ", "", "", LIMIT / 2, 0, 0, DATE, 12},
+};
+
+static void put(const char *text, size_t times) {
+    size_t size = strlen(text);
+    for (; times > 0; times--, length += size) memcpy(message + length, text, size);
+}
+
+static void run_split(void) { rfc733_split(message, length, table, sizeof table, told, 3); }
+static void run_name(void) { rfc733_known_name(message, length); }
+static void run_scan(void) { rfc733_scan(message, length, 0, length, told, 3); }
+static void run_addresses(void) { rfc733_addresses(message, length, 0, length, table, sizeof table, told, 3); }
+static void run_plain(void) { rfc733_plain(message, length, 0, length, table, sizeof table, told, 3); }
+static void run_reply(void) { rfc733_reply(message, length, nothing, 0); }
+static void run_date(void) {
+    static int64_t seconds;
+    rfc733_date(message, length, 0, length, told, 3, &seconds);
+}
+
+static void (*const functions[FUNCTIONS])(void) = {run_split, run_name, run_scan, run_addresses,
+                                                   run_plain, run_date, run_reply};
+static const uint8_t *caller;
+
+static void *call(void *function) {
+    caller = __builtin_frame_address(0);
+    (*(void (*const *)(void))function)();
+    return NULL;
+}
+
+/* The bytes below the caller's frame that a call touched. */
+static size_t touched(int function) {
+    pthread_attr_t attributes;
+    pthread_t thread;
+    size_t low = 0;
+    memset(stack, PAINT, sizeof stack);
+    if (pthread_attr_init(&attributes) != 0 || pthread_attr_setstack(&attributes, stack, sizeof stack) != 0 ||
+        pthread_create(&thread, &attributes, call, (void *)&functions[function]) != 0 ||
+        pthread_join(thread, NULL) != 0) {
+        perror("thread");
+        exit(2);
+    }
+    pthread_attr_destroy(&attributes);
+    while (stack[low] == PAINT) low++;
+    return (size_t)(caller - (stack + low));
+}
+
+static size_t most[FUNCTIONS];
+
+static void show(const struct worst *one) {
+    length = 0;
+    put(one->front, one->fronts);
+    put(one->middle, one->middles);
+    put(one->back, one->backs);
+    printf("| %s | %zu |", one->name, length);
+    for (int i = 0; i < FUNCTIONS; i++) {
+        size_t bytes = touched(i);
+        if (i == one->function && told[0] != one->number) {
+            fprintf(stderr, "%s: answer %u, wanted %u\n", one->name, (unsigned)told[0], one->number);
+            exit(1);
+        }
+        if (bytes > most[i]) most[i] = bytes;
+        printf(" %zu |", bytes);
+    }
+    puts("");
+}
+
+int main(void) {
+    puts("| input | bytes | split | known_name | scan | addresses | plain | date | reply |");
+    puts("|---|--:|--:|--:|--:|--:|--:|--:|--:|");
+    for (size_t i = 0; i < sizeof inputs / sizeof *inputs; i++) show(&inputs[i]);
+    printf("| most | |");
+    for (int i = 0; i < FUNCTIONS; i++) printf(" %zu |", most[i]);
+    puts("");
+    return 0;
+}

@@ -1,0 +1,95 @@
+-- The records of a list in a body, read back from a table, and what an accepted answer says of it. Assumes nothing.
+use mathlib.Core.Path.{_≡_, refl, ap, _∙_}
+use mathlib.Core.Bool.{Bool, true, false}
+use mathlib.Core.List.{List, [], _∷_, _++_}
+use Prim.Native.Nat.{ℕ, _+_, _*_, _/_, _≤_, _<_}
+use native.Mathlib.Omega.{arith}
+use borrow.Author.Tests.{ltb-false}
+use lib.Dec.{ltb}
+use lib.ListN.{length, getD}
+use lib.Seq.{sets}
+use Rattle.octets.specs.Numbers.{messageLimit, addressRecordSize}
+use Rattle.octets.specs.Stored.{numberFrom, numberAt, roomFor}
+use Rattle.octets.specs.declared.answers.Answer.the-variants.{Accepted, NoRoom}
+use Rattle.octets.proofs.RecordsBack.{joined, record-back, number-back}
+use Rattle.grammar.specs.Records.{AddressRecord, count, records, recordBytes, tableBytes}
+use Rattle.grammar.specs.Rfc733.{Derivation}
+use Rattle.grammar.proofs.Order.{Lies, lies-at}
+use Rattle.grammar.proofs.Records.{length-records, length-recordBytes, parent-smaller}
+use Rattle.grammar.proofs.TreeRecords.{recordBy}
+use Rattle.addresses.specs.Outcome.{Outcome, derived, outcome}
+use Rattle.addresses.proofs.BodyRecords.{records-half, records-in-order}
+use Rattle.addresses.proofs.Judgements.{ListBody, Judged, refusedAt, listed, listed-outcome, judged}
+
+-- the record of an address stands at a place of a table
+pub record Stands (table : List ℕ) (place : ℕ) (r : AddressRecord) : Type 0 where
+  pub kind : numberAt 1 table place ≡ r .kind
+  pub depth : numberAt 1 table (place + 1) ≡ r .depth
+  pub parent : numberAt 2 table (place + 2) ≡ r .parent
+  pub start : numberAt 2 table (place + 4) ≡ r .start
+  pub end : numberAt 2 table (place + 6) ≡ r .end
+  pub name-start : numberAt 2 table (place + 8) ≡ r .nameStart
+  pub name-end : numberAt 2 table (place + 10) ≡ r .nameEnd
+
+-- what `getD` gives past the records
+abbrev pub noRecord : AddressRecord
+noRecord = recordBy 0 0 0 0 0 0 0
+
+-- the bytes of a table of records are joined
+table-joined : (rs : List AddressRecord) → tableBytes rs ≡ joined recordBytes rs
+table-joined [] = refl
+table-joined (r ∷ rs) = ap (λ (bytes : List ℕ). recordBytes r ++ bytes) (table-joined rs)
+
+-- the record of each address stands at its place
+pub records-stand : {message : List ℕ} {start end : ℕ} {k : Derivation} → ListBody message start end k → (table : List ℕ) → count k * addressRecordSize ≤ length table
+    → (i : ℕ) → i < count k → Stands (sets table 0 (tableBytes (records k))) (i * addressRecordSize) (getD (records k) i noRecord)
+records-stand {message} {start} {end} {k} b table fits i l =
+    let n : length (records k) ≡ count k = length-records k in
+    let small : end ≤ messageLimit = omega (arith, b .inside, b .short) in
+    let half : start + 2 * count k ≤ end = records-half b in
+    let before : getD (records k) i noRecord .parent ≤ i = parent-smaller k i noRecord (omega arith) in
+    let lies : Lies start end (getD (records k) i noRecord) = lies-at start end (records k) i noRecord (records-in-order b) (omega arith) in
+    let byte = record-back addressRecordSize recordBytes length-recordBytes noRecord (records k) table (omega arith) i (omega arith) 1 in
+    let two = number-back addressRecordSize recordBytes length-recordBytes noRecord (records k) table (omega arith) i (omega arith) 2 in
+    let e : i * addressRecordSize + 0 ≡ i * addressRecordSize = omega arith in
+    rw (table-joined (records k))
+    (record {
+      kind = ap (numberFrom 0) (rw e at (byte 0 (omega arith))) ∙ omega arith;
+      depth = ap (numberFrom 0) (byte 1 (omega arith)) ∙ omega arith;
+      parent = two 2 _ (omega arith) refl (omega arith);
+      start = two 4 _ (omega arith) refl (omega arith);
+      end = two 6 _ (omega arith) refl (omega arith);
+      name-start = two 8 _ (omega arith) refl (omega arith);
+      name-end = two 10 _ (omega arith) refl (omega arith);
+    })
+
+-- ---- an accepted body
+
+-- it is a list, the answer counts its records, and they fit and are written
+abbrev pub AcceptedList : List ℕ → ℕ → ℕ → List ℕ → ℕ → Type 0
+AcceptedList message start end table n =
+    (k : Derivation) × ListBody message start end k × (n ≡ count k) × (n ≤ length table / addressRecordSize)
+    × (outcome message start end table .table ≡ sets table 0 (tableBytes (records k)))
+
+module _ (message : List ℕ) (start end : ℕ) (table : List ℕ) (n : ℕ) (e : outcome message start end table .answer ≡ Accepted n) where
+  by-room : (k : Derivation) → ListBody message start end k → (test : Bool) → ltb (roomFor addressRecordSize table) (count k) ≡ test → AcceptedList message start end table n
+  by-room k b true t =
+      let f : outcome message start end table .answer ≡ NoRoom (count k) = ap (λ (o : Outcome). o .answer) (listed-outcome b derived table) ∙ rw t in
+      absurd (let z : _≡_ {A = ℕ} 0 1 = cc in omega arith)
+  by-room k b false t =
+      let f : outcome message start end table .answer ≡ Accepted (count k) = ap (λ (o : Outcome). o .answer) (listed-outcome b derived table) ∙ rw t in
+      let g : outcome message start end table .table ≡ sets table 0 (tableBytes (records k)) = ap (λ (o : Outcome). o .table) (listed-outcome b derived table) ∙ rw t in
+      let c : n ≡ count k = cc in
+      (k, b, c, omega (arith, ltb-false (roomFor addressRecordSize table) (count k) t), g)
+
+  by-judgement : Judged message start end → AcceptedList message start end table n
+  by-judgement (refusedAt m p f) =
+      let g = ap (λ (o : Outcome). o .answer) (f derived table) in
+      absurd (let z : _≡_ {A = ℕ} 0 1 = cc in omega arith)
+  by-judgement (listed k b) = by-room k b _ refl
+
+  pub accepted-list : AcceptedList message start end table n
+  accepted-list = by-judgement (judged message start end)
+
+  pub accepted-fits : n ≤ length table / addressRecordSize
+  accepted-fits = let (k, b, c, fits, w) = accepted-list in fits

@@ -1,0 +1,117 @@
+-- What is printed of a body, from what the readers answer. Assumes nothing.
+use mathlib.Core.Path.{_≡_, refl, sym, ap, subst, _∙_}
+use mathlib.Core.Bool.{Bool, true, false}
+use mathlib.Core.List.{List, [], _∷_, _++_}
+use Prim.Native.Nat.{ℕ, _+_, _*_, _/_, _≤_, _<_}
+use native.Mathlib.Omega.{arith}
+use borrow.Author.Tests.{ltb-false}
+use denote.Enum.Declared.{tagOf}
+use types.Run.{OneOf, miss}
+use lib.Dec.{ltb}
+use lib.ListN.{length, getD}
+use lib.Seq.{sets}
+use lib.IntN.{ℤ}
+use Rattle.octets.specs.Numbers.{addressRecordSize, tooLittleRoom}
+use Rattle.octets.specs.Octets.{lineFeedByte}
+use Rattle.octets.specs.Text.{bytes}
+use Rattle.octets.specs.Writing.{WroteBy}
+use Rattle.octets.proofs.Writes.{wrote-as, wrote-three}
+use Rattle.octets.specs.declared.answers.Answer.{Answer}
+use Rattle.octets.specs.declared.answers.Answer.the-variants.{Accepted, Refused, NoRoom}
+use Rattle.header.specs.Names.{holdsAddresses}
+use Rattle.header.specs.declared.names.Known.{Known}
+use Rattle.header.specs.declared.names.Known.the-variants as known
+use Rattle.header.proofs.names.Known.{the-type}
+use Rattle.grammar.specs.Records.{AddressRecord, count, records, tableBytes}
+use Rattle.grammar.specs.Rfc733.{Derivation}
+use Rattle.grammar.proofs.Records.{length-records}
+use Rattle.addresses.specs.Outcome.{Outcome, derived, outcomeBy, outcome}
+use Rattle.addresses.proofs.Judgements.{ListBody, Judged, refusedAt, listed as list-body, listed-outcome, judged}
+use Rattle.addresses.proofs.RecordsRead.{Stands, noRecord, records-stand}
+use Rattle.dates.specs.declared.DateAnswer.{DateAnswer}
+use Rattle.dates.specs.declared.DateAnswer.the-variants as date
+use Rattle.listing.specs.Lines.{signed, addressLine, refusedLine}
+use Rattle.listing.specs.Listing.{tableRecords, each, listed, unlessRefused, addressBody, dateText, otherBody, body}
+use Rattle.listing.specs.Putting.{tabulate, addressIn}
+use Rattle.listing.proofs.TableLaws.{tabulated}
+
+-- a record that stands in a table is the one in it
+address-is : (table : List ℕ) (i : ℕ) (r : AddressRecord) → Stands table (i * addressRecordSize) r → addressIn table i ≡ r
+address-is table i r s =
+    let at = i * addressRecordSize in
+    let six : at + 4 + 2 ≡ at + 6 = omega arith in
+    let eight : at + 4 + 4 ≡ at + 8 = omega arith in
+    let ten : at + 4 + 6 ≡ at + 10 = omega arith in
+    rw (six, eight, ten, s .kind, s .depth, s .parent, s .start, s .end, s .name-start, s .name-end)
+
+module _ (message : List ℕ) (start end : ℕ) (table : List ℕ) (size : 24576 ≡ length table) where
+  -- what the reader's answer says of what is printed
+  abbrev pub Printed : Answer → List ℕ → Type 0
+  Printed (Accepted many) after =
+      (many ≤ tableRecords) × ((rest : List ℕ) → each addressLine (tabulate (addressIn after) many 0) rest ≡ addressBody message start end rest)
+  Printed (Refused number position) after = (rest : List ℕ) → refusedLine number position rest ≡ addressBody message start end rest
+  Printed (NoRoom needed) after = (rest : List ℕ) → refusedLine tooLittleRoom 0 rest ≡ addressBody message start end rest
+
+  abbrev PrintedOf : Outcome → Type 0
+  PrintedOf o = Printed (o .answer) (o .table)
+
+  abbrev text-of : Outcome → List ℕ
+  text-of o = unlessRefused (o .answer) (o .table)
+
+  room-is : length table / addressRecordSize ≡ tableRecords
+  room-is = rw (← size)
+
+  -- the records in the table are those of the list
+  records-in : (k : Derivation) → ListBody message start end k → count k ≤ tableRecords → tabulate (addressIn (sets table 0 (tableBytes (records k)))) (count k) 0 ≡ records k
+  records-in k b h =
+      let n : count k ≡ length (records k) = sym (length-records k) in
+      ap (λ m. tabulate (addressIn (sets table 0 (tableBytes (records k)))) m 0) n
+      ∙ tabulated (addressIn (sets table 0 (tableBytes (records k)))) (records k) noRecord 0
+      (λ i l. let z : 0 + i ≡ i = omega arith in rw z (address-is _ i _ (records-stand b table (omega (arith, size)) i (omega arith))))
+
+  -- what is printed of a list
+  of-list : (k : Derivation) → ListBody message start end k → (rest : List ℕ) (o : Outcome) → listed rest k ≡ o → text-of o ≡ addressBody message start end rest
+  of-list k b rest o e = ap text-of (sym (listed-outcome b listed rest ∙ e))
+
+  in-room : (k : Derivation) → ListBody message start end k → (t : Bool) → ltb tableRecords (count k) ≡ t → PrintedOf (derived table k)
+  in-room k b true e =
+      let d : derived table k ≡ record { answer = NoRoom (count k); table = table } = rw (room-is, e) in
+      subst (λ (o : Outcome). PrintedOf o) (sym d) (λ rest. of-list k b rest (record { answer = NoRoom (count k); table = rest }) (rw e))
+  in-room k b false e =
+      let d : derived table k ≡ record { answer = Accepted (count k); table = sets table 0 (tableBytes (records k)) } = rw (room-is, e) in
+      let few : count k ≤ tableRecords = ltb-false tableRecords (count k) e in
+      subst (λ (o : Outcome). PrintedOf o) (sym d)
+      (few, λ rest. ap (λ l. each addressLine l rest) (records-in k b few) ∙ of-list k b rest (record { answer = Accepted (count k); table = each addressLine (records k) rest }) (rw e))
+
+  by-case : Judged message start end → PrintedOf (outcome message start end table)
+  by-case (refusedAt n p f) = subst (λ (o : Outcome). PrintedOf o) (sym (f derived table)) (λ rest. ap text-of (sym (f listed rest)))
+  by-case (list-body k b) = subst (λ (o : Outcome). PrintedOf o) (sym (listed-outcome b derived table)) (in-room k b _ refl)
+
+  pub printed : {r : Answer} {after : List ℕ} → r ≡ outcome message start end table .answer → after ≡ outcome message start end table .table → Printed r after
+  printed e f = rw (e, f) (by-case (judged message start end))
+
+-- a date, and a body that is none
+pub accepted-date : {store : List ℕ → ℕ → List ℕ → List ℕ} (s : ℤ) {r : DateAnswer} {o p q z : List ℕ} {n a b c : ℕ} → r ≡ date.Accepted s
+    → WroteBy store (λ rest. bytes "date " ++ rest) o n p a → WroteBy store (signed s) p a q b → WroteBy store (λ rest. lineFeedByte ∷ rest) q b z c → WroteBy store (dateText r) o n z c
+accepted-date s e w x y = rw e (wrote-three {f = λ rest. bytes "date " ++ rest} {g = signed s} {h = λ rest. lineFeedByte ∷ rest} w x y)
+
+pub refused-date : {store : List ℕ → ℕ → List ℕ → List ℕ} {r : DateAnswer} {number position : ℕ} {o p : List ℕ} {n a : ℕ} → r ≡ date.Refused number position → WroteBy store (refusedLine number position) o n p a → WroteBy store (dateText r) o n p a
+refused-date e w = rw e w
+
+-- the lines of a body, by what its name holds
+module _ (k : Known) (message : List ℕ) (start end : ℕ) {store : List ℕ → ℕ → List ℕ → List ℕ} {o p : List ℕ} {n a : ℕ} where
+  pub address-name : holdsAddresses k ≡ true → WroteBy store (addressBody message start end) o n p a → WroteBy store (body k message start end) o n p a
+  address-name e w = wrote-as (λ rest. sym (rw e)) w
+
+  pub no-address-name : holdsAddresses k ≡ false → WroteBy store (otherBody k message start end) o n p a → WroteBy store (body k message start end) o n p a
+  no-address-name e w = wrote-as (λ rest. sym (rw e)) w
+
+-- a name that is neither a date's nor an address list's gives no line
+pub other-name : (k : Known) (message : List ℕ) (start end : ℕ) (rest : List ℕ) → OneOf (1 ∷ 2 ∷ 3 ∷ 4 ∷ 5 ∷ 6 ∷ []) (tagOf the-type k) → otherBody k message start end rest ≡ rest
+other-name known.Date message start end rest o = absurd (miss (1 ∷ 2 ∷ 3 ∷ 4 ∷ 5 ∷ 6 ∷ []) 0 tt o)
+other-name known.From message start end rest o = refl
+other-name known.ReplyTo message start end rest o = refl
+other-name known.To message start end rest o = refl
+other-name known.Cc message start end rest o = refl
+other-name known.Bcc message start end rest o = refl
+other-name known.Other message start end rest o = refl

@@ -1,0 +1,52 @@
+-- Document 01's own input and its two lines, and others worked out by hand, in one table with one statement. Assumes nothing.
+use mathlib.Core.Path.{_≡_, refl}
+use mathlib.Core.List.{List, [], _∷_, _++_}
+use Prim.Native.Nat.{ℕ}
+use Prim.Native.String.{String}
+use Rattle.octets.specs.Classes.{classOf, classTable}
+use Rattle.octets.specs.Letters.{lower, same}
+use Rattle.octets.specs.Octets.{returnByte, lineFeedByte}
+use Rattle.octets.specs.Text.{bytes}
+use Rattle.scanner.specs.Characters.{charactersFrom}
+use Rattle.scanner.specs.Kinds.{kindOf}
+use Rattle.scanner.specs.Scanning.{scanFrom, symbolsOf}
+use Rattle.scanner.specs.Answers.{unlessFault}
+use Rattle.header.specs.Fields.{nameHolds, nameStartsWith, crlf, endsBody, atLineStart, atName, atBody, headerFrom}
+use Rattle.header.specs.Names.{knownNames, knownIn}
+use Rattle.header.specs.Split.{answerIn, answerFor}
+use Rattle.dates.specs.Names.{called, place}
+use Rattle.dates.specs.Parts.{isMark, isRun, keyOf, runs, parts}
+use Rattle.dates.specs.Grammar.{number, offsetOf}
+use Rattle.dates.specs.Calendar.{leap, monthLength, daysBeforeMonth, daysOfYears, dayNumber}
+use Rattle.dates.specs.Form.{firstKey, firstBytes, after, done, digitsOf as digitsPart, named, secondAfter, minuteAfter, hourOf, zoneNamed, zoneOf, hourAfter, pastDash, yearAfter, monthAfter, dayAfter, readingOf}
+use Rattle.dates.specs.Answers.{dayExists, timeExists, nameTrue, momentOf, dateAnswer}
+use Rattle.listing.specs.Lines.{digitsOf, signed, spaced}
+use Rattle.listing.specs.Listing.{each, fieldText, listing}
+
+-- lines of a message, each ended by CRLF, and the lines printed for it, each ended by LF
+pub record Row : Type 0 where
+  pub message : List String
+  pub printed : List String
+
+-- texts, each with these bytes behind it
+abbrev pub ended : List ℕ → List String → List ℕ
+ended end [] = []
+ended end (line ∷ lines) = bytes line ++ (end ++ ended end lines)
+
+abbrev pub rows : List Row
+rows =
+    record { message = "To: Al at X" ∷ []; printed = "field 0 2 3 11" ∷ "address 1 0 0 4 11 4 6" ∷ [] }
+    ∷ record { message = "Date: 1 Jan 1900 0000 +0100" ∷ []; printed = "field 0 4 5 27" ∷ "date -3600" ∷ [] }
+    ∷ record { message = "To: x" ∷ "cc :" ∷ []; printed = "field 0 2 3 5" ∷ "refused 9 5" ∷ "field 7 9 11 11" ∷ [] }
+    ∷ record { message = "Subject: x" ∷ []; printed = "field 0 7 8 10" ∷ [] }
+    ∷ record { message = "To" ∷ []; printed = "refused 2 2" ∷ [] }
+    ∷ []
+
+-- each row of a table holds
+abbrev pub AllHold : List Row → Type 0
+AllHold [] = Unit {0}
+AllHold (row ∷ more) = (listing (ended (returnByte ∷ lineFeedByte ∷ []) (row .message)) ≡ ended (lineFeedByte ∷ []) (row .printed)) × AllHold more
+
+pub rows-hold : AllHold rows
+unfolding scanFrom symbolsOf charactersFrom kindOf classOf classTable lower same unlessFault nameHolds nameStartsWith crlf endsBody atLineStart atName atBody headerFrom knownNames knownIn answerIn answerFor called place isMark isRun keyOf runs parts number offsetOf leap monthLength daysBeforeMonth daysOfYears dayNumber firstKey firstBytes after done digitsPart named secondAfter minuteAfter hourOf zoneNamed zoneOf hourAfter pastDash yearAfter monthAfter dayAfter readingOf dayExists timeExists nameTrue momentOf dateAnswer digitsOf signed spaced each fieldText
+rows-hold = (refl, (refl, (refl, (refl, (refl, tt)))))

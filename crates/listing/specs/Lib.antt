@@ -1,0 +1,4 @@
+-- Document 01, "Checked examples": what the program prints for a message.
+pub mod Lines
+pub mod Listing
+pub mod Putting

@@ -1,0 +1,87 @@
+-- Document 01, "Checked examples": the lines of a message. Each function puts its text before the bytes `rest`.
+use Prim.Native.Nat.{ℕ}
+use mathlib.Core.List.{List, [], _∷_}
+use lib.Dec.{ltb}
+use Rattle.octets.specs.Choice.{pick}
+use Rattle.octets.specs.Numbers.{tooLittleRoom}
+use Rattle.octets.specs.Text.{part}
+use Rattle.octets.specs.declared.answers.Answer.{Answer}
+use Rattle.octets.specs.declared.answers.Answer.the-variants.{Accepted, Refused, NoRoom}
+use Rattle.header.specs.Fields.{Field, fieldsOf, headerOf}
+use Rattle.header.specs.Split.{answerFor}
+use Rattle.header.specs.Names.{knownOf, holdsAddresses}
+use Rattle.header.specs.declared.names.Known.{Known}
+use Rattle.header.specs.declared.names.Known.the-variants as known
+use Rattle.grammar.specs.Records.{count, records}
+use Rattle.grammar.specs.Rfc733.{Derivation}
+use Rattle.addresses.specs.Outcome.{Outcome, outcomeBy}
+use Rattle.dates.specs.Answers.{dateAnswer}
+use Rattle.dates.specs.declared.DateAnswer.{DateAnswer}
+use Rattle.dates.specs.declared.DateAnswer.the-variants as date
+use Rattle.listing.specs.Lines.{fieldLine, addressLine, dateLine, refusedLine}
+
+-- the program's tables hold 2,048 records each
+abbrev pub tableRecords : ℕ
+tableRecords = 2048
+
+-- the texts of things, one behind the other
+unfoldable pub each : {A : Type 0} → (A → List ℕ → List ℕ) → List A → List ℕ → List ℕ
+each text [] rest = rest
+each text (a ∷ more) rest = text a (each text more rest)
+
+-- ---- bodies
+
+-- what is printed of a list: a line for each of its records, or 11 where a table has no room for them
+abbrev pub listed : List ℕ → Derivation → Outcome
+listed rest k =
+    pick (ltb tableRecords (count k)) (record { answer = NoRoom (count k); table = rest })
+    (record { answer = Accepted (count k); table = each addressLine (records k) rest })
+
+-- what is printed if a body is accepted, else the line of the refusal
+abbrev pub unlessRefused : Answer → List ℕ → List ℕ
+unlessRefused (Accepted written) text = text
+unlessRefused (Refused number position) text = refusedLine number position text
+unlessRefused (NoRoom needed) text = refusedLine tooLittleRoom 0 text
+
+-- a body that holds an address list
+abbrev pub addressBody : List ℕ → ℕ → ℕ → List ℕ → List ℕ
+addressBody message start end rest =
+    let o = outcomeBy listed message start end rest in
+    unlessRefused (o .answer) (o .table)
+
+-- a body that holds a date, from its answer
+abbrev pub dateText : DateAnswer → List ℕ → List ℕ
+dateText (date.Accepted seconds) rest = dateLine seconds rest
+dateText (date.Refused number position) rest = refusedLine number position rest
+
+-- a body whose name holds no address list: only a date gives a line
+abbrev pub otherBody : Known → List ℕ → ℕ → ℕ → List ℕ → List ℕ
+otherBody known.Date message start end rest = dateText (dateAnswer message start end) rest
+otherBody known.From message start end rest = rest
+otherBody known.ReplyTo message start end rest = rest
+otherBody known.To message start end rest = rest
+otherBody known.Cc message start end rest = rest
+otherBody known.Bcc message start end rest = rest
+otherBody known.Other message start end rest = rest
+
+-- the lines of a body, by the name of its field
+abbrev pub body : Known → List ℕ → ℕ → ℕ → List ℕ → List ℕ
+body k message start end rest =
+    pick (holdsAddresses k) (addressBody message start end rest) (otherBody k message start end rest)
+
+-- ---- headers
+
+-- a field's line, followed by the lines of its body
+unfoldable pub fieldText : List ℕ → Field → List ℕ → List ℕ
+fieldText message f rest =
+    fieldLine f (body (knownOf (part message (f .nameStart) (f .nameEnd))) message (f .bodyStart) (f .bodyEnd) rest)
+
+-- each field with its body; a refused header gives one line and nothing else
+abbrev pub headerText : List ℕ → Answer → List ℕ
+headerText message (Accepted fields) = each (fieldText message) (fieldsOf (headerOf message)) []
+headerText message (Refused number position) = refusedLine number position []
+headerText message (NoRoom needed) = refusedLine tooLittleRoom 0 []
+
+-- what the program prints for a message
+abbrev pub listing : List ℕ → List ℕ
+listing message = headerText message (answerFor tableRecords message)

@@ -1,0 +1,55 @@
+-- Where the faults of a body lie: symbols of one byte, white space and atoms have none. Assumes nothing.
+use mathlib.Core.Path.{_≡_, refl, sym, ap, _∙_}
+use mathlib.Core.List.{List, [], _∷_, _++_}
+use Prim.Native.Nat.{ℕ, _+_}
+use lib.ListN.{getD}
+use types.Run.{OneOf, miss}
+use denote.Enum.Declared.{tagOf}
+use Rattle.scanner.specs.Kinds.{characterKind}
+use Rattle.scanner.specs.Characters.{Character, character, charactersAt}
+use Rattle.scanner.specs.Scanning.{outside, inAtom, moveOutside, moveInAtom, go, single, then, scanFrom, scanBy}
+use Rattle.scanner.specs.Answers.{unlessFault, faultOf}
+use Rattle.scanner.specs.Steps.{FirstCharacter}
+use Rattle.scanner.specs.declared.Class.the-variants.{Stray}
+use Rattle.scanner.specs.declared.Kind.{Kind}
+use Rattle.scanner.specs.declared.Kind.the-variants.{White, Control, Return, Plain, Open, Close, Quote, Backslash, Mark, Above}
+use Rattle.scanner.proofs.Kind.{the-type}
+use Rattle.scanner.proofs.MoveLaws.{moves}
+
+-- in an atom the faults are those outside
+abbrev AsOutside : List ℕ → List Character → Type 0
+AsOutside classes rest = (start end : ℕ) (t : List ℕ) → faultOf (scanFrom classes rest (inAtom start end t)) ≡ faultOf (scanFrom classes rest outside)
+
+by-kind : (classes : List ℕ) (rest : List Character) → AsOutside classes rest → (kind : Kind) (start end : ℕ) (t : List ℕ) (b p : ℕ)
+    → faultOf (then (moveInAtom kind start end t b p) (λ state. scanFrom classes rest state)) ≡ faultOf (then (moveOutside kind b p) (λ state. scanFrom classes rest state))
+unfolding unlessFault
+by-kind classes rest h White start end t b p = refl
+by-kind classes rest h Control start end t b p = refl
+by-kind classes rest h Return start end t b p = refl
+by-kind classes rest h Plain start end t b p = h start (p + 1) (t ++ (b ∷ [])) ∙ sym (h p (p + 1) (b ∷ []))
+by-kind classes rest h Open start end t b p = refl
+by-kind classes rest h Close start end t b p = refl
+by-kind classes rest h Quote start end t b p = refl
+by-kind classes rest h Backslash start end t b p = refl
+by-kind classes rest h (Mark class) start end t b p = refl
+by-kind classes rest h Above start end t b p = refl
+
+atom-faults : (classes : List ℕ) (rest : List Character) → AsOutside classes rest
+unfolding scanFrom unlessFault
+atom-faults classes [] start end t = refl
+atom-faults classes (character b p folded ∷ rest) start end t = by-kind classes rest (atom-faults classes rest) (characterKind classes b folded) start end t b p
+
+-- a byte that is no fault and opens nothing
+module _ {classes text : List ℕ} {at p q : ℕ} where
+  pub harmless : (kind : Kind) → FirstCharacter classes text at kind p q → OneOf (0 ∷ 3 ∷ 5 ∷ 7 ∷ 8 ∷ []) (tagOf the-type kind) → faultOf (scanBy classes text at) ≡ faultOf (scanBy classes text q)
+  unfolding unlessFault
+  harmless White x o = ap faultOf (moves x outside (go [] outside) refl)
+  harmless Control x o = absurd (miss (0 ∷ 3 ∷ 5 ∷ 7 ∷ 8 ∷ []) 1 tt o)
+  harmless Return x o = absurd (miss (0 ∷ 3 ∷ 5 ∷ 7 ∷ 8 ∷ []) 2 tt o)
+  harmless Plain x o = ap faultOf (moves x outside (go [] (inAtom p (p + 1) (getD text p 0 ∷ []))) refl) ∙ atom-faults classes (charactersAt text q) p (p + 1) (getD text p 0 ∷ [])
+  harmless Open x o = absurd (miss (0 ∷ 3 ∷ 5 ∷ 7 ∷ 8 ∷ []) 4 tt o)
+  harmless Close x o = ap faultOf (moves x outside (go (single Stray (getD text p 0) p ∷ []) outside) refl)
+  harmless Quote x o = absurd (miss (0 ∷ 3 ∷ 5 ∷ 7 ∷ 8 ∷ []) 6 tt o)
+  harmless Backslash x o = ap faultOf (moves x outside (go (single Stray (getD text p 0) p ∷ []) outside) refl)
+  harmless (Mark class) x o = ap faultOf (moves x outside (go (single class (getD text p 0) p ∷ []) outside) refl)
+  harmless Above x o = absurd (miss (0 ∷ 3 ∷ 5 ∷ 7 ∷ 8 ∷ []) 9 tt o)

@@ -1,0 +1,45 @@
+#!/usr/bin/env bash
+# The C example under valgrind: no fault of memory on lists that are accepted, refused, empty, deep and long.
+set -u
+cd "$(dirname "$0")/.." || exit 2
+if ! command -v valgrind >/dev/null 2>&1; then
+    echo "skipped: valgrind is not installed"
+    exit 0
+fi
+./build-library >/dev/null 2>&1 || { echo "build-library failed"; exit 1; }
+
+seen=0
+faults=0
+
+# A text so many times.
+times() {
+    local i
+    for ((i = 0; i < $2; i++)); do printf '%s' "$1"; done
+}
+
+# Runs the example on a list; document 01 says whether it exits with 0, accepted, or 1, refused. A fault of memory is 99.
+check() {
+    local name=$1 wanted=$2 list=$3 log status fault=
+    log=$(valgrind --error-exitcode=99 --leak-check=full target/lib/example "$list" 2>&1 >/dev/null)
+    status=$?
+    seen=$((seen + 1))
+    [ "$status" -eq "$wanted" ] || fault="exit $status, wanted $wanted"
+    grep -q 'ERROR SUMMARY: 0 errors' <<<"$log" || fault="valgrind does not say that there are 0 errors; exit $status"
+    if [ -n "$fault" ]; then
+        faults=$((faults + 1))
+        printf '%s: %s\n%s\n' "$name" "$fault" "$log"
+    fi
+}
+
+check "accepted" 0 'Cooks: Childs at WGBH;, "Al" (away), :Include: "x" <Sam@Y>'
+check "empty" 0 ''
+check "refused" 1 'a at b c'
+check "open quote" 1 '"ab'
+check "64 levels" 0 "$(times '<' 64)$(times '>' 64)"
+check "65 levels" 1 "$(times '<' 65)$(times '>' 65)"
+check "long" 0 "$(times 'Al Neuman at Mad-Host, ' 1424)"
+check "more addresses than the table holds" 1 "$(times 'a@b,' 8192)"
+check "over 32,768 bytes" 1 "$(times ',' 32769)"
+
+echo "lists under valgrind: $seen"
+[ "$faults" -eq 0 ]
