@@ -1,11 +1,12 @@
 -- Where the faults of a body lie: symbols of one byte, white space and atoms have none. Assumes nothing.
 use mathlib.Core.Path.{_≡_, refl, sym, ap, _∙_}
 use mathlib.Core.List.{List, [], _∷_, _++_}
-use Prim.Native.Nat.{ℕ, _+_}
-use lib.ListN.{getD}
+use Prim.Native.Nat.{ℕ, _+_, _<_}
+use lib.ListN.{length, getD}
+use Rattle.octets.specs.Octets.{returnByte}
 use types.Run.{OneOf, miss}
 use denote.Enum.Declared.{tagOf}
-use Rattle.scanner.specs.Kinds.{characterKind}
+use Rattle.scanner.specs.Kinds.{kindOf, characterKind}
 use Rattle.scanner.specs.Characters.{Character, character, charactersAt}
 use Rattle.scanner.specs.Scanning.{outside, inAtom, moveOutside, moveInAtom, go, single, then, scanFrom, scanBy}
 use Rattle.scanner.specs.Answers.{unlessFault, faultOf}
@@ -14,6 +15,7 @@ use Rattle.scanner.specs.declared.Class.the-variants.{Stray}
 use Rattle.scanner.specs.declared.Kind.{Kind}
 use Rattle.scanner.specs.declared.Kind.the-variants.{White, Control, Return, Plain, Open, Close, Quote, Backslash, Mark, Above}
 use Rattle.scanner.proofs.Kind.{the-type}
+use Rattle.scanner.proofs.CharacterLaws.{return-kind, no-return, plain-first}
 use Rattle.scanner.proofs.MoveLaws.{moves}
 
 -- in an atom the faults are those outside
@@ -53,3 +55,11 @@ module _ {classes text : List ℕ} {at p q : ℕ} where
   harmless Backslash x o = ap faultOf (moves x outside (go (single Stray (getD text p 0) p ∷ []) outside) refl)
   harmless (Mark class) x o = ap faultOf (moves x outside (go (single class (getD text p 0) p ∷ []) outside) refl)
   harmless Above x o = absurd (miss (0 ∷ 3 ∷ 5 ∷ 7 ∷ 8 ∷ []) 9 tt o)
+
+-- .. told by its kind alone
+pub harmless-byte : (classes text : List ℕ) (p : ℕ) (kind : Kind) → p < length text → kind ≡ kindOf classes (getD text p 0) → OneOf (0 ∷ 3 ∷ 5 ∷ 7 ∷ 8 ∷ []) (tagOf the-type kind)
+    → faultOf (scanBy classes text p) ≡ faultOf (scanBy classes text (p + 1))
+harmless-byte classes text p kind h k o = harmless kind (plain-first classes text p h (no-return text p no-cr) k) o
+  where
+    no-cr : getD text p 0 ≡ returnByte → ⊥
+    no-cr e = miss (0 ∷ 3 ∷ 5 ∷ 7 ∷ 8 ∷ []) 2 tt (rw (k ∙ sym (return-kind classes (getD text p 0) e)) at o)

@@ -8,6 +8,7 @@ use Rattle.octets.specs.Text.{part}
 use Rattle.scanner.specs.Kinds.{characterKind}
 use Rattle.scanner.specs.Characters.{character, charactersAt}
 use Rattle.scanner.specs.Scanning.{inAtom, inComment, atom, next, faultAt, scanFrom, scanBy}
+use Rattle.scanner.specs.Answers.{faultOf}
 use Rattle.scanner.specs.declared.Kind.{Kind}
 use Rattle.scanner.specs.declared.Kind.the-variants.{White}
 use Rattle.scanner.specs.declared.Step.{Step}
@@ -45,3 +46,8 @@ pub record CommentEnds (classes text : List ℕ) (at start q : ℕ) : Type 0 whe
 abbrev pub CommentIs : List ℕ → List ℕ → ℕ → ℕ → Comment → Type 0
 CommentIs classes text at start (Past q) = CommentEnds classes text at start q
 CommentIs classes text at start (Open number p) = scanFrom classes (charactersAt text at) (inComment 0 start) ≡ faultAt number p
+
+-- a body has the same first fault from a later position on
+pub record FaultsFrom (classes text : List ℕ) (at r : ℕ) : Type 0 where
+  pub from : at ≤ r
+  pub same : faultOf (scanBy classes text at) ≡ faultOf (scanBy classes text r)

@@ -9,7 +9,7 @@ ghost use Rattle.scanner.specs.Kinds.{kindOf};
 ghost use Rattle.scanner.specs.Characters.{foldAt, charactersAt};
 ghost use Rattle.scanner.specs.Scanning.{inQuoted, atomClass, scanFrom, scanBy};
 ghost use Rattle.scanner.specs.Answers.{nextOf, nextInBody, faultOf, bodyScanned};
-ghost use Rattle.scanner.specs.Steps.{StepIs, AtomEnds, CommentIs};
+ghost use Rattle.scanner.specs.Steps.{StepIs, AtomEnds, CommentIs, FaultsFrom};
 ghost use Rattle.octets.specs.Text.{part};
 use octets::answers::Answer;
 use octets::classes::CLASSES;
@@ -270,28 +270,31 @@ pub fn next_symbol(message: &[u8], at: usize, end: usize) -> Next
     next_by(classes, &message[..end], at)
 }
 
+// The first byte at or after a position that may be a fault, or may open a quoted-string or a comment.
+fn past_harmless(classes: &[u8; 256], text: &[u8], at: usize) -> usize
+    ensures { λ r. ⌜ FaultsFrom (now (classes .entry)) (now (text .entry)) at r ⌝ }
+{
+    let mut p = at;
+    while p < text.len() {
+        match kind_of(classes, text[p]) {
+            Kind::White | Kind::Plain | Kind::Close | Kind::Backslash | Kind::Mark(_) => p += 1,
+            _ => return p,
+        }
+    }
+    p
+}
+
 // The first fault of a text from a position on, by a table of classes that is handed on.
 pub fn fault_by(classes: &[u8; 256], text: &[u8], at: usize) -> Answer
     ensures { λ r. ⌜ r ≡ faultOf (scanBy (now (classes .entry)) (now (text .entry)) at) ⌝ }
 {
     let mut p = at;
     loop {
-        let Step::Byte(kind, here, q) = character(classes, text, p) else {
-            return Answer::Accepted(0);
-        };
-        match kind {
-            Kind::Open => match comment_end(classes, text, here, q) {
-                Comment::Past(behind) => p = behind,
-                Comment::Open(number, place) => return Answer::Refused(number, place),
-            },
-            Kind::Quote => match quoted_end(classes, text, here, q) {
-                Next::Found(_, _, end) => p = end,
-                Next::Ended => return Answer::Accepted(0),
-                Next::Fault(number, place) => return Answer::Refused(number, place),
-            },
-            Kind::Control | Kind::Return => return Answer::Refused(STRAY_CONTROL, here),
-            Kind::Above => return Answer::Refused(BYTE_ABOVE_127, here),
-            _ => p = q,
+        p = past_harmless(classes, text, p);
+        match next_by(classes, text, p) {
+            Next::Found(_, _, end) => p = end,
+            Next::Ended => return Answer::Accepted(0),
+            Next::Fault(number, place) => return Answer::Refused(number, place),
         }
     }
 }
