@@ -79,6 +79,19 @@ def plain(body):
     return _written("rfc733_plain", body, (0, len(body)), 1)
 
 
+def same_addresses(body, other):
+    """Whether two address lists have the same addresses. Raises `Refused` where one is not accepted, `body` asked first.
+
+    Their plain texts are compared. That is right because it is proved that two accepted bodies have the same plain
+    text exactly if they have the same kinds, nesting, names and nodes, word by word, case counting; an atom and a
+    quoted-string are never the same word. White space, comments, commas and "@" against "at" do not count:
+
+        same_addresses(b"a@b", b"a at (home) b,")  # True
+        same_addresses(b"a@b", b"A@b")  # False
+    """
+    return plain(body) == plain(other)
+
+
 def date(body):
     """A date as seconds from 1 January 1900, 00:00 GMT. Raises `Refused`."""
     told = (ctypes.c_uint64 * 3)()

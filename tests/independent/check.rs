@@ -173,6 +173,134 @@ fn writing(tally: &mut Tally) {
     }
 }
 
+/// Whether two bodies that are whole messages have the same addresses.
+fn equal(one: &[u8], other: &[u8]) -> Option<bool> {
+    reader::same_addresses((one, 0, one.len()), (other, 0, other.len()))
+}
+
+/// Bodies with the same addresses, and bodies that are not accepted.
+fn equal_addresses(tally: &mut Tally) {
+    let same: [(&[u8], &[u8]); 10] = [
+        (b"a@b", b"a AT (x) b,"),
+        (b"\"\\a\"@b", b"\"a\"@b"),
+        (b"", b",(c),"),
+        (b"\"a\r\n b\"", b"\"a b\""),
+        (b"\"\\\r\n \"", b"\" \""),
+        (b"\"\\\n\"", b"\"\n\""),
+        (b"x\ty<a@b>", b"x(c)y <,a at b, ,>"),
+        (b":,A:;;", b" : ,, A : ,; ;"),
+        (b":A:\"q\"", b",:(c)A\r\n :\t\"\\q\""),
+        (b"a@b@c at d", b"a at b at c@d"),
+    ];
+    for (one, other) in same {
+        tally.same("same addresses", equal(one, other), Some(true));
+    }
+    let unread: [(&[u8], &[u8]); 6] = [
+        (b"x", b"x"),
+        (b"a@b", b"x"),
+        (b"x", b"a@b"),
+        (b"\"at\"@b", b"at@b"),
+        (b":,A:;;", b":A:;;"),
+        (b"a@b", b"a@b("),
+    ];
+    for (one, other) in unread {
+        tally.same("no addresses", equal(one, other), None);
+    }
+    let part = |end| reader::same_addresses((b"(a@b)", 1, end), (b"a@b", 0, 3));
+    tally.same("part of a message", part(4), Some(true));
+    tally.same("out of order", part(0), None);
+    tally.same("behind the message", part(6), None);
+}
+
+/// Bodies with other addresses, each asked both ways.
+fn other_addresses(tally: &mut Tally) {
+    let other: [(&[u8], &[u8]); 26] = [
+        (b"a@b", b"\"a\"@b"),
+        (b"a@b", b"a@\"b\""),
+        (b"A@b", b"a@b"),
+        (b"a@B", b"a@b"),
+        (b"\"A\"", b"\"a\""),
+        (b"\"\\A\"", b"\"\\a\""),
+        (b"a@b@c", b"a@b"),
+        (b"a@b@c", b"a@c@b"),
+        (b"<a@b>", b":a@b;"),
+        (b"n <>", b"n:;"),
+        (b"n <>", b"<>"),
+        (b"<>", b""),
+        (b"<>", b"<>,<>"),
+        (b":Include:\"x\"", b":INCLUDE:\"x\""),
+        (b":Postal:\"x\"", b":Include:\"x\""),
+        (b":A:\"x\"", b":a:\"x\""),
+        (b":A: :B:\"x\"", b":A:\"x\""),
+        (b":A:\"x\"", b":,A:\"x\";;"),
+        (b"a b@c", b"ab@c"),
+        (b"\"a b\"@c", b"\"a\" \"b\"@c"),
+        (b"\"a b\"", b"\"a  b\""),
+        (b"\"\"@a", b"\"\" \"\"@a"),
+        (b"a@b,c@d", b"c@d,a@b"),
+        (b"<a@b,c@d>", b"<a@b>,c@d"),
+        (b"x:y:;,z:;;", b"x:y:z:;;;"),
+        (b"\"\\\r\\\n \"", b"\"\\\r\n \""),
+    ];
+    for (one, two) in other {
+        tally.same("other addresses", equal(one, two), Some(false));
+        tally.same("other addresses", equal(two, one), Some(false));
+        tally.same("itself", (equal(one, one), equal(two, two)), (Some(true), Some(true)));
+    }
+}
+
+/// Where the comments of a body are, inner ones before outer ones.
+fn comment_places(tally: &mut Tally) {
+    let cases: [(&[u8], &[(usize, usize)]); 18] = [
+        (b"a(x(y)z)@b", &[(3, 6), (1, 8)]),
+        (b"\"(x)\"@b", &[]),
+        (b"(\\(x))", &[(0, 5)]),
+        (b"(a)(b", &[(0, 3)]),
+        (b"(a)(b)", &[(0, 3), (3, 6)]),
+        (b"(a(b)c", &[(2, 5)]),
+        (b"(a)\x7F(b)", &[(0, 3)]),
+        (b"(a)\"(b)", &[(0, 3)]),
+        (b"(a(b)\rc)", &[(2, 5)]),
+        (b"(a(b\x80)c)", &[]),
+        (b"(a\\\x80(b))", &[]),
+        (b"x\\(a)", &[(2, 5)]),
+        (b"(\")\")", &[(0, 3)]),
+        (b"\"\\\"(x)\"(y)", &[(7, 10)]),
+        (b"(\\\r\n ()", &[(5, 7)]),
+        (b"(\r\n )\r\n\t()", &[(0, 5), (8, 10)]),
+        (b"(a)\r\n(b)", &[(0, 3)]),
+        (b")(\\\\)", &[(1, 5)]),
+    ];
+    for (body, wanted) in cases {
+        tally.same("comments", reader::comments(body, 0, body.len()), wanted.to_vec());
+    }
+    let within = |start, end| reader::comments(b"((a))", start, end);
+    tally.same("comments of a part", within(1, 4), vec![(1, 4)]);
+    tally.same("comments of a part", within(1, 5), vec![(1, 4)]);
+    tally.same("comments of a part", within(0, 4), vec![(1, 4)]);
+    tally.same("comments, out of order", within(3, 2), vec![]);
+    tally.same("comments, behind the message", within(0, 6), vec![]);
+    tally.same("comments, too long", reader::comments(&b"()".repeat(16_385), 0, 2), vec![]);
+}
+
+/// What is one comment, and nothing else, when it scans alone.
+fn lone_comments(tally: &mut Tally) {
+    let comments: [&[u8]; 12] = [
+        b"()", b"(())", b"(\\(\\))", b"(\\\\)", b"(\")", b"(\n\x00\x7F)", b"(\\\r)", b"(\\\r\n)",
+        b"(\r\n )", b"(\\\r\n )", b"(\\\r\n\\))", b"(\r\n\t\r\n )",
+    ];
+    for comment in comments {
+        tally.same("comment", (comment, reader::is_comment(comment)), (comment, true));
+    }
+    let others: [&[u8]; 15] = [
+        b"", b"(", b")", b"(\\)", b"((a)", b"(a)(b)", b"(a) ", b" (a)", b"(a)x", b"\"()\"", b"(\r)",
+        b"(\r\n)", b"(\x80)", b"(\\\x80)", b"(\\\\\r)",
+    ];
+    for other in others {
+        tally.same("no comment", (other, reader::is_comment(other)), (other, false));
+    }
+}
+
 fn splitting(tally: &mut Tally) {
     let cases: [(&[u8], Told); 13] = [
         (b"", told(0, 0, 0)),
@@ -231,6 +359,10 @@ fn main() {
     records(&mut tally);
     scanning(&mut tally);
     writing(&mut tally);
+    equal_addresses(&mut tally);
+    other_addresses(&mut tally);
+    comment_places(&mut tally);
+    lone_comments(&mut tally);
     splitting(&mut tally);
     dates(&mut tally);
     println!("{} checks, {} failed", tally.run, tally.failed);

@@ -45,15 +45,18 @@ pub enum Kind {
     DateMutant,
     Reply,
     Name,
+    Exchange,
+    Pair,
 }
 
-pub const KINDS: [Kind; 12] = [
+pub const KINDS: [Kind; 14] = [
     Kind::Bytes, Kind::Tokens, Kind::Symbols, Kind::List, Kind::Mutant, Kind::Deep,
     Kind::Long, Kind::Header, Kind::Date, Kind::DateMutant, Kind::Reply, Kind::Name,
+    Kind::Exchange, Kind::Pair,
 ];
 
 /// How often each kind is made, of 1,000.
-const WEIGHTS: [usize; 12] = [50, 150, 180, 110, 180, 90, 2, 90, 60, 60, 20, 8];
+const WEIGHTS: [usize; 14] = [40, 130, 150, 95, 155, 75, 2, 78, 50, 50, 18, 7, 80, 70];
 
 /// Chooses the place of a kind in `KINDS`.
 pub fn choose(rng: &mut Rng) -> usize {
@@ -88,6 +91,8 @@ pub fn body(rng: &mut Rng, kind: Kind) -> Vec<u8> {
         }
         Kind::Reply => reply(rng),
         Kind::Name => name(rng),
+        Kind::Exchange => commented(rng),
+        Kind::Pair => pair(rng).0,
     }
 }
 
@@ -378,6 +383,364 @@ fn long(rng: &mut Rng) -> Vec<u8> {
         out = mutate(rng, out);
     }
     out
+}
+
+// -------------------------------------------------------------- comments
+
+const INNER: [&[u8]; 24] = [
+    b"x", b"at", b"@", b"<:;>,", b" ", b"\t", b"\"", b"\"q\"", b"\n", b"\x00", b"\x7F", b"()",
+    b"\\(", b"\\)", b"\\\\", b"\\\"", b"\\\r", b"\\\n", b"\\\r\n", b"\\\r\n ", b"\\\r\n\t",
+    b"\r\n ", b"\r\n\t", b"\\\r\n\\)",
+];
+
+/// A comment that scans alone without fault, at least "()".
+pub fn comment(rng: &mut Rng) -> Vec<u8> {
+    let size = match rng.below(80) {
+        0 => 200 + rng.below(400),
+        1..=9 => 10 + rng.below(30),
+        10..=29 => 0,
+        _ => 1 + rng.below(6),
+    };
+    let (opens, closes) = if rng.once_in(4) { (2, 20) } else { (6, 4) };
+    let mut out = vec![b'('];
+    let mut open = 1;
+    for _ in 0..size {
+        if rng.once_in(opens) {
+            out.push(b'(');
+            open += 1;
+        } else if open > 1 && rng.once_in(closes) {
+            out.push(b')');
+            open -= 1;
+        } else {
+            add_inner(rng, &mut out);
+        }
+    }
+    out.resize(out.len() + open, b')');
+    out
+}
+
+/// Adds what may stand within a comment and neither opens nor closes it.
+fn add_inner(rng: &mut Rng, out: &mut Vec<u8>) {
+    if !rng.once_in(4) {
+        out.extend_from_slice(rng.pick(&INNER));
+        return;
+    }
+    let byte = rng.below(128) as u8;
+    if b"\r()\\".contains(&byte) || rng.once_in(2) {
+        out.push(b'\\');
+    }
+    out.push(byte);
+}
+
+/// A comment of exactly that many bytes, two or more.
+pub fn filling_comment(rng: &mut Rng, length: usize) -> Vec<u8> {
+    let mut out = comment(rng);
+    if out.len() > length {
+        out = b"()".to_vec();
+    }
+    let missing = length - out.len();
+    let nested = if rng.once_in(2) { missing / 2 } else { 0 };
+    let plain = vec![b'x'; missing - 2 * nested];
+    out.splice(1..1, [vec![b'('; nested], plain].concat());
+    out.resize(length, b')');
+    out
+}
+
+/// Puts comments between some of the tokens.
+fn with_comments(rng: &mut Rng, tokens: &Tokens) -> Tokens {
+    let mut out = Tokens::new();
+    for token in tokens {
+        if rng.once_in(5) {
+            out.push(comment(rng));
+        }
+        out.push(token.clone());
+    }
+    if rng.once_in(5) {
+        out.push(comment(rng));
+    }
+    out
+}
+
+/// A body of another kind, most often a list, with comments put in.
+fn commented(rng: &mut Rng) -> Vec<u8> {
+    let mut body = match rng.below(20) {
+        0 => bytes(rng, 40),
+        1 | 2 => tokens(rng),
+        3 => symbols(rng),
+        4 | 5 => {
+            let valid = list(rng);
+            mutate(rng, valid)
+        }
+        6..=8 => deep(rng),
+        9 | 10 => {
+            let mut valid = list(rng);
+            let at = rng.below(valid.len() + 1);
+            valid.splice(at..at, rng.pick(&FAULTS).iter().copied());
+            valid
+        }
+        11 | 12 => list(rng),
+        _ => return commented_list(rng),
+    };
+    for _ in 0..1 + rng.below(3) {
+        let at = rng.below(body.len() + 1);
+        body.splice(at..at, comment(rng));
+    }
+    body
+}
+
+/// A list with comments between its symbols.
+fn commented_list(rng: &mut Rng) -> Vec<u8> {
+    let mut out = Tokens::new();
+    let mut budget = 1 + rng.below(12);
+    add_list(rng, &mut out, &mut budget, 0);
+    let compact = rng.once_in(2);
+    let out = with_comments(rng, &out);
+    glue(rng, &out, compact)
+}
+
+// ----------------------------------------------------------------- pairs
+
+/// Two lists with the same addresses, or nearly so.
+pub fn pair(rng: &mut Rng) -> (Vec<u8>, Vec<u8>) {
+    let mut one = Tokens::new();
+    let mut budget = 1 + rng.below(8);
+    add_list(rng, &mut one, &mut budget, 0);
+    if one.is_empty() {
+        add_mailbox(rng, &mut one);
+    }
+    let mut other = one.clone();
+    for _ in 0..[0, 0, 1, 1, 1, 2][rng.below(6)] {
+        alter(rng, &mut other);
+    }
+    if rng.once_in(2) {
+        std::mem::swap(&mut one, &mut other);
+    }
+    (spelt(rng, &one), spelt(rng, &other))
+}
+
+/// Prints tokens with spelling, commas, white space and comments of its own.
+fn spelt(rng: &mut Rng, tokens: &Tokens) -> Vec<u8> {
+    let mut out: Tokens = tokens.iter().map(|token| respelt(rng, token)).collect();
+    if rng.once_in(6) {
+        out.insert(0, b",".to_vec());
+    }
+    if rng.once_in(6) {
+        add(&mut out, b",");
+    }
+    let compact = rng.once_in(2);
+    let out = with_comments(rng, &out);
+    glue(rng, &out, compact)
+}
+
+/// A token that means the same.
+fn respelt(rng: &mut Rng, token: &[u8]) -> Vec<u8> {
+    if is_at(token) {
+        return rng.pick(&MARKS[..4]).to_vec();
+    }
+    if is_quoted(token) {
+        return quote(rng, &data(token));
+    }
+    let more: &[u8] = match token {
+        b"<" => b"<,",
+        b">" => b",>",
+        b";" => b",;",
+        b"," => b",,",
+        _ => token,
+    };
+    if rng.once_in(6) { more.to_vec() } else { token.to_vec() }
+}
+
+/// Whether a token is "at" or "@".
+fn is_at(token: &[u8]) -> bool {
+    token == b"@" || token.eq_ignore_ascii_case(b"at")
+}
+
+/// Whether a token is a quoted-string.
+fn is_quoted(token: &[u8]) -> bool {
+    token.len() > 1 && token[0] == b'"' && token[token.len() - 1] == b'"'
+}
+
+/// Whether a token is an atom other than "at", or a quoted-string.
+fn is_word(token: &[u8]) -> bool {
+    !is_at(token) && (is_quoted(token) || touches(token.first()))
+}
+
+/// The data of a quoted-string, or the bytes of an atom.
+fn data(token: &[u8]) -> Vec<u8> {
+    if !is_quoted(token) {
+        return token.to_vec();
+    }
+    let mut out = Vec::new();
+    let mut rest = &token[1..token.len() - 1];
+    let mut taken = false;
+    while !rest.is_empty() {
+        if let [b'\r', b'\n', b' ' | b'\t', ..] = rest {
+            rest = &rest[2..];
+        }
+        taken = rest[0] == b'\\' && !taken;
+        if !taken {
+            out.push(rest[0]);
+        }
+        rest = &rest[1..];
+    }
+    out
+}
+
+/// A quoted-string of that data, with backslashes and folds at random.
+fn quote(rng: &mut Rng, data: &[u8]) -> Vec<u8> {
+    let mut out = vec![b'"'];
+    for &byte in data {
+        let needed = b"\"\\\r".contains(&byte) || out.last() == Some(&b'\r');
+        if needed || rng.once_in(5) {
+            out.push(b'\\');
+        }
+        if b" \t".contains(&byte) && rng.once_in(4) {
+            out.extend_from_slice(b"\r\n");
+        }
+        out.push(byte);
+    }
+    out.push(b'"');
+    out
+}
+
+/// Any number below `length` that fits.
+fn find(rng: &mut Rng, length: usize, fits: &dyn Fn(usize) -> bool) -> Option<usize> {
+    let shift = rng.below(length);
+    (0..length).map(|i| (i + shift) % length).find(|i| fits(*i))
+}
+
+/// Changes a list a little; often its addresses are others then.
+fn alter(rng: &mut Rng, tokens: &mut Tokens) {
+    let word = find(rng, tokens.len(), &|i| is_word(&tokens[i]));
+    let angle = find(rng, tokens.len(), &|i| tokens[i] == b"<");
+    match (rng.below(12), word, angle) {
+        (0..=3, Some(i), _) => alter_word(rng, &mut tokens[i]),
+        (4, Some(i), _) => cut_word(rng, tokens, i),
+        (5, Some(i), _) => quote_run(rng, tokens, i),
+        (6, ..) => join_words(rng, tokens),
+        (7, ..) => alter_node(rng, tokens),
+        (8, ..) => alter_type(rng, tokens),
+        (9, ..) => swap_members(rng, tokens),
+        (10, _, Some(i)) => alter_angle(rng, tokens, i),
+        _ => {
+            let comma = find(rng, tokens.len(), &|i| tokens[i] == b",");
+            comma.map(|i| tokens.remove(i));
+        }
+    }
+}
+
+/// Changes the case of one letter, if the token has one.
+fn flip_case(rng: &mut Rng, token: &mut [u8]) {
+    if let Some(i) = find(rng, token.len(), &|i| token[i].is_ascii_alphabetic()) {
+        token[i] ^= 32;
+    }
+}
+
+/// Changes a word: a letter's case, its quotes, or one byte of its data.
+fn alter_word(rng: &mut Rng, token: &mut Vec<u8>) {
+    let mut inner = data(token);
+    let at = rng.below(inner.len());
+    match rng.below(6) {
+        0 | 1 => flip_case(rng, token),
+        2 | 3 if is_quoted(token) && inner.iter().all(|b| touches(Some(b))) => *token = inner,
+        2 | 3 => *token = quote(rng, &inner),
+        4 if is_quoted(token) && !inner.is_empty() => {
+            inner[at] ^= 1 << rng.below(7);
+            *token = quote(rng, &inner);
+        }
+        _ if is_quoted(token) => {
+            inner.insert(at, [b' ', b'"', b'\\', b'\r', b'\n', b'x'][rng.below(6)]);
+            *token = quote(rng, &inner);
+        }
+        _ => token.push(b'x'),
+    }
+}
+
+/// Cuts a word in two.
+fn cut_word(rng: &mut Rng, tokens: &mut Tokens, i: usize) {
+    let inner = data(&tokens[i]);
+    let (one, two) = inner.split_at(rng.below(inner.len() + 1));
+    let quoted = is_quoted(&tokens[i]) || one.is_empty() || two.is_empty();
+    let (one, two) =
+        if quoted { (quote(rng, one), quote(rng, two)) } else { (one.to_vec(), two.to_vec()) };
+    tokens[i] = one;
+    tokens.insert(i + 1, two);
+}
+
+/// Makes one quoted-string of a word and some symbols behind it.
+fn quote_run(rng: &mut Rng, tokens: &mut Tokens, i: usize) {
+    let end = (i + 1 + rng.below(4)).min(tokens.len());
+    let run = tokens[i..end].join(&b' ');
+    let whole = quote(rng, &run);
+    tokens.splice(i..end, [whole]);
+}
+
+/// Joins two words that stand side by side.
+fn join_words(rng: &mut Rng, tokens: &mut Tokens) {
+    let beside = |i: usize| is_word(&tokens[i]) && tokens.get(i + 1).is_some_and(|t| is_word(t));
+    let Some(i) = find(rng, tokens.len(), &beside) else { return };
+    let two = tokens.remove(i + 1);
+    let atoms = !is_quoted(&tokens[i]) && !is_quoted(&two);
+    let between: &[u8] = if rng.once_in(2) { b" " } else { b"" };
+    tokens[i] = if atoms && between.is_empty() {
+        [&tokens[i][..], &two[..]].concat()
+    } else {
+        quote(rng, &[&data(&tokens[i])[..], between, &data(&two)[..]].concat())
+    };
+}
+
+/// Drops a node, or adds one.
+fn alter_node(rng: &mut Rng, tokens: &mut Tokens) {
+    let node = |i: usize| is_at(&tokens[i]) && tokens.get(i + 1).is_some_and(|t| is_word(t));
+    let Some(i) = find(rng, tokens.len(), &node) else { return };
+    if rng.once_in(2) {
+        tokens.drain(i..i + 2);
+    } else {
+        let more = [b"at".to_vec(), rng.pick(&WORDS).to_vec()];
+        tokens.splice(i..i, more);
+    }
+}
+
+/// Changes the case of a typed atom, or makes it another one.
+fn alter_type(rng: &mut Rng, tokens: &mut Tokens) {
+    let colon = |i: usize| tokens.get(i).is_some_and(|t| t == b":");
+    let typed = |i: usize| i > 0 && colon(i - 1) && colon(i + 1) && is_word(&tokens[i]);
+    let Some(i) = find(rng, tokens.len(), &typed) else { return };
+    match rng.below(4) {
+        0 => tokens[i].make_ascii_uppercase(),
+        1 => tokens[i] = rng.pick(&WORDS).to_vec(),
+        _ => flip_case(rng, &mut tokens[i]),
+    }
+}
+
+/// Swaps the members on both sides of a comma.
+fn swap_members(rng: &mut Rng, tokens: &mut Tokens) {
+    let plain = |i: usize| is_at(&tokens[i]) || is_word(&tokens[i]);
+    let between = |i: usize| {
+        i > 0 && i + 1 < tokens.len() && tokens[i] == b"," && plain(i - 1) && plain(i + 1)
+    };
+    let Some(i) = find(rng, tokens.len(), &between) else { return };
+    let from = i - (0..i).rev().take_while(|k| plain(*k)).count();
+    let end = i + 1 + (i + 1..tokens.len()).take_while(|k| plain(*k)).count();
+    let swapped = [&tokens[i + 1..end], &tokens[i..i + 1], &tokens[from..i]].concat();
+    tokens.splice(from..end, swapped);
+}
+
+/// Makes the angle list at `i` a group, or drops its brackets.
+fn alter_angle(rng: &mut Rng, tokens: &mut Tokens, i: usize) {
+    let mut open = 0;
+    let close = (i..tokens.len()).find(|k| {
+        open += i32::from(tokens[*k] == b"<") - i32::from(tokens[*k] == b">");
+        open == 0
+    });
+    let Some(close) = close else { return };
+    if rng.once_in(3) {
+        tokens.remove(close);
+        tokens.remove(i);
+    } else {
+        tokens[i] = b":".to_vec();
+        tokens[close] = b";".to_vec();
+    }
 }
 
 // ---------------------------------------------------- headers and names

@@ -103,6 +103,9 @@ const PATTERN: u8 = 0xA5;
 /// Bytes of the longest message, and of the longest plain text read back.
 const LONGEST: usize = 32_768;
 
+/// Seconds after which every tally of the laws must have counted.
+const LONG_ENOUGH: u64 = 5;
+
 /// One input and where it came from.
 struct Case<'a> {
     seed: u64,
@@ -116,15 +119,27 @@ fn escaped(bytes: &[u8]) -> String {
     bytes.iter().flat_map(|b| std::ascii::escape_default(*b)).map(char::from).collect()
 }
 
+/// Prints a message whole, with the positions of its body.
+fn show(case: &Case) {
+    println!("start {} end {}", case.start, case.end);
+    println!("message of {} bytes: b\"{}\"", case.message.len(), escaped(case.message));
+}
+
 /// Prints a difference whole and ends the program.
 fn differ(case: &Case, function: &str, room: usize, proved: &dyn Debug, second: &dyn Debug) -> ! {
     println!("DIFFERENCE in {function}");
-    println!("seed {} kind {:?}", case.seed, case.kind);
-    println!("start {} end {} room {room}", case.start, case.end);
-    println!("message of {} bytes: b\"{}\"", case.message.len(), escaped(case.message));
+    println!("seed {} kind {:?} room {room}", case.seed, case.kind);
+    show(case);
     println!("proved: {proved:?}");
     println!("second: {second:?}");
     std::process::exit(1);
+}
+
+/// Prints two messages that break a law together and ends the program.
+fn break_law(one: &Case, other: &Case, law: &str, proved: &dyn Debug, second: &dyn Debug) -> ! {
+    println!("the first of two messages:");
+    show(one);
+    differ(other, law, 0, proved, second);
 }
 
 fn agree<T: PartialEq + Debug>(case: &Case, function: &str, room: usize, proved: T, second: T) {
@@ -182,11 +197,13 @@ fn round_trip(case: &Case) {
     let told = proved::addresses(&text, 0, text.len(), &mut table);
     let wanted = Told { number: 0, position: 0, count: (records.len() / 12) as u64 };
     agree(case, "round trip, answer", 0, told, wanted);
-    let heads = |table: &[u8]| -> Vec<u8> {
-        table.chunks(12).flat_map(|r| r[..4].to_vec()).collect()
-    };
     agree(case, "round trip, records", 0, heads(&table), heads(&records));
     agree(case, "round trip, text", 0, proved_plain(&text, 0, text.len()), text);
+}
+
+/// Kind, depth and parent of each address record.
+fn heads(table: &[u8]) -> Vec<u8> {
+    table.chunks(12).flat_map(|r| r[..4].to_vec()).collect()
 }
 
 fn proved_records(message: &[u8], start: usize, end: usize) -> Vec<u8> {
@@ -264,6 +281,132 @@ fn compare_reply(case: &Case, from: &[u8]) -> u64 {
     u64::from(choice)
 }
 
+/// What the proved library gives of a body apart from positions: the number
+/// of scanning and of reading, heads of records, plain text.
+#[derive(Debug, PartialEq)]
+struct Kept {
+    scanned: u64,
+    number: u64,
+    heads: Vec<u8>,
+    text: Vec<u8>,
+}
+
+/// Asks the proved library for what must stay.
+fn proved_kept(case: &Case) -> Kept {
+    let (message, start, end) = (case.message, case.start, case.end);
+    let mut table = proved_records(message, start, end);
+    Kept {
+        scanned: proved::scan(message, start, end).number,
+        number: proved::addresses(message, start, end, &mut table).number,
+        heads: heads(&table),
+        text: proved_plain(message, start, end),
+    }
+}
+
+/// How often the laws of equal addresses were tried, and on what.
+#[derive(Default)]
+struct Seen {
+    /// Exchanges of comments by the answer number of the body.
+    exchanged: [u64; 15],
+    /// Exchanges of a comment that lies in another.
+    nested: u64,
+    /// Exchanges that made the message as long as it may be.
+    filled: u64,
+    /// Pairs with the same addresses, with others, and not both accepted.
+    same: u64,
+    different: u64,
+    unread: u64,
+}
+
+impl Seen {
+    /// Each tally with its name.
+    fn tallies(&self) -> Vec<(String, u64)> {
+        let mut all = vec![
+            ("comments exchanged, nested".to_string(), self.nested),
+            ("comments exchanged, message full".to_string(), self.filled),
+            ("comments exchanged, accepted".to_string(), self.exchanged[0]),
+        ];
+        for number in [3, 5, 6, 7, 8, 9, 10] {
+            all.push((format!("comments exchanged, refused {number}"), self.exchanged[number]));
+        }
+        all.push(("pairs with the same addresses".to_string(), self.same));
+        all.push(("pairs with other addresses".to_string(), self.different));
+        all.push(("pairs not both accepted".to_string(), self.unread));
+        all
+    }
+
+    /// Prints the tallies; false if one of them is still zero.
+    fn print(&self) -> bool {
+        let all = self.tallies();
+        for (name, times) in &all {
+            println!("{name:<34} {times:>9}");
+        }
+        all.iter().all(|tally| tally.1 > 0)
+    }
+}
+
+/// Ends the program if the bytes are no comment that scans alone.
+fn check_comment(case: &Case, comment: &[u8]) {
+    let alone = Case { message: comment, start: 0, end: comment.len(), ..*case };
+    let nothing = proved::reply(comment, b"x") == 1;
+    agree(&alone, "comment alone", 0, (nothing, reader::is_comment(comment)), (true, true));
+}
+
+/// Exchanges a comment of the body, if it has one, and compares both
+/// messages by themselves and with each other.
+fn compare_exchange(rng: &mut Rng, case: &Case, seen: &mut Seen) -> u64 {
+    let number = compare_body(rng, case);
+    let spans = reader::comments(case.message, case.start, case.end);
+    if spans.is_empty() {
+        return number;
+    }
+    let (from, behind) = spans[rng.below(spans.len())];
+    let room = LONGEST - case.message.len() + behind - from;
+    let fill = rng.once_in(200);
+    let comment = if fill { inputs::filling_comment(rng, room) } else { inputs::comment(rng) };
+    check_comment(case, &case.message[from..behind]);
+    check_comment(case, &comment);
+    if comment.len() > room {
+        return number;
+    }
+    let message = [&case.message[..from], &comment[..], &case.message[behind..]].concat();
+    let end = case.end - (behind - from) + comment.len();
+    let other = Case { message: &message, end, ..*case };
+    compare_body(rng, &other);
+    let (before, after) = (proved_kept(case), proved_kept(&other));
+    if before != after {
+        break_law(case, &other, "exchange of a comment, after and before", &after, &before);
+    }
+    seen.exchanged[number as usize] += 1;
+    seen.nested += u64::from(spans.iter().any(|s| s.0 < from && behind < s.1));
+    seen.filled += u64::from(message.len() == LONGEST);
+    number
+}
+
+/// Compares two bodies by themselves, and whether they have the same
+/// addresses: by plain text on one side, by the trees on the other.
+fn compare_pair(rng: &mut Rng, seed: u64, seen: &mut Seen) -> u64 {
+    let (one, other) = inputs::pair(rng);
+    let (one, other) = (inputs::place(rng, one), inputs::place(rng, other));
+    let kind = Kind::Pair;
+    let left = Case { seed, kind, message: &one.0, start: one.1, end: one.2 };
+    let right = Case { seed, kind, message: &other.0, start: other.1, end: other.2 };
+    let numbers = (compare_body(rng, &left), compare_body(rng, &right));
+    let (first, last) = (proved_kept(&left), proved_kept(&right));
+    let accepted = first.number == 0 && last.number == 0;
+    let proved = accepted.then_some(first.text == last.text);
+    let second = reader::same_addresses((&one.0, one.1, one.2), (&other.0, other.1, other.2));
+    if proved != second || (proved == Some(true) && first != last) {
+        break_law(&left, &right, "same addresses", &(proved, first, last), &second);
+    }
+    match second {
+        None => seen.unread += 1,
+        Some(true) => seen.same += 1,
+        Some(false) => seen.different += 1,
+    }
+    if numbers.0 != 0 { numbers.0 } else { numbers.1 }
+}
+
 /// Numbers given per kind: inputs, and how often each answer number came.
 struct Counts {
     inputs: u64,
@@ -271,7 +414,10 @@ struct Counts {
 }
 
 /// Makes one input of the kind, compares, and gives the answer number.
-fn one_input(rng: &mut Rng, seed: u64, kind: Kind) -> u64 {
+fn one_input(rng: &mut Rng, seed: u64, kind: Kind, seen: &mut Seen) -> u64 {
+    if kind == Kind::Pair {
+        return compare_pair(rng, seed, seen);
+    }
     let body = inputs::body(rng, kind);
     let whole = Case { seed, kind, message: &body, start: 0, end: body.len() };
     match kind {
@@ -285,6 +431,9 @@ fn one_input(rng: &mut Rng, seed: u64, kind: Kind) -> u64 {
             let (message, start, end) = inputs::place(rng, body);
             let case = Case { seed, kind, message: &message, start, end };
             compare_reply(&case, b"x");
+            if kind == Kind::Exchange {
+                return compare_exchange(rng, &case, seen);
+            }
             let list = compare_body(rng, &case);
             match kind {
                 Kind::Date | Kind::DateMutant => reader::date(&message, start, end).0.number,
@@ -315,15 +464,20 @@ fn main() {
     let mut rng = Rng::new(seed);
     let mut counts: Vec<Counts> =
         inputs::KINDS.iter().map(|_| Counts { inputs: 0, numbers: [0; 15] }).collect();
+    let mut seen = Seen::default();
     let begin = Instant::now();
     let mut total = 0u64;
     while begin.elapsed() < Duration::from_secs(seconds) {
         let chosen = inputs::choose(&mut rng);
-        let number = one_input(&mut rng, seed, inputs::KINDS[chosen]);
+        let number = one_input(&mut rng, seed, inputs::KINDS[chosen], &mut seen);
         counts[chosen].inputs += 1;
         counts[chosen].numbers[number as usize] += 1;
         total += 1;
     }
     print_counts(&counts);
+    if !seen.print() && seconds >= LONG_ENOUGH {
+        println!("{total} inputs, and one of these never came");
+        std::process::exit(1);
+    }
     println!("{total} inputs, all agree");
 }

@@ -276,6 +276,61 @@ pub fn scan(message: &[u8], start: usize, end: usize) -> Told {
     }
 }
 
+/// The comments of a body, nested ones too, that are closed before the first
+/// fault of scanning: start and end of each, in the order of their ends.
+pub fn comments(message: &[u8], start: usize, end: usize) -> Vec<(usize, usize)> {
+    let mut spans = Vec::new();
+    if message.len() <= LONGEST && start <= end && end <= message.len() {
+        let bytes = unfold(message, start, end);
+        let mut open = Vec::new();
+        let mut i = Some(0);
+        while let Some(at) = i.filter(|at| *at < bytes.len()) {
+            i = if open.is_empty() {
+                outer_step(&bytes, at, &mut open)
+            } else {
+                comment_step(&bytes, at, &mut open, &mut spans)
+            };
+        }
+    }
+    spans
+}
+
+/// One step outside comments: the index behind a quoted-string or a byte,
+/// `None` at a fault. The place of a "(" goes into `open`.
+fn outer_step(bytes: &[Placed], i: usize, open: &mut Vec<usize>) -> Option<usize> {
+    match bytes[i] {
+        (_, b'"') => return quoted(bytes, i).ok().map(|found| found.1),
+        (_, 0..=8 | 10..=31 | 127..=255) => return None,
+        (place, b'(') => open.push(place),
+        _ => {}
+    }
+    Some(i + 1)
+}
+
+/// One step inside a comment, `open` having the place of each open "(".
+fn comment_step(
+    bytes: &[Placed],
+    i: usize,
+    open: &mut Vec<usize>,
+    spans: &mut Vec<(usize, usize)>,
+) -> Option<usize> {
+    let (byte, taken, next) = inner_step(bytes, i).ok().flatten()?;
+    let place = bytes[i].0;
+    match (byte, taken) {
+        (b'(', false) => open.push(place),
+        (b')', false) => spans.extend(open.pop().map(|start| (start, place + 1))),
+        _ => {}
+    }
+    Some(next)
+}
+
+/// Whether the bytes scan alone, without fault, to no symbol and to one
+/// comment from the first byte to the last.
+pub fn is_comment(bytes: &[u8]) -> bool {
+    let no_symbol = symbols(bytes, 0, bytes.len()).is_ok_and(|found| found.is_empty());
+    no_symbol && comments(bytes, 0, bytes.len()).contains(&(0, bytes.len()))
+}
+
 // ------------------------------------------------------------- addresses
 
 #[derive(Clone, Copy, Debug, PartialEq, Eq)]
@@ -612,6 +667,53 @@ pub fn plain(message: &[u8], start: usize, end: usize, text: &mut [u8]) -> Told 
         Err(fault) => refused(fault),
         Ok(reading) => hand_over(&list_text(&reading, &reading.roots), 1, text),
     }
+}
+
+// ------------------------------------------------------- equal addresses
+
+/// A message with the start and end of a body.
+pub type Body<'a> = (&'a [u8], usize, usize);
+
+/// Whether two bodies have the same addresses: kinds, nesting, names and
+/// nodes, word by word, by their trees. `None` if one is not accepted.
+pub fn same_addresses(one: Body, other: Body) -> Option<bool> {
+    let one = read(one.0, one.1, one.2).ok()?;
+    let other = read(other.0, other.1, other.2).ok()?;
+    Some(same_members(&one, &one.roots, &other, &other.roots))
+}
+
+/// Whether two lists have as many addresses, each the same as its partner.
+fn same_members(one: &Reading, left: &[usize], other: &Reading, right: &[usize]) -> bool {
+    let mut pairs = left.iter().zip(right);
+    left.len() == right.len()
+        && pairs.all(|(a, b)| same_address(one, &one.tree[*a], other, &other.tree[*b]))
+}
+
+/// Whether two addresses have the same kind, name, nodes and members.
+fn same_address(one: &Reading, left: &Address, other: &Reading, right: &Address) -> bool {
+    kind(one, left) == kind(other, right)
+        && words(one, left) == words(other, right)
+        && nodes(one, left) == nodes(other, right)
+        && same_members(one, &left.members, other, &right.members)
+}
+
+/// A word: whether it is quoted, and its meaning.
+type Word<'a> = (bool, &'a [u8]);
+
+/// An atom or quoted-string as a word.
+fn word(symbol: &Symbol) -> Word<'_> {
+    (symbol.sort == Sort::Quoted, &symbol.meaning)
+}
+
+/// The words of a name; `None` where there is no name.
+fn words<'a>(reading: &'a Reading, address: &Address) -> Option<Vec<Word<'a>>> {
+    let (from, behind) = address.name?;
+    Some(reading.symbols[from..behind].iter().map(word).collect())
+}
+
+/// The nodes of a mailbox; none of any other address.
+fn nodes<'a>(reading: &'a Reading, address: &Address) -> Vec<Word<'a>> {
+    address.nodes.iter().map(|node| word(&reading.symbols[*node])).collect()
 }
 
 // ----------------------------------------------------------------- dates

@@ -32,11 +32,20 @@ pub data Judged (message : List ℕ) (start end : ℕ) : Type 0 where
   refusedAt : (n p : ℕ) → ((written : List ℕ → Derivation → Outcome) (lent : List ℕ) → outcomeBy written message start end lent ≡ refusal lent n p) → Judged message start end
   listed : (k : Derivation) → ListBody message start end k → Judged message start end
 
+module _ (message : List ℕ) (start end : ℕ) (short : length message ≤ messageLimit) (ordered : start ≤ end) (inside : end ≤ length message) where
+  -- a fault of scanning is refused ..
+  pub faulty-outcome : {n p : ℕ} → Refused n p ≡ faultOf (scan (take end message) start) → (written : List ℕ → Derivation → Outcome) (lent : List ℕ) → outcomeBy written message start end lent ≡ refusal lent n p
+  faulty-outcome e written lent = in-order (refusal lent) message start end _ short ordered inside ∙ unless-refused (refusal lent) (scan (take end message) start) _ e
+
+  -- .. and where there is none, the verdict on the symbols decides
+  pub decided-outcome : faultOf (scan (take end message) start) ≡ Accepted 0 → {v : Verdict Class Derivation} → answer levelLimit (bodySymbols message start end) ≡ v
+      → (written : List ℕ → Derivation → Outcome) (lent : List ℕ) → outcomeBy written message start end lent ≡ decidedBy written end lent v
+  decided-outcome f e written lent =
+      in-order (refusal lent) message start end _ short ordered inside ∙ unless-none (refusal lent) (scan (take end message) start) _ f ∙ ap (decidedBy written end lent) e
+
 -- of a list it is written what is to be written of its derivation
 pub listed-outcome : {message : List ℕ} {start end : ℕ} {k : Derivation} → ListBody message start end k → (written : List ℕ → Derivation → Outcome) (lent : List ℕ) → outcomeBy written message start end lent ≡ written lent k
-listed-outcome {message} {start} {end} b written lent =
-    in-order (refusal lent) message start end _ (b .short) (b .ordered) (b .inside) ∙ unless-none (refusal lent) (scan (take end message) start) _ (b .faultless)
-    ∙ ap (decidedBy written end lent) (answer-accepts levelLimit (b .list .derived) (b .list .within))
+listed-outcome {message} {start} {end} b written lent = decided-outcome message start end (b .short) (b .ordered) (b .inside) (b .faultless) (answer-accepts levelLimit (b .list .derived) (b .list .within)) written lent
 
 -- a scan has a first fault or none
 data FaultCase (r : Answer) : Type 0 where
@@ -60,13 +69,11 @@ module _ (message : List ℕ) (start end : ℕ) where
         let d = answer-derives levelLimit {xs = bodySymbols message start end} e in
         listed k (record { short = h; ordered = i; inside = l; faultless = n; list = record { derived = d .0; within = d .1 } })
     by-verdict n (refused why rest) e =
-        refusedAt (number why) (positionOf end rest)
-        (λ w o. in-order (refusal o) message start end _ h i l ∙ unless-none (refusal o) (scan (take end message) start) _ n ∙ ap (decidedBy w end o) e)
+        refusedAt (number why) (positionOf end rest) (decided-outcome message start end h i l n e)
 
     by-fault : FaultCase (faultOf (scan (take end message) start)) → Judged message start end
     by-fault (faultless e) = by-verdict e _ refl
-    by-fault (faulty n p e) =
-        refusedAt n p (λ w o. in-order (refusal o) message start end _ h i l ∙ unless-refused (refusal o) (scan (take end message) start) _ e)
+    by-fault (faulty n p e) = refusedAt n p (faulty-outcome message start end h i l e)
 
   by-checks : (a b c : Bool) → ltb messageLimit (length message) ≡ a → ltb end start ≡ b → ltb (length message) end ≡ c → Judged message start end
   by-checks true b c x y z = refusedAt messageTooLong messageLimit (λ w o. too-long (refusal o) message start end _ (ltb-true _ _ x))

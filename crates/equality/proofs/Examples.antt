@@ -1,0 +1,68 @@
+-- Examples of comments and of places where one may stand, by evaluation of the definitions; worked out from document 01, "Symbols". Assumes nothing.
+use Prim.Native.Nat.{ℕ}
+use mathlib.Core.Path.{_≡_, refl}
+use mathlib.Core.Bool.{true, false}
+use mathlib.Core.List.{List, [], _∷_, _++_}
+use Rattle.octets.specs.Classes.{classOf, classTable}
+use Rattle.octets.specs.Letters.{lower, same}
+use Rattle.octets.specs.Octets.{lineFeedByte, returnByte}
+use Rattle.octets.specs.Text.{bytes}
+use Rattle.scanner.specs.Kinds.{kindOf}
+use Rattle.scanner.specs.Characters.{charactersFrom}
+use Rattle.equality.specs.Comments.{isComment, commentMayFollow}
+
+data Row : Type 0 where
+  -- bytes that are one comment, and bytes that are not
+  comment noComment : List ℕ → Row
+  -- a text whose body starts at a position, behind which a comment may stand, and one behind which none may
+  place noPlace : List ℕ → ℕ → Row
+
+abbrev Holds : Row → Type 0
+Holds (comment b) = isComment b ≡ true
+Holds (noComment b) = isComment b ≡ false
+Holds (place text start) = commentMayFollow text start ≡ true
+Holds (noPlace text start) = commentMayFollow text start ≡ false
+
+abbrev AllHold : List Row → Type 0
+AllHold [] = Unit {0}
+AllHold (row ∷ rows) = Holds row × AllHold rows
+
+-- two texts with CRLF between them
+abbrev folded : List ℕ → List ℕ → List ℕ
+folded front back = front ++ (returnByte ∷ lineFeedByte ∷ back)
+
+abbrev rows : List Row
+rows =
+    comment (bytes "()")
+    -- a comment in it; a quote is data
+    ∷ comment (bytes "(a(b)\")")
+    -- a backslash takes the next byte
+    ∷ comment (bytes "(\\)\\()")
+    -- a fold; CRLF behind a backslash is no fold, and the backslash takes the CR
+    ∷ comment (folded (bytes "(") (bytes " )"))
+    ∷ comment (folded (bytes "(\\") (bytes ")"))
+    -- no byte, no "(", no ")"
+    ∷ noComment []
+    ∷ noComment (bytes "x")
+    ∷ noComment (bytes "(a")
+    ∷ noComment (bytes "(\\)")
+    -- more than one comment, or more than a comment
+    ∷ noComment (bytes "(a)(b)")
+    ∷ noComment (bytes "(a) ")
+    -- a stray CR
+    ∷ noComment (folded (bytes "(") (bytes ")"))
+    -- outside, in an atom, in a comment, behind a quoted-string
+    ∷ place [] 0
+    ∷ place (bytes "To: a at") 3
+    ∷ place (bytes "a (b(\\\\") 0
+    ∷ place (bytes "\"(\"") 0
+    -- in a quoted-string, behind a backslash there, behind one in a comment, behind a fault
+    ∷ noPlace (bytes "\"a") 0
+    ∷ noPlace (bytes "\"a\\") 0
+    ∷ noPlace (bytes "(a\\") 0
+    ∷ noPlace (folded (bytes "a") []) 0
+    ∷ []
+
+rows-hold : AllHold rows
+unfolding charactersFrom kindOf classOf classTable lower same
+rows-hold = (refl, (refl, (refl, (refl, (refl, (refl, (refl, (refl, (refl, (refl, (refl, (refl, (refl, (refl, (refl, (refl, (refl, (refl, (refl, (refl, tt))))))))))))))))))))

@@ -1,0 +1,15 @@
+-- Laws of document 02, CR 14.
+pub mod ByteMoves
+pub mod InComments
+pub mod Splits
+pub mod LastBytes
+pub mod Shifts
+pub mod Through
+pub mod Exchanges
+pub mod EveryComment
+pub mod Relabels
+pub mod Verdicts
+pub mod AlikeBodies
+pub mod CardLaws
+pub mod CommentLaws
+pub mod Examples

@@ -1,0 +1,104 @@
+-- Symbols of the same classes and meanings get the same verdict: the number of a refusal does not depend on positions. Assumes nothing.
+use Prim.Native.Nat.{ℕ}
+use mathlib.Core.Path.{_≡_, refl, sym, ap, _∙_}
+use mathlib.Core.List.{List, [], _∷_, _++_}
+use Rattle.grammar.specs.Grammar.{levels}
+use Rattle.grammar.specs.Language.{AtMost, MoreThan, upTo, GoesOn, FirstRefused, Refusal, unfit, unfinished, tooDeep, refused, Right}
+use Rattle.grammar.specs.Rfc733.{Derivation, DerivedList, RightWithin}
+use Rattle.grammar.proofs.Condition3.{answer, answer-right, answer-only}
+use Rattle.grammar.proofs.Trees.{Sym}
+use Rattle.equality.proofs.Shifts.{AlikeSymbol, AlikeSymbols, no-symbol, one-symbol, same-symbols}
+use Rattle.equality.proofs.Relabels.{derived-alike}
+
+-- ---- symbols that are alike, turned round, put together and taken apart
+
+turned-symbol : {x y : Sym} → AlikeSymbol x y → AlikeSymbol y x
+turned-symbol a = record { class = sym (a .class); meaning = sym (a .meaning) }
+
+turned : {xs ys : List Sym} → AlikeSymbols xs ys → AlikeSymbols ys xs
+turned no-symbol = no-symbol
+turned (one-symbol x a) = one-symbol (turned-symbol x) (turned a)
+
+together : {xs ys vs ws : List Sym} → AlikeSymbols xs ys → AlikeSymbols vs ws → AlikeSymbols (xs ++ vs) (ys ++ ws)
+together no-symbol b = b
+together (one-symbol x a) b = one-symbol x (together a b)
+
+-- symbols alike to `before`, one alike to `x`, and others
+record Apart (before : List Sym) (x : Sym) (ys : List Sym) : Type 0 where
+  front : List Sym
+  y : Sym
+  behind : List Sym
+  is : ys ≡ front ++ (y ∷ behind)
+  alike-front : AlikeSymbols before front
+  alike-y : AlikeSymbol x y
+
+apart : (before : List Sym) (x : Sym) (after ys : List Sym) → AlikeSymbols (before ++ (x ∷ after)) ys → Apart before x ys
+apart [] x after ys (one-symbol {y = y} {ys = zs} h a) = record { front = []; y = y; behind = zs; is = refl; alike-front = no-symbol; alike-y = h }
+apart (w ∷ before) x after ys (one-symbol {y = y} {ys = zs} h a) =
+    let r = apart before x after zs a in
+    record { front = y ∷ r .front; y = r .y; behind = r .behind; is = ap (λ l. y ∷ l) (r .is); alike-front = one-symbol h (r .alike-front); alike-y = r .alike-y }
+
+alike-up-to : {p q : List Sym} {x y : Sym} → AlikeSymbols p q → AlikeSymbol x y → AlikeSymbols (upTo p x) (upTo q y)
+alike-up-to a h = together a (one-symbol h no-symbol)
+
+-- ---- over any notion that derives alike symbols alike
+
+-- a derivation of other symbols, of as many levels
+record Carried {T : Type 0} (Derives : T → List Sym → Type 0) (deep : T → ℕ) (t : T) (ys : List Sym) : Type 0 where
+  again : T
+  derived : Derives again ys
+  same : deep again ≡ deep t
+
+module _ {T : Type 0} (Derives : T → List Sym → Type 0) (deep : T → ℕ) (carry : (t : T) (xs ys : List Sym) → Derives t xs → AlikeSymbols xs ys → Carried Derives deep t ys) where
+  goes-on : (Levels : ℕ → Type 0) {xs ys : List Sym} → AlikeSymbols xs ys → GoesOn Derives deep Levels xs → GoesOn Derives deep Levels ys
+  goes-on Levels {xs} {ys} a g =
+      let c = carry (g .derivation) (xs ++ g .more) (ys ++ g .more) (g .derived) (together a (same-symbols (g .more))) in
+      record { more = g .more; derivation = c .again; derived = c .derived; counted = rw (c .same) (g .counted) }
+
+  module _ (limit : ℕ) where
+    -- the first refused symbol of the one, and that of the other
+    record FirstToo {xs rest : List Sym} (f : FirstRefused Derives deep limit xs rest) (ys : List Sym) : Type 0 where
+      place : List Sym
+      first : FirstRefused Derives deep limit ys place
+      alike : AlikeSymbols (upTo (f .before) (f .x)) (upTo (first .before) (first .x))
+
+    first-too : {xs rest ys : List Sym} (f : FirstRefused Derives deep limit xs rest) → AlikeSymbols xs ys → FirstToo f ys
+    first-too {xs} {rest} {ys} f a =
+        let e : xs ≡ f .before ++ (f .x ∷ f .after) = f .splits ∙ ap (λ l. f .before ++ l) (f .place) in
+        let r = apart (f .before) (f .x) (f .after) ys (rw e at a) in
+        let u = alike-up-to (r .alike-front) (r .alike-y) in
+        record {
+          place = r .y ∷ r .behind;
+          first =
+              record {
+                before = r .front;
+                x = r .y;
+                after = r .behind;
+                place = refl;
+                splits = r .is;
+                earlier =
+                    λ p y q h.
+                    let s = apart p y q (f .before) (rw h at (turned (r .alike-front))) in
+                    goes-on (AtMost limit) (turned (alike-up-to (s .alike-front) (s .alike-y))) (f .earlier (s .front) (s .y) (s .behind) (s .is));
+                here = λ g. f .here (goes-on (AtMost limit) (turned u) g);
+              };
+          alike = u;
+        }
+
+    right-too : {xs ys : List Sym} → AlikeSymbols xs ys → (why : Refusal) (rest : List Sym) → Right Derives deep limit xs (refused why rest) → (place : List Sym) × Right Derives deep limit ys (refused why place)
+    right-too a unfit rest r = let f = first-too (r .0) a in (f .place, (f .first, λ g. r .1 (goes-on (MoreThan limit) (turned (f .alike)) g)))
+    right-too a tooDeep rest r = let f = first-too (r .0) a in (f .place, (f .first, goes-on (MoreThan limit) (f .alike) (r .1)))
+    right-too a unfinished rest r =
+        ([], (refl, (λ place f. let g = first-too f (turned a) in r .1 (g .place) (g .first)), λ t d n. let c = carry t _ _ d (turned a) in r .2 (c .again) (c .derived) (rw (c .same) n)))
+
+-- ---- for the address rules
+
+carried : (k : Derivation) (xs ys : List Sym) → DerivedList k xs → AlikeSymbols xs ys → Carried DerivedList levels k ys
+carried k xs ys d a = let c = derived-alike d a in record { again = c .again; derived = c .derived; same = c .deep }
+
+-- a refusal stays, for the same reason
+pub refused-alike : (limit : ℕ) {xs ys : List Sym} → AlikeSymbols xs ys → (why : Refusal) (rest : List Sym) → answer limit xs ≡ refused why rest → (place : List Sym) × (answer limit ys ≡ refused why place)
+refused-alike limit {xs} {ys} a why rest e =
+    let r : RightWithin limit xs (refused why rest) = rw e at (answer-right limit xs) in
+    let (place, right) = right-too DerivedList levels carried limit a why rest r in
+    (place, sym (answer-only limit ys (refused why place) right))

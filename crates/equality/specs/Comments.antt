@@ -1,0 +1,78 @@
+-- Document 02, CR 14: "any comment .. scanning alone without fault": which bytes are a comment, and where in a body one may stand.
+use Prim.Native.Nat.{ℕ}
+use mathlib.Core.Bool.{Bool, true, false}
+use mathlib.Core.List.{List, [], _∷_}
+use mathlib.Core.Option.{Option, none, some}
+use lib.Dec.{eqb}
+use Rattle.octets.specs.Choice.{pick, both}
+use Rattle.octets.specs.Classes.{classTable}
+use Rattle.scanner.specs.Kinds.{characterKind}
+use Rattle.scanner.specs.Characters.{Character, character, charactersFrom, charactersAt}
+use Rattle.scanner.specs.Characters as characters
+use Rattle.scanner.specs.Scanning.{State, outside, inAtom, inQuoted, takingInQuoted, inComment, takingInComment, Move, go, halt, move}
+
+-- ---- where scanning stands
+
+-- the state that a move leads to, if it leads to no fault
+abbrev pub stateOf : Move → Option State
+stateOf (go symbols state) = some state
+stateOf (halt symbols number p) = none
+
+-- .. that a character leads to
+abbrev pub stateBehind : State → Character → Option State
+stateBehind state (character b p folded) = stateOf (move state (characterKind classTable b folded) b p)
+
+-- .. that characters lead to, one after the other
+abbrev pub stateAfter : List Character → State → Option State
+stateAfter [] state = some state
+stateAfter (c ∷ rest) state = elim (stateBehind state c) [ none ↦ none | some state′ ↦ stateAfter rest state′ ]
+
+-- ---- where a comment may stand
+
+-- a "(" opens a comment outside, in an atom, which it ends, and in a comment; not in a quoted-string nor behind a backslash
+abbrev pub opensComment : State → Bool
+opensComment outside = true
+opensComment (inAtom start end t) = true
+opensComment (inQuoted start t) = false
+opensComment (takingInQuoted start t) = false
+opensComment (inComment depth start) = true
+opensComment (takingInComment depth start) = false
+
+-- a comment may stand behind a text whose body starts at a position: scanning comes so far without fault, and a "(" opens one there
+abbrev pub commentMayFollow : List ℕ → ℕ → Bool
+commentMayFollow text start = elim (stateAfter (charactersAt text start) outside) [ none ↦ false | some state ↦ opensComment state ]
+
+-- ---- comments
+
+-- "("
+abbrev pub openByte : ℕ
+openByte = 40
+
+-- scanning stands outside of words and comments
+abbrev pub isOutside : State → Bool
+isOutside outside = true
+isOutside (inAtom start end t) = false
+isOutside (inQuoted start t) = false
+isOutside (takingInQuoted start t) = false
+isOutside (inComment depth start) = false
+isOutside (takingInComment depth start) = false
+
+-- no character is left
+abbrev pub isEmpty : List Character → Bool
+isEmpty [] = true
+isEmpty (c ∷ rest) = false
+
+-- behind a character of a comment: outside, and then no character is left; or still in it, and it is closed later
+abbrev pub closedBy : Option State → List Character → (State → Bool) → Bool
+closedBy none rest later = false
+closedBy (some state) rest later = pick (isOutside state) (isEmpty rest) (later state)
+
+-- from inside a comment on, the ")" that matches its "(" is the last of these characters, and there is no fault before
+abbrev pub closes : List Character → State → Bool
+closes [] state = false
+closes (c ∷ rest) state = closedBy (stateBehind state c) rest (λ state′. closes rest state′)
+
+-- these bytes, as a body of their own, are one comment from the first to the last
+abbrev pub isComment : List ℕ → Bool
+isComment [] = false
+isComment (b ∷ inside) = both (eqb b openByte) (closes (charactersFrom characters.none inside 1) (inComment 0 0))
