@@ -1,10 +1,9 @@
 -- Two bodies that scan alike are answered alike, by the reader and by the writer. Assumes nothing.
-use Prim.Native.Nat.{ℕ, suc, _+_, _≤_}
+use Prim.Native.Nat.{ℕ, _≤_}
 use native.Mathlib.Omega.{arith}
-use mathlib.Core.Path.{_≡_, refl, ap, _∙_}
+use mathlib.Core.Path.{_≡_, refl, ap}
 use mathlib.Core.Bool.{Bool, true, false}
 use mathlib.Core.List.{List, []}
-use mathlib.Core.Option.{Option, none, some}
 use lib.Dec.{ltb}
 use lib.ListN.{length, take}
 use lib.Seq.{sets}
@@ -14,7 +13,6 @@ use Rattle.octets.specs.Stored.{roomFor}
 use Rattle.octets.specs.declared.answers.Answer.the-variants.{Accepted, Refused, NoRoom}
 use Rattle.scanner.specs.Scanning.{Scanned, next, scan, symbolsOf}
 use Rattle.scanner.specs.Answers.{unlessFault, faultOf}
-use Rattle.grammar.specs.Grammar.{Makes, nil, leaf, branch}
 use Rattle.grammar.specs.Language.{Verdict, accepted, refused, number, positionOf}
 use Rattle.grammar.specs.Records.{count, records, tableBytes}
 use Rattle.grammar.specs.Rfc733.{Derivation}
@@ -23,7 +21,7 @@ use Rattle.grammar.proofs.Trees.{Class, Sym}
 use Rattle.addresses.specs.Condition3.{IsList}
 use Rattle.addresses.specs.Outcome.{Outcome, refusal, derived, bodySymbols, outcomeBy, outcome}
 use Rattle.addresses.proofs.Judgements.{ListBody, faulty-outcome, decided-outcome, listed-outcome}
-use Rattle.plain.specs.Meaning.{Addresses, noAddress, andAddress, Address, address, addressOf, addressesAfter, meaning}
+use Rattle.plain.specs.Meaning.{meaning}
 use Rattle.plain.specs.PlainText.{plainText, addressesText}
 use Rattle.plain.specs.Written.{written, plainOutcome}
 use Rattle.equality.specs.Exchange.{SameAnswer}
@@ -62,30 +60,6 @@ faultless-by (faulty n p q e f) h = absurd (let z : _≡_ {A = ℕ} 0 1 = cc in 
 pub faultless-too : {r s : Scanned} → AlikeScans r s → faultOf r ≡ Accepted 0 → faultOf s ≡ Accepted 0
 faultless-too a h = faultless-by (alike-faults a) h
 
--- ---- the count of records is that of the addresses meant
-
-abbrev mutual
-  size : Addresses → ℕ
-  size noAddress = 0
-  size (andAddress before last) = size before + sizeOf last
-
-  sizeOf : Address → ℕ
-  sizeOf (address kind name nodes members) = suc (size members)
-
-count-after : (k : Derivation) (before : Addresses) → size (addressesAfter before k) ≡ size before + count k
-count-after nil before = omega arith
-count-after (leaf x row) before = count-after row before
-count-after (branch rule parts row) before = by (rule .makes) (λ l. count-after parts l) (λ l. count-after row l)
-  where
-    by : (makes : Option Makes) → ((l : Addresses) → size (addressesAfter l parts) ≡ size l + count parts) → ((l : Addresses) → size (addressesAfter l row) ≡ size l + count row)
-        → size (addressesAfter (elim makes [ none ↦ addressesAfter before parts | some m ↦ andAddress before (addressOf m parts (addressesAfter noAddress parts)) ]) row)
-        ≡ size before + (elim makes [ none ↦ 0 | some m ↦ 1 ] + count parts + count row)
-    by none f g = g _ ∙ omega (arith, f before)
-    by (some m) f g = g _ ∙ omega (arith, f noAddress)
-
-same-count : (k j : Derivation) → meaning j ≡ meaning k → count k ≡ count j
-same-count k j e = omega (arith, count-after k noAddress, count-after j noAddress, ap size e)
-
 -- ---- two bodies that scan alike are answered alike
 
 -- the body of a message passes the checks 1 and 13
@@ -101,21 +75,23 @@ RefusedAt message start end n p = (w : List ℕ → Derivation → Outcome) (len
 -- both are refused with one number, or both are lists of the same addresses
 pub data Alike (message : List ℕ) (start end : ℕ) (other : List ℕ) (start′ end′ : ℕ) : Type 0 where
   both-refused : (n p q : ℕ) → RefusedAt message start end n p → RefusedAt other start′ end′ n q → Alike message start end other start′ end′
-  both-listed : (k j : Derivation) → ListBody message start end k → ListBody other start′ end′ j → meaning j ≡ meaning k → Alike message start end other start′ end′
+  both-listed : (k j : Derivation) → ListBody message start end k → ListBody other start′ end′ j → meaning j ≡ meaning k → count j ≡ count k → Alike message start end other start′ end′
 
 module _ {message other : List ℕ} {start end start′ end′ : ℕ} (c : Checked message start end) (d : Checked other start′ end′) (a : AlikeScans (scan (take end message) start) (scan (take end′ other) start′)) where
   -- a list is a list again
-  pub list-again : faultOf (scan (take end′ other) start′) ≡ Accepted 0 → {k : Derivation} → IsList (bodySymbols message start end) k → (j : Derivation) × ListBody other start′ end′ j × (meaning j ≡ meaning k)
+  pub list-again : faultOf (scan (take end′ other) start′) ≡ Accepted 0 → {k : Derivation} → IsList (bodySymbols message start end) k
+      → (j : Derivation) × ListBody other start′ end′ j × (meaning j ≡ meaning k) × (count j ≡ count k)
   list-again f l =
       let r = derived-alike (l .derived) (alike-symbols a) in
-      (r .again, record { short = d .short; ordered = d .ordered; inside = d .inside; faultless = f; list = record { derived = r .derived; within = omega (arith, r .deep, l .within) } }, r .means)
+      let again : IsList (bodySymbols other start′ end′) (r .again) = record { derived = r .derived; within = omega (arith, r .deep, l .within) } in
+      (r .again, record { short = d .short; ordered = d .ordered; inside = d .inside; faultless = f; list = again }, r .means, r .counted)
 
   by-verdict : faultOf (scan (take end message) start) ≡ Accepted 0 → faultOf (scan (take end′ other) start′) ≡ Accepted 0 → (v : Verdict Class Derivation) → answer levelLimit (bodySymbols message start end) ≡ v → Alike message start end other start′ end′
   by-verdict f g (accepted k) e =
       let (p, q) = answer-derives levelLimit {xs = bodySymbols message start end} e in
       let l : IsList (bodySymbols message start end) k = record { derived = p; within = q } in
-      let (j, b, m) = list-again g l in
-      both-listed k j (record { short = c .short; ordered = c .ordered; inside = c .inside; faultless = f; list = l }) b m
+      let (j, b, m, n) = list-again g l in
+      both-listed k j (record { short = c .short; ordered = c .ordered; inside = c .inside; faultless = f; list = l }) b m n
   by-verdict f g (refused why rest) e =
       let (place, e′) = refused-alike levelLimit (alike-symbols a) why rest e in
       both-refused (number why) (positionOf end rest) (positionOf end′ place) (decided-outcome message start end (c .short) (c .ordered) (c .inside) f e) (decided-outcome other start′ end′ (d .short) (d .ordered) (d .inside) g e′)
@@ -137,8 +113,8 @@ answer-of false n table u v = record { number = refl; count = refl }
 
 pub same-read : {message other : List ℕ} {start end start′ end′ : ℕ} → Alike message start end other start′ end′ → (table : List ℕ) → SameAnswer (outcome message start end table) (outcome other start′ end′ table)
 same-read (both-refused n p q f g) table = rw (f derived table, g derived table) (record { number = refl; count = refl })
-same-read (both-listed k j b b′ m) table =
-    rw (listed-outcome b derived table, listed-outcome b′ derived table, same-count k j m) (answer-of (ltb (roomFor addressRecordSize table) (count j)) (count j) table (sets table 0 (tableBytes (records k))) (sets table 0 (tableBytes (records j))))
+same-read (both-listed k j b b′ m n) table =
+    rw (listed-outcome b derived table, listed-outcome b′ derived table, n) (answer-of (ltb (roomFor addressRecordSize table) (count k)) (count k) table (sets table 0 (tableBytes (records k))) (sets table 0 (tableBytes (records j))))
 
 -- the plain text of the same addresses
 pub same-plain : (k j : Derivation) → meaning j ≡ meaning k → plainText j ≡ plainText k
@@ -146,8 +122,8 @@ same-plain k j m = ap (λ l. addressesText l []) m
 
 pub same-written : {message other : List ℕ} {start end start′ end′ : ℕ} → Alike message start end other start′ end′ → (lent : List ℕ) → SameAnswer (plainOutcome message start end lent) (plainOutcome other start′ end′ lent)
 same-written (both-refused n p q f g) lent = rw (f written lent, g written lent) (record { number = refl; count = refl })
-same-written (both-listed k j b b′ m) lent = rw (listed-outcome b written lent, listed-outcome b′ written lent, same-plain k j m) (record { number = refl; count = refl })
+same-written (both-listed k j b b′ m n) lent = rw (listed-outcome b written lent, listed-outcome b′ written lent, same-plain k j m) (record { number = refl; count = refl })
 
 pub same-text : {message other : List ℕ} {start end start′ end′ : ℕ} → Alike message start end other start′ end′ → (lent : List ℕ) → plainOutcome message start end lent .table ≡ plainOutcome other start′ end′ lent .table
 same-text (both-refused n p q f g) lent = rw (f written lent, g written lent)
-same-text (both-listed k j b b′ m) lent = rw (listed-outcome b written lent, listed-outcome b′ written lent, same-plain k j m)
+same-text (both-listed k j b b′ m n) lent = rw (listed-outcome b written lent, listed-outcome b′ written lent, same-plain k j m)

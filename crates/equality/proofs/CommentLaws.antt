@@ -34,7 +34,7 @@ module _ (place : Place) (may : MayHoldComment place) where
     still-accepted k a =
         let l : IsList (bodySymbols (messageWith place one) (place .start) (endWith place one)) k = record { derived = a .derived; within = a .within } in
         let b = scanned-body (messageWith place one) (place .start) (endWith place one) (a .scans) l in
-        let (j, r, m) = list-again (checked one c) (checked other d) scans (faultless-too scans (b .faultless)) l in
+        let (j, r, m, n) = list-again (checked one c) (checked other d) scans (faultless-too scans (b .faultless)) l in
         record {
           again = j;
           accepted = record { scans = list-scanned _ _ _ r; derived = r .list .derived; within = r .list .within };

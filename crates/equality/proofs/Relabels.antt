@@ -1,200 +1,130 @@
--- Symbols of the same classes and meanings are derived alike: with the same addresses and the same levels. Assumes nothing.
-use Prim.Native.Nat.{suc, max}
+-- Symbols of the same classes and meanings are derived alike: by the same rules, with the same addresses and the same levels. Assumes nothing.
+use Prim.Native.Nat.{ℕ, zero, suc, _+_, max}
 use mathlib.Core.Path.{_≡_, refl, sym, ap, ap₂, _∙_}
-use mathlib.Core.Bool.{Bool, false}
-use mathlib.Core.List.{List, [], _∷_}
+use mathlib.Core.Bool.{Bool}
+use mathlib.Core.List.{List, [], _∷_, _++_}
 use mathlib.Core.Option.{Option, none, some}
-use Rattle.grammar.specs.Grammar.{levels}
+use Rattle.octets.specs.Choice.{pick, both}
+use Rattle.grammar.specs.Grammar.{Item, Makes, Rule, Grammar, Row, nil, leaf, branch, yieldThen, yield, levels, begins, Allowed, Fits, done, take, apply}
+use Rattle.grammar.specs.Records.{meaningOf, partOf, nameOf, count}
 use Rattle.grammar.specs.Rfc733.{Derivation, DerivedList}
-use Rattle.grammar.proofs.Trees.{Class, Atom, Quoted, At, LessThan, GreaterThan, Comma, Semicolon, Colon, Lexeme, Sym, of, Word, atomWord, quotedWord, Phrase, one, more, Nodes, first, Place, empty, comma, AddressList, idle, full, Address, mailbox, angle, group, quoted, typed, wordSymbol, phraseThen, nameThen, nodesThen, placeThen, listThen, addressThen, houseRule, placeLawful, listLawful, addressLawful, placeLevels, listLevels, addressLevels}
-use Rattle.grammar.proofs.Trees as trees
-use Rattle.grammar.proofs.HouseRule.{oneAtom, atomNamed, atomGroup, placeAtomGroup, listAtomGroup, atomColon-list}
-use Rattle.grammar.proofs.Rows.{asRow, row-levels, row-derived, tree-derived}
-use Rattle.plain.specs.Meaning.{atom, quotedString, noAddress, noWord, andWord, andAddress, address, meaning}
-use Rattle.plain.proofs.TreeMeanings.{wordMeaning, phraseMeaning, nameMeaning, nodesMeaning, placeMeaning, listMeaning, addressMeaning, typedMeaning, meaning-row}
-use Rattle.equality.proofs.Shifts.{AlikeSymbols, no-symbol, one-symbol}
+use Rattle.grammar.proofs.Trees.{Class, Sym}
+use Rattle.plain.specs.Meaning.{noWord, andSymbol, Words, wordsAfter, Addresses, noAddress, andAddress, addressOf, addressesAfter, meaning}
+use Rattle.equality.proofs.Shifts.{AlikeSymbols, no-symbol, one-symbol, AlikeSymbol}
 
--- ---- a tree over other symbols
+-- ---- rows of the same rules over alike symbols
 
-record Relabelled {T : Type 0} (then : T → List Sym → List Sym) (P : T → Type 0) (xs ys : List Sym) : Type 0 where
-  tree : T
+data AlikeRows {N : Type 0} : Row Class N → Row Class N → Type 0 where
+  nils : AlikeRows nil nil
+  leaves : {x y : Sym} {row row′ : Row Class N} → AlikeSymbol x y → AlikeRows row row′ → AlikeRows (leaf x row) (leaf y row′)
+  branches : (rule : Rule Class N) {parts parts′ row row′ : Row Class N} → AlikeRows parts parts′ → AlikeRows row row′ → AlikeRows (branch rule parts row) (branch rule parts′ row′)
+
+-- other symbols, alike to those of a row and then others: a row over them, and the rest
+record Relabelled {N : Type 0} (row : Row Class N) (xs ys : List Sym) : Type 0 where
+  again : Row Class N
   rest : List Sym
-  is : ys ≡ then tree rest
+  is : ys ≡ yieldThen again rest
+  alike : AlikeRows row again
   left : AlikeSymbols xs rest
-  alike : P tree
 
--- a symbol
-mark : (c : Class) (t : Lexeme) (xs ys : List Sym) → AlikeSymbols (of c t ∷ xs) ys → Relabelled (λ u zs. of c u ∷ zs) (λ u. u .meaning ≡ t .meaning) xs ys
-mark c t xs ys (one-symbol {y = y} {ys = zs} x a) = record { tree = y .lexeme; rest = zs; is = ap (λ d. of d (y .lexeme) ∷ zs) (x .class); left = a; alike = x .meaning }
+relabelled : {N : Type 0} (row : Row Class N) (xs ys : List Sym) → AlikeSymbols (yieldThen row xs) ys → Relabelled row xs ys
+relabelled nil xs ys a = record { again = nil; rest = ys; is = refl; alike = nils; left = a }
+relabelled (leaf x row) xs ys (one-symbol {y = y} {ys = zs} h a) =
+    let r = relabelled row xs zs a in
+    record { again = leaf y (r .again); rest = r .rest; is = ap (λ l. y ∷ l) (r .is); alike = leaves h (r .alike); left = r .left }
+relabelled (branch rule parts row) xs ys a =
+    let p = relabelled parts (yieldThen row xs) ys a in
+    let r = relabelled row xs (p .rest) (p .left) in
+    record { again = branch rule (p .again) (r .again); rest = r .rest; is = p .is ∙ ap (yieldThen (p .again)) (r .is); alike = branches rule (p .alike) (r .alike); left = r .left }
 
-word : (w : Word) (xs ys : List Sym) → AlikeSymbols (wordSymbol w ∷ xs) ys → Relabelled (λ v zs. wordSymbol v ∷ zs) (λ v. wordMeaning v ≡ wordMeaning w) xs ys
-word (atomWord t) xs ys a =
-    let m = mark Atom t xs ys a in record { tree = atomWord (m .tree); rest = m .rest; is = m .is; left = m .left; alike = ap atom (m .alike) }
-word (quotedWord t) xs ys a =
-    let m = mark Quoted t xs ys a in record { tree = quotedWord (m .tree); rest = m .rest; is = m .is; left = m .left; alike = ap quotedString (m .alike) }
+-- ---- they have the same levels and as many addresses, and fit the same items of a grammar
 
-abbrev SamePhrase : Phrase → Phrase → Type 0
-SamePhrase p q = (phraseMeaning q ≡ phraseMeaning p) × (oneAtom q ≡ oneAtom p)
+same-begins : (same : Class → Class → Bool) (cs : List Class) {xs ys : List Sym} → AlikeSymbols xs ys → begins same cs ys ≡ begins same cs xs
+same-begins same [] a = refl
+same-begins same (c ∷ cs) no-symbol = refl
+same-begins same (c ∷ cs) (one-symbol h a) = ap₂ (λ d t. both (same c d) t) (h .class) (same-begins same cs a)
 
-phrase-one : (w : Word) (xs ys : List Sym) → AlikeSymbols (wordSymbol w ∷ xs) ys → Relabelled phraseThen (SamePhrase (one w)) xs ys
-phrase-one (atomWord t) xs ys a =
-    let m = mark Atom t xs ys a in record { tree = one (atomWord (m .tree)); rest = m .rest; is = m .is; left = m .left; alike = (ap (λ z. andWord noWord (atom z)) (m .alike), refl) }
-phrase-one (quotedWord t) xs ys a =
-    let m = mark Quoted t xs ys a in record { tree = one (quotedWord (m .tree)); rest = m .rest; is = m .is; left = m .left; alike = (ap (λ z. andWord noWord (quotedString z)) (m .alike), refl) }
+still-allowed : (same : Class → Class → Bool) (never : Option (List Class)) {xs ys : List Sym} → AlikeSymbols xs ys → Allowed same never xs → Allowed same never ys
+still-allowed same none a h = tt
+still-allowed same (some cs) a h = same-begins same cs a ∙ h
 
-phrase : (p : Phrase) (xs ys : List Sym) → AlikeSymbols (phraseThen p xs) ys → Relabelled phraseThen (SamePhrase p) xs ys
-phrase (one w) xs ys a = phrase-one w xs ys a
-phrase (more p w) xs ys a =
-    let m = phrase p (wordSymbol w ∷ xs) ys a in
-    let v = word w xs (m .rest) (m .left) in
-    record { tree = more (m .tree) (v .tree); rest = v .rest; is = m .is ∙ ap (phraseThen (m .tree)) (v .is); left = v .left; alike = (ap₂ andWord (m .alike .0) (v .alike), refl) }
+module _ {N : Type 0} where
+  same-levels : {row row′ : Row Class N} → AlikeRows row row′ → levels row′ ≡ levels row
+  same-levels nils = refl
+  same-levels (leaves h a) = same-levels a
+  same-levels (branches rule p a) = ap₂ (λ m n. max (pick (rule .opens) 1 0 + m) n) (same-levels p) (same-levels a)
 
-abbrev SameName : Option Phrase → Option Phrase → Type 0
-SameName o q = (nameMeaning q ≡ nameMeaning o) × (atomNamed q ≡ atomNamed o) × ((xs : List Sym) → houseRule o xs → (ys : List Sym) → (houseRule none xs → houseRule none ys) → houseRule q ys)
+  same-count : {row row′ : Row Class N} → AlikeRows row row′ → count row′ ≡ count row
+  same-count nils = refl
+  same-count (leaves h a) = same-count a
+  same-count (branches rule p a) = ap₂ (λ m n. elim (rule .makes) [ none ↦ 0 | some makes ↦ 1 ] + m + n) (same-count p) (same-count a)
 
-name : (o : Option Phrase) (xs ys : List Sym) → AlikeSymbols (nameThen o xs) ys → Relabelled nameThen (SameName o) xs ys
-name none xs ys a = record { tree = none; rest = ys; is = refl; left = a; alike = (refl, refl, λ zs h ws f. f h) }
-name (some p) xs ys a = let m = phrase p xs ys a in record { tree = some (m .tree); rest = m .rest; is = m .is; left = m .left; alike = (m .alike .0, m .alike .1, λ zs h ws f. tt) }
+  alike-yields : {row row′ : Row Class N} → AlikeRows row row′ → {xs ys : List Sym} → AlikeSymbols xs ys → AlikeSymbols (yieldThen row xs) (yieldThen row′ ys)
+  alike-yields nils b = b
+  alike-yields (leaves h a) b = one-symbol h (alike-yields a b)
+  alike-yields (branches rule p a) b = alike-yields p (alike-yields a b)
 
-nodes : (n : Nodes) (xs ys : List Sym) → AlikeSymbols (nodesThen n xs) ys → Relabelled nodesThen (λ q. nodesMeaning q ≡ nodesMeaning n) xs ys
-nodes (first t w) xs ys a =
-    let m = mark At t (wordSymbol w ∷ xs) ys a in
-    let v = word w xs (m .rest) (m .left) in
-    record { tree = first (m .tree) (v .tree); rest = v .rest; is = m .is ∙ ap (λ zs. of At (m .tree) ∷ zs) (v .is); left = v .left; alike = ap (andWord noWord) (v .alike) }
-nodes (trees.next n t w) xs ys a =
-    let k = nodes n (of At t ∷ wordSymbol w ∷ xs) ys a in
-    let m = mark At t (wordSymbol w ∷ xs) (k .rest) (k .left) in
-    let v = word w xs (m .rest) (m .left) in
-    record { tree = trees.next (k .tree) (m .tree) (v .tree); rest = v .rest; is = k .is ∙ ap (nodesThen (k .tree)) (m .is ∙ ap (λ zs. of At (m .tree) ∷ zs) (v .is)); left = v .left; alike = ap₂ andWord (k .alike) (v .alike) }
+  fits-too : {G : Grammar Class N} {items : List (Item Class N)} {row row′ : Row Class N} → Fits G items row → AlikeRows row row′ → Fits G items row′
+  fits-too done nils = done
+  fits-too (take e f) (leaves h a) = take (h .class ∙ e) (fits-too f a)
+  fits-too {G} (apply m f l g) (branches rule p a) = apply m (fits-too f p) (still-allowed (G .same) (rule .never) (alike-yields p no-symbol) l) (fits-too g a)
 
-record SamePlace (r q : Place) : Type 0 where
-  means : placeMeaning q ≡ placeMeaning r
-  deep : placeLevels q ≡ placeLevels r
-  grouped : (x : Bool) → placeAtomGroup q x ≡ placeAtomGroup r x
-  lawful : placeLawful r → placeLawful q
+  -- ---- and the same parts
 
-record SameList (l q : AddressList) : Type 0 where
-  means : listMeaning q ≡ listMeaning l
-  deep : listLevels q ≡ listLevels l
-  grouped : listAtomGroup q ≡ listAtomGroup l
-  lawful : listLawful l → listLawful q
+  alike-parts : (i : ℕ) {row row′ : Row Class N} → AlikeRows row row′ → AlikeSymbols (partOf i row) (partOf i row′)
+  alike-parts zero nils = no-symbol
+  alike-parts zero (leaves h a) = one-symbol h no-symbol
+  alike-parts zero (branches rule p a) = alike-yields p no-symbol
+  alike-parts (suc i) nils = no-symbol
+  alike-parts (suc i) (leaves h a) = alike-parts i a
+  alike-parts (suc i) (branches rule p a) = alike-parts i a
 
-record SameAddress (a q : Address) : Type 0 where
-  means : addressMeaning q ≡ addressMeaning a
-  deep : addressLevels q ≡ addressLevels a
-  grouped : atomGroup q ≡ atomGroup a
-  lawful : addressLawful a → addressLawful q
+  alike-names : (name : Option ℕ) {row row′ : Row Class N} → AlikeRows row row′ → AlikeSymbols (nameOf name row) (nameOf name row′)
+  alike-names none a = no-symbol
+  alike-names (some i) a = alike-parts i a
 
-mutual
-  place : (r : Place) (xs ys : List Sym) → AlikeSymbols (placeThen r xs) ys → Relabelled placeThen (SamePlace r) xs ys
-  place empty xs ys a = record { tree = empty; rest = ys; is = refl; left = a; alike = record { means = refl; deep = refl; grouped = λ x. refl; lawful = λ h. h } }
-  place (comma l t) xs ys a =
-      let k = list l (of Comma t ∷ xs) ys a in
-      let m = mark Comma t xs (k .rest) (k .left) in
-      record {
-        tree = comma (k .tree) (m .tree);
-        rest = m .rest;
-        is = k .is ∙ ap (listThen (k .tree)) (m .is);
-        left = m .left;
-        alike = record { means = k .alike .means; deep = k .alike .deep; grouped = λ x. k .alike .grouped; lawful = k .alike .lawful };
-      }
+-- ---- so they mean the same
 
-  list : (l : AddressList) (xs ys : List Sym) → AlikeSymbols (listThen l xs) ys → Relabelled listThen (SameList l) xs ys
-  list (idle r) xs ys a =
-      let k = place r xs ys a in
-      record { tree = idle (k .tree); rest = k .rest; is = k .is; left = k .left; alike = record { means = k .alike .means; deep = k .alike .deep; grouped = k .alike .grouped false; lawful = k .alike .lawful } }
-  list (full r b) xs ys a =
-      let k = place r (addressThen b xs) ys a in
-      let m = relabel b xs (k .rest) (k .left) in
-      record {
-        tree = full (k .tree) (m .tree);
-        rest = m .rest;
-        is = k .is ∙ ap (placeThen (k .tree)) (m .is);
-        left = m .left;
-        alike =
-            record {
-              means = ap₂ andAddress (k .alike .means) (m .alike .means);
-              deep = ap₂ max (k .alike .deep) (m .alike .deep);
-              grouped = k .alike .grouped (atomGroup (m .tree)) ∙ ap (placeAtomGroup r) (m .alike .grouped);
-              lawful = λ h. (k .alike .lawful (h .0), m .alike .lawful (h .1));
-            };
-      }
+same-meaning : {xs ys : List Sym} → AlikeSymbols xs ys → meaningOf ys ≡ meaningOf xs
+same-meaning no-symbol = refl
+same-meaning (one-symbol h a) = ap₂ (λ t u. t ++ u) (h .meaning) (same-meaning a)
 
-  relabel : (b : Address) (xs ys : List Sym) → AlikeSymbols (addressThen b xs) ys → Relabelled addressThen (SameAddress b) xs ys
-  relabel (mailbox p n) xs ys a =
-      let k = phrase p (nodesThen n xs) ys a in
-      let m = nodes n xs (k .rest) (k .left) in
-      record {
-        tree = mailbox (k .tree) (m .tree);
-        rest = m .rest;
-        is = k .is ∙ ap (phraseThen (k .tree)) (m .is);
-        left = m .left;
-        alike = record { means = ap₂ (λ v w. address 1 v w noAddress) (k .alike .0) (m .alike); deep = refl; grouped = refl; lawful = λ h. tt };
-      }
-  relabel (angle o t l u) xs ys a =
-      let k = name o (of LessThan t ∷ listThen l (of GreaterThan u ∷ xs)) ys a in
-      let m = mark LessThan t (listThen l (of GreaterThan u ∷ xs)) (k .rest) (k .left) in
-      let j = list l (of GreaterThan u ∷ xs) (m .rest) (m .left) in
-      let n = mark GreaterThan u xs (j .rest) (j .left) in
-      record {
-        tree = angle (k .tree) (m .tree) (j .tree) (n .tree);
-        rest = n .rest;
-        is = k .is ∙ ap (nameThen (k .tree)) (m .is ∙ ap (λ zs. of LessThan (m .tree) ∷ zs) (j .is ∙ ap (listThen (j .tree)) (n .is)));
-        left = n .left;
-        alike = record { means = ap₂ (λ v w. address 2 v noWord w) (k .alike .0) (j .alike .means); deep = ap suc (j .alike .deep); grouped = refl; lawful = j .alike .lawful };
-      }
-  relabel (group o t l u) xs ys a =
-      let k = name o (of Colon t ∷ listThen l (of Semicolon u ∷ xs)) ys a in
-      let m = mark Colon t (listThen l (of Semicolon u ∷ xs)) (k .rest) (k .left) in
-      let j = list l (of Semicolon u ∷ xs) (m .rest) (m .left) in
-      let n = mark Semicolon u xs (j .rest) (j .left) in
-      record {
-        tree = group (k .tree) (m .tree) (j .tree) (n .tree);
-        rest = n .rest;
-        is = k .is ∙ ap (nameThen (k .tree)) (m .is ∙ ap (λ zs. of Colon (m .tree) ∷ zs) (j .is ∙ ap (listThen (j .tree)) (n .is)));
-        left = n .left;
-        alike =
-            record {
-              means = ap₂ (λ v w. address 3 v noWord w) (k .alike .0) (j .alike .means);
-              deep = ap suc (j .alike .deep);
-              grouped = k .alike .1;
-              lawful = λ h. (j .alike .lawful (h .0), k .alike .2 _ (h .1) _ (λ e. atomColon-list (j .tree) (of Semicolon (n .tree) ∷ []) refl ∙ j .alike .grouped ∙ sym (atomColon-list l (of Semicolon u ∷ []) refl) ∙ e));
-            };
-      }
-  relabel (quoted t) xs ys a =
-      let m = mark Quoted t xs ys a in
-      record { tree = quoted (m .tree); rest = m .rest; is = m .is; left = m .left; alike = record { means = ap (λ z. address 4 (andWord noWord (quotedString z)) noWord noAddress) (m .alike); deep = refl; grouped = refl; lawful = λ h. tt } }
-  relabel (typed t c u b) xs ys a =
-      let k = mark Colon t (of Atom c ∷ of Colon u ∷ addressThen b xs) ys a in
-      let m = mark Atom c (of Colon u ∷ addressThen b xs) (k .rest) (k .left) in
-      let n = mark Colon u (addressThen b xs) (m .rest) (m .left) in
-      let j = relabel b xs (n .rest) (n .left) in
-      record {
-        tree = typed (k .tree) (m .tree) (n .tree) (j .tree);
-        rest = j .rest;
-        is = k .is ∙ ap (λ zs. of Colon (k .tree) ∷ zs) (m .is ∙ ap (λ zs. of Atom (m .tree) ∷ zs) (n .is ∙ ap (λ zs. of Colon (n .tree) ∷ zs) (j .is)));
-        left = j .left;
-        alike = record { means = ap₂ typedMeaning (m .alike) (j .alike .means); deep = ap suc (j .alike .deep); grouped = refl; lawful = j .alike .lawful };
-      }
+same-words : (before : Words) {xs ys : List Sym} → AlikeSymbols xs ys → wordsAfter before ys ≡ wordsAfter before xs
+same-words before no-symbol = refl
+same-words before (one-symbol {x} {y} {xs} {ys} h a) = same-words (andSymbol before (y .class) (y .lexeme .meaning)) a ∙ ap₂ (λ c t. wordsAfter (andSymbol before c t) xs) (h .class) (h .meaning)
 
-none-more : {xs : List Sym} → AlikeSymbols [] xs → xs ≡ []
-none-more no-symbol = refl
+same-address : (makes : Makes) (members : Addresses) {parts parts′ : Derivation} → AlikeRows parts parts′ → addressOf makes parts′ members ≡ addressOf makes parts members
+same-address makes members {parts} {parts′} a =
+    let n = alike-names (makes .name) a in
+    rw (same-meaning n, same-words noWord n, same-words noWord (alike-parts 1 a))
 
--- a derivation over other symbols, with the same addresses and levels
+same-addresses : {row row′ : Derivation} → AlikeRows row row′ → (before : Addresses) → addressesAfter before row′ ≡ addressesAfter before row
+same-addresses nils before = refl
+same-addresses (leaves h a) before = same-addresses a before
+same-addresses (branches rule {parts} {parts′} {row} {row′} p a) before =
+    by (rule .makes) (same-addresses p before) (same-addresses p noAddress) (λ l. same-addresses a l)
+  where
+    by : (makes : Option Makes) → addressesAfter before parts′ ≡ addressesAfter before parts → addressesAfter noAddress parts′ ≡ addressesAfter noAddress parts
+        → ((l : Addresses) → addressesAfter l row′ ≡ addressesAfter l row)
+        → addressesAfter (elim makes [ none ↦ addressesAfter before parts′ | some m ↦ andAddress before (addressOf m parts′ (addressesAfter noAddress parts′)) ]) row′
+        ≡ addressesAfter (elim makes [ none ↦ addressesAfter before parts | some m ↦ andAddress before (addressOf m parts (addressesAfter noAddress parts)) ]) row
+    by none e f g = g _ ∙ ap (λ l. addressesAfter l row) e
+    by (some m) e f g = g _ ∙ ap (λ x. addressesAfter (andAddress before x) row) (same-address m (addressesAfter noAddress parts′) p ∙ ap (addressOf m parts) f)
+
+-- ---- a derivation over other symbols, with the same addresses, levels and count
+
 pub record DerivedAlike (k : Derivation) (ys : List Sym) : Type 0 where
   pub again : Derivation
   pub derived : DerivedList again ys
   pub means : meaning again ≡ meaning k
   pub deep : levels again ≡ levels k
+  pub counted : count again ≡ count k
+
+none-left : {ys : List Sym} → AlikeSymbols [] ys → ys ≡ []
+none-left no-symbol = refl
 
 pub derived-alike : {k : Derivation} {xs ys : List Sym} → DerivedList k xs → AlikeSymbols xs ys → DerivedAlike k ys
-derived-alike {k} {xs} {ys} derived a =
-    let (l, e, d) = tree-derived derived in
-    let m = list l [] ys (rw (d .yields) a) in
-    let q : ys ≡ listThen (m .tree) [] = m .is ∙ ap (listThen (m .tree)) (none-more (m .left)) in
-    record {
-      again = asRow (m .tree);
-      derived = row-derived {l = m .tree} (record { yields = sym q; lawful = m .alike .lawful (d .lawful) });
-      means = meaning-row (m .tree) ∙ m .alike .means ∙ sym (ap meaning e ∙ meaning-row l);
-      deep = row-levels (m .tree) ∙ m .alike .deep ∙ sym (ap levels e ∙ row-levels l);
-    }
+derived-alike {k} {xs} {ys} d a =
+    let r = relabelled k [] ys (rw (d .yields) a) in
+    let e : ys ≡ yield (r .again) = r .is ∙ ap (yieldThen (r .again)) (none-left (r .left)) in
+    record { again = r .again; derived = record { fits = fits-too (d .fits) (r .alike); yields = sym e }; means = same-addresses (r .alike) noAddress; deep = same-levels (r .alike); counted = same-count (r .alike) }
