@@ -1,60 +1,62 @@
--- Every "(" that opens a comment opens one in the sense of `isComment`, unless scanning ends with a fault in it. Assumes nothing.
-use Prim.Native.Nat.{ℕ, _+_}
+-- No comment is left out: where a "(" opens a comment, there stands one in the sense of `isComment`, or scanning ends with a fault. Assumes nothing.
+use Prim.Native.Nat.{ℕ, suc, _+_}
 use native.Mathlib.Omega.{arith}
 use mathlib.Core.Path.{_≡_, refl, sym, ap, _∙_}
 use mathlib.Core.Bool.{Bool, true, false}
 use mathlib.Core.List.{List, [], _∷_, _++_, append-nil}
+use mathlib.Core.Option.{Option, none, some}
+use lib.ListN.{length, drop}
+use lib.Seq.{drop-append-le}
 use Rattle.octets.specs.Classes.{classTable, classOf}
 use Rattle.octets.specs.Numbers.{commentNotClosed}
+use Rattle.octets.specs.declared.answers.Answer.the-variants.{Accepted, Refused}
 use Rattle.scanner.specs.Kinds.{kindOf, characterKind}
-use Rattle.scanner.specs.Characters.{character, foldAt, InFold, none, lineFeed, white, charactersFrom}
-use Rattle.scanner.specs.Scanning.{faultAt, State, inComment, go, move, then, scanFrom, scan}
+use Rattle.scanner.specs.Characters.{Character, character, foldAt, InFold, lineFeed, white, charactersFrom, charactersAt}
+use Rattle.scanner.specs.Characters as characters
+use Rattle.scanner.specs.Scanning.{Scanned, faultAt, State, outside, inAtom, inQuoted, takingInQuoted, inComment, takingInComment, Move, go, halt, move, followedBy, then, scanFrom, scan}
+use Rattle.scanner.specs.Answers.{unlessFault, faultOf}
 use Rattle.scanner.proofs.CharacterLaws.{no-fold}
-use Rattle.equality.specs.Comments.{openByte, closes, isComment}
+use Rattle.grammar.proofs.Trees.{Sym}
+use Rattle.equality.specs.Comments.{stateOf, stateAfter, opensComment, commentMayFollow, openByte, closes, BeginsWithComment, EveryCommentIsOne}
 use Rattle.equality.proofs.InComments.{never, closesBy, Within, comment, taking, closes-within, Does, faults, leaves, goes-on, does}
-use Rattle.equality.proofs.Splits.{fold-here, no-fold-here}
-
--- the bytes behind a "(" begin with what closes its comment
-pub record Closed (tail : List ℕ) : Type 0 where
-  pub inside : List ℕ
-  pub behind : List ℕ
-  pub splits : tail ≡ inside ++ behind
-  pub is-comment : isComment (openByte ∷ inside) ≡ true
+use Rattle.equality.proofs.Splits.{fold-here, no-fold-here, apart-before-open, split}
+use Rattle.equality.proofs.Through.{endedBy}
 
 -- ---- from a state in a comment on, the bytes close it, or scanning ends with a fault
 
-data Ends (fold : InFold) (cs : List ℕ) (p : ℕ) (state : State) : Type 0 where
-  faulty : (n q : ℕ) → scanFrom classTable (charactersFrom fold cs p) state ≡ faultAt n q → Ends fold cs p state
-  closing : (inside behind : List ℕ) → cs ≡ inside ++ behind → closes (charactersFrom fold inside p) state ≡ true → Ends fold cs p state
+-- bytes that alone stand from p on, and here from p′ on
+data Ends (fold : InFold) (cs : List ℕ) (p p′ : ℕ) (alone here : State) : Type 0 where
+  faulty : (n q : ℕ) → scanFrom classTable (charactersFrom fold cs p′) here ≡ faultAt n q → Ends fold cs p p′ alone here
+  closing : (inside behind : List ℕ) → cs ≡ inside ++ behind → closes (charactersFrom fold inside p) alone ≡ true → Ends fold cs p p′ alone here
 
-ends-here : (fold : InFold) (p : ℕ) {state : State} → Within state → Ends fold [] p state
+ends-here : {base s : ℕ} (fold : InFold) (p p′ : ℕ) {alone here : State} → Within base s alone here → Ends fold [] p p′ alone here
 unfolding scanFrom charactersFrom
-ends-here fold p (comment d s) = faulty commentNotClosed s refl
-ends-here fold p (taking d s) = faulty commentNotClosed s refl
-
--- behind the LF of a fold
-ends-line-feed : (b : ℕ) {cs : List ℕ} {p : ℕ} {state : State} → Ends white cs (p + 1) state → Ends lineFeed (b ∷ cs) p state
-unfolding charactersFrom
-ends-line-feed b (faulty n q e) = faulty n q e
-ends-line-feed b (closing inside behind e l) = closing (b ∷ inside) behind (ap (λ l. b ∷ l) e) l
+ends-here {base} {s} fold p p′ (comment e q r h) = faulty commentNotClosed s refl
+ends-here {base} {s} fold p p′ (taking e q r h) = faulty commentNotClosed s refl
 
 -- a byte that is a character, whatever of the bytes behind it is left
-module _ (fold : InFold) (b : ℕ) (cs : List ℕ) (p : ℕ) (folded : Bool) (is : (inside behind : List ℕ) → cs ≡ inside ++ behind → charactersFrom fold (b ∷ inside) p ≡ character b p folded ∷ charactersFrom none inside (p + 1)) where
-  whole : charactersFrom fold (b ∷ cs) p ≡ character b p folded ∷ charactersFrom none cs (p + 1)
-  whole = is cs [] (sym (append-nil cs))
+module _ (fold : InFold) (b : ℕ) (cs : List ℕ) (p p′ : ℕ) (folded : Bool) (is : (inside behind : List ℕ) (i : ℕ) → cs ≡ inside ++ behind → charactersFrom fold (b ∷ inside) i ≡ character b i folded ∷ charactersFrom characters.none inside (i + 1)) where
+  whole : charactersFrom fold (b ∷ cs) p′ ≡ character b p′ folded ∷ charactersFrom characters.none cs (p′ + 1)
+  whole = is cs [] p′ (sym (append-nil cs))
 
-  ends-rest : {state : State} (state′ : State) → Within state′ → move state (characterKind classTable b folded) b p ≡ go [] state′ → Ends none cs (p + 1) state′ → Ends fold (b ∷ cs) p state
-  unfolding scanFrom
-  ends-rest state′ w e (faulty n q f) = faulty n q (rw whole (ap (λ m. then m (λ s. scanFrom classTable (charactersFrom none cs (p + 1)) s)) e ∙ f))
-  ends-rest state′ w e (closing inside behind f l) =
-      closing (b ∷ inside) behind (ap (λ l. b ∷ l) f)
-      (rw (is inside behind f) (ap (closesBy (charactersFrom none inside (p + 1))) e ∙ closes-within w (charactersFrom none inside (p + 1)) ∙ l))
+  abbrev on : State → Scanned
+  on state = scanFrom classTable (charactersFrom characters.none cs (p′ + 1)) state
 
-  ends-by : (state : State) → Does (move state (characterKind classTable b folded) b p) → ((state′ : State) → Within state′ → Ends none cs (p + 1) state′) → Ends fold (b ∷ cs) p state
-  unfolding scanFrom charactersFrom
-  ends-by state (faults n q e) rest = faulty n q (rw whole (ap (λ m. then m (λ s. scanFrom classTable (charactersFrom none cs (p + 1)) s)) e))
-  ends-by state (leaves e) rest = closing (b ∷ []) cs refl (rw (is [] cs refl) (ap (closesBy []) e))
-  ends-by state (goes-on state′ w e) rest = ends-rest state′ w e (rest state′ w)
+  module _ {base s : ℕ} {alone here : State} where
+    ends-rest : (alone′ here′ : State) → Within base s alone′ here′ → move alone (characterKind classTable b folded) b p ≡ go [] alone′ → move here (characterKind classTable b folded) b p′ ≡ go [] here′
+        → Ends characters.none cs (p + 1) (p′ + 1) alone′ here′ → Ends fold (b ∷ cs) p p′ alone here
+    unfolding scanFrom
+    ends-rest alone′ here′ w e f (faulty n q g) = faulty n q (rw whole (ap (λ m. then m on) f ∙ g))
+    ends-rest alone′ here′ w e f (closing inside behind g l) =
+        closing (b ∷ inside) behind (ap (λ l. b ∷ l) g)
+        (rw (is inside behind p g) (ap (closesBy (charactersFrom characters.none inside (p + 1))) e ∙ closes-within w (charactersFrom characters.none inside (p + 1)) ∙ l))
+
+    ends-by : Does base s (move alone (characterKind classTable b folded) b p) (move here (characterKind classTable b folded) b p′)
+        → ((alone′ here′ : State) → Within base s alone′ here′ → Ends characters.none cs (p + 1) (p′ + 1) alone′ here′) → Ends fold (b ∷ cs) p p′ alone here
+    unfolding scanFrom charactersFrom
+    ends-by (faults n q q′ e f) rest = faulty n q′ (rw whole (ap (λ m. then m on) f))
+    ends-by (leaves e f) rest = closing (b ∷ []) cs refl (rw (is [] cs p refl) (ap (closesBy []) e))
+    ends-by (goes-on alone′ here′ w e f) rest = ends-rest alone′ here′ w e f (rest alone′ here′ w)
 
 -- where there is no fold, there is none in fewer bytes
 fewer : (b : ℕ) (inside behind : List ℕ) → foldAt (b ∷ (inside ++ behind)) 0 ≡ false → foldAt (b ∷ inside) 0 ≡ false
@@ -62,34 +64,99 @@ fewer b [] behind e = no-fold (b ∷ []) 0 (omega arith)
 fewer b (c ∷ []) behind e = no-fold (b ∷ c ∷ []) 0 (omega arith)
 fewer b (c ∷ d ∷ inside) behind e = e
 
--- behind the CR of a fold
-ends-fold : (b : ℕ) (cs : List ℕ) (p : ℕ) {state : State} → foldAt (b ∷ cs) 0 ≡ true → Ends lineFeed cs (p + 1) state → Ends none (b ∷ cs) p state
+-- behind the CR of a fold, and behind its LF
+ends-fold : (b : ℕ) (cs : List ℕ) (p p′ : ℕ) {alone here : State} → foldAt (b ∷ cs) 0 ≡ true → Ends lineFeed cs (p + 1) (p′ + 1) alone here → Ends characters.none (b ∷ cs) p p′ alone here
 unfolding charactersFrom
-ends-fold b cs p h (faulty n q e) = faulty n q (rw (fold-here b cs p h) e)
-ends-fold b cs p h (closing [] behind e l) = never l
-ends-fold b cs p h (closing (c ∷ []) behind e l) = never l
-ends-fold b cs p h (closing (c ∷ d ∷ inside) behind e l) =
+ends-fold b cs p p′ h (faulty n q e) = faulty n q (rw (fold-here b cs p′ h) e)
+ends-fold b cs p p′ h (closing [] behind e l) = never l
+ends-fold b cs p p′ h (closing (c ∷ []) behind e l) = never l
+ends-fold b cs p p′ h (closing (c ∷ d ∷ inside) behind e l) =
     let f : foldAt (b ∷ c ∷ d ∷ inside) 0 ≡ true = rw e at h in
     closing (b ∷ c ∷ d ∷ inside) behind (ap (λ l. b ∷ l) e) (rw (fold-here b (c ∷ d ∷ inside) p f) l)
 
-by-fold : (z : Bool) (b : ℕ) (cs : List ℕ) (p : ℕ) {state : State} → foldAt (b ∷ cs) 0 ≡ z → Within state → Ends lineFeed cs (p + 1) state → ((state′ : State) → Within state′ → Ends none cs (p + 1) state′) → Ends none (b ∷ cs) p state
-by-fold true b cs p h w f g = ends-fold b cs p h f
-by-fold false b cs p {state} h w f g = ends-by none b cs p false (λ inside behind e. no-fold-here b inside p (fewer b inside behind (rw e at h))) state (does w b p false) g
-
-ends : (cs : List ℕ) (fold : InFold) (p : ℕ) (state : State) → Within state → Ends fold cs p state
+ends-line-feed : (b : ℕ) {cs : List ℕ} {p p′ : ℕ} {alone here : State} → Ends white cs (p + 1) (p′ + 1) alone here → Ends lineFeed (b ∷ cs) p p′ alone here
 unfolding charactersFrom
-ends [] fold p state w = ends-here fold p w
-ends (b ∷ cs) lineFeed p state w = ends-line-feed b (ends cs white (p + 1) state w)
-ends (b ∷ cs) white p state w = ends-by white b cs p true (λ inside behind e. refl) state (does w b p true) (λ s v. ends cs none (p + 1) s v)
-ends (b ∷ cs) none p state w = by-fold (foldAt (b ∷ cs) 0) b cs p refl w (ends cs lineFeed (p + 1) state w) (λ s v. ends cs none (p + 1) s v)
+ends-line-feed b (faulty n q e) = faulty n q e
+ends-line-feed b (closing inside behind e l) = closing (b ∷ inside) behind (ap (λ l. b ∷ l) e) l
 
--- ---- every comment
+module _ {base s : ℕ} where
+  by-fold : (z : Bool) (b : ℕ) (cs : List ℕ) (p p′ : ℕ) {alone here : State} → foldAt (b ∷ cs) 0 ≡ z → Within base s alone here → Ends lineFeed cs (p + 1) (p′ + 1) alone here
+      → ((alone′ here′ : State) → Within base s alone′ here′ → Ends characters.none cs (p + 1) (p′ + 1) alone′ here′) → Ends characters.none (b ∷ cs) p p′ alone here
+  by-fold true b cs p p′ h w f g = ends-fold b cs p p′ h f
+  by-fold false b cs p p′ h w f g = ends-by characters.none b cs p p′ false (λ inside behind i e. no-fold-here b inside i (fewer b inside behind (rw e at h))) (does w b p p′ false) g
 
-closed-by : (tail : List ℕ) → Ends none tail 1 (inComment 0 0) → ((n q : ℕ) → scan (openByte ∷ tail) 0 ≡ faultAt n q → ⊥) → Closed tail
+  ends : (cs : List ℕ) (fold : InFold) (p p′ : ℕ) (alone here : State) → Within base s alone here → Ends fold cs p p′ alone here
+  unfolding charactersFrom
+  ends [] fold p p′ alone here w = ends-here fold p p′ w
+  ends (b ∷ cs) lineFeed p p′ alone here w = ends-line-feed b (ends cs white (p + 1) (p′ + 1) alone here w)
+  ends (b ∷ cs) white p p′ alone here w = ends-by white b cs p p′ true (λ inside behind i e. refl) (does w b p p′ true) (λ a h v. ends cs characters.none (p + 1) (p′ + 1) a h v)
+  ends (b ∷ cs) characters.none p p′ alone here w = by-fold (foldAt (b ∷ cs) 0) b cs p p′ refl w (ends cs lineFeed (p + 1) (p′ + 1) alone here w) (λ a h v. ends cs characters.none (p + 1) (p′ + 1) a h v)
+
+-- ---- from a "(" on that opens a comment
+
+-- the bytes behind it close the comment, or scanning ends with a fault and no symbol behind it
+pub data Opens (state : State) (tail : List ℕ) (p : ℕ) : Type 0 where
+  is-closed : BeginsWithComment (openByte ∷ tail) → Opens state tail p
+  not-closed : (n q : ℕ) → scanFrom classTable (charactersFrom characters.none (openByte ∷ tail) p) state ≡ followedBy (endedBy state) (faultAt n q) → Opens state tail p
+
+opens-by : (state here : State) (tail : List ℕ) (p : ℕ) → scanFrom classTable (charactersFrom characters.none (openByte ∷ tail) p) state ≡ followedBy (endedBy state) (scanFrom classTable (charactersFrom characters.none tail (p + 1)) here)
+    → Ends characters.none tail 1 (p + 1) (inComment 0 0) here → Opens state tail p
+opens-by state here tail p e (faulty n q f) = not-closed n q (e ∙ ap (followedBy (endedBy state)) f)
+opens-by state here tail p e (closing inside behind f l) = is-closed (record { comment = openByte ∷ inside; behind = behind; splits = ap (λ cs. openByte ∷ cs) f; is-comment = l })
+
+pub opens-comment : (state : State) (tail : List ℕ) (p : ℕ) → opensComment state ≡ true → Opens state tail p
 unfolding scanFrom charactersFrom kindOf classTable classOf
-closed-by tail (faulty n q e) f = absurd (f n q e)
-closed-by tail (closing inside behind e l) f = record { inside = inside; behind = behind; splits = e; is-comment = l }
+opens-comment outside tail p o = opens-by outside (inComment 0 p) tail p refl (ends {base = 0} tail characters.none 1 (p + 1) _ _ (comment 0 0 0 refl))
+opens-comment (inAtom start end t) tail p o = opens-by (inAtom start end t) (inComment 0 p) tail p refl (ends {base = 0} tail characters.none 1 (p + 1) _ _ (comment 0 0 0 refl))
+opens-comment (inQuoted start t) tail p o = never o
+opens-comment (takingInQuoted start t) tail p o = never o
+opens-comment (inComment depth start) tail p o = opens-by (inComment depth start) (inComment (suc depth) start) tail p refl (ends {base = suc depth} tail characters.none 1 (p + 1) _ _ (comment 0 0 (suc depth) (omega arith)))
+opens-comment (takingInComment depth start) tail p o = never o
 
--- a text that begins with "(" begins with a comment, unless scanning gives a fault and no symbol
-pub every-comment : (tail : List ℕ) → ((n q : ℕ) → scan (openByte ∷ tail) 0 ≡ faultAt n q → ⊥) → Closed tail
-every-comment tail f = closed-by tail (ends tail none 1 (inComment 0 0) (comment 0 0)) f
+-- ---- in a body that scans without fault
+
+fault-followed : (xs : List Sym) (r : Scanned) → faultOf (followedBy xs r) ≡ faultOf r
+unfolding unlessFault
+fault-followed [] r = refl
+fault-followed (x ∷ xs) r = fault-followed xs r
+
+-- the fault behind characters that lead to a state
+fault-behind : (xs ys : List Character) (state state′ : State) → stateAfter xs state ≡ some state′ → faultOf (scanFrom classTable (xs ++ ys) state) ≡ faultOf (scanFrom classTable ys state′)
+unfolding scanFrom
+fault-behind [] ys state state′ e = let f : state ≡ state′ = cc in ap (λ t. faultOf (scanFrom classTable ys t)) f
+fault-behind (character b p folded ∷ xs) ys state state′ e = by (move state (characterKind classTable b folded) b p) e (λ t i. fault-behind xs ys t state′ i)
+  where
+    by : (m : Move) → elim (stateOf m) [ none ↦ none | some t ↦ stateAfter xs t ] ≡ some state′ → ((t : State) → stateAfter xs t ≡ some state′ → faultOf (scanFrom classTable (xs ++ ys) t) ≡ faultOf (scanFrom classTable ys state′))
+        → faultOf (then m (λ t. scanFrom classTable (xs ++ ys) t)) ≡ faultOf (scanFrom classTable ys state′)
+    by (go symbols t) i h = fault-followed symbols (scanFrom classTable (xs ++ ys) t) ∙ h t i
+    by (halt symbols n q) i h = absurd (let z : _≡_ {A = ℕ} 0 1 = cc in omega arith)
+
+-- where a comment may follow, scanning stands where a "(" opens one
+record Stands (text : List ℕ) (start : ℕ) : Type 0 where
+  state : State
+  reached : stateAfter (charactersAt text start) outside ≡ some state
+  opening : opensComment state ≡ true
+
+stands : (text : List ℕ) (start : ℕ) → commentMayFollow text start ≡ true → Stands text start
+stands text start h = by (stateAfter (charactersAt text start) outside) refl h
+  where
+    by : (o : Option State) → stateAfter (charactersAt text start) outside ≡ o → elim o [ none ↦ false | some t ↦ opensComment t ] ≡ true → Stands text start
+    by none e i = never i
+    by (some t) e i = record { state = t; reached = e; opening = i }
+
+pub every-comment : EveryCommentIsOne
+unfolding unlessFault
+every-comment before tail start h c f = by (opens-comment (s .state) tail (start + length (drop start before)) (s .opening))
+  where
+    s : Stands before start
+    s = stands before start c
+
+    there : faultOf (scan (before ++ (openByte ∷ tail)) start) ≡ faultOf (scanFrom classTable (charactersFrom characters.none (openByte ∷ tail) (start + length (drop start before))) (s .state))
+    there =
+        ap (λ cs. faultOf (scanFrom classTable (charactersFrom characters.none cs start) outside)) (drop-append-le start before (openByte ∷ tail) h)
+        ∙ ap (λ cs. faultOf (scanFrom classTable cs outside)) (split (drop start before) (openByte ∷ tail) start (apart-before-open (drop start before) tail))
+        ∙ fault-behind (charactersAt before start) _ outside (s .state) (s .reached)
+
+    by : Opens (s .state) tail (start + length (drop start before)) → BeginsWithComment (openByte ∷ tail)
+    by (is-closed d) = d
+    by (not-closed n q e) = absurd (let g : Refused n q ≡ Accepted 0 = sym (there ∙ ap faultOf e ∙ fault-followed (endedBy (s .state)) (faultAt n q)) ∙ f in let z : _≡_ {A = ℕ} 0 1 = cc in omega arith)

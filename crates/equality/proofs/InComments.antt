@@ -1,7 +1,7 @@
--- What a character does in a comment. Assumes nothing.
-use Prim.Native.Nat.{ℕ, zero, suc}
+-- What a character of a comment does, where the comment stands alone and where it stands in others. Assumes nothing.
+use Prim.Native.Nat.{ℕ, zero, suc, _+_}
 use native.Mathlib.Omega.{arith}
-use mathlib.Core.Path.{_≡_, refl}
+use mathlib.Core.Path.{_≡_, refl, ap, _∙_}
 use mathlib.Core.Bool.{Bool, true, false}
 use mathlib.Core.List.{List, []}
 use Rattle.octets.specs.Classes.{classTable}
@@ -19,37 +19,38 @@ never e = absurd (let o : _≡_ {A = ℕ} 0 1 = cc in omega arith)
 abbrev pub closesBy : List Character → Move → Bool
 closesBy rest m = closedBy (stateOf m) rest (λ state. closes rest state)
 
--- in a comment, or there behind a backslash
-pub data Within : State → Type 0 where
-  comment : (d s : ℕ) → Within (inComment d s)
-  taking : (d s : ℕ) → Within (takingInComment d s)
+-- a state in a comment that alone lies in no other, and the state here, where it lies in `base` others and the outermost "(" is at `s`
+pub data Within (base s : ℕ) : State → State → Type 0 where
+  comment : (e q r : ℕ) → r ≡ e + base → Within base s (inComment e q) (inComment r s)
+  taking : (e q r : ℕ) → r ≡ e + base → Within base s (takingInComment e q) (takingInComment r s)
 
 -- there the comment is still to be closed
-pub closes-within : {state : State} → Within state → (rest : List Character) → closesBy rest (go [] state) ≡ closes rest state
-closes-within (comment d s) rest = refl
-closes-within (taking d s) rest = refl
+pub closes-within : {base s : ℕ} {alone here : State} → Within base s alone here → (rest : List Character) → closesBy rest (go [] alone) ≡ closes rest alone
+closes-within (comment e q r h) rest = refl
+closes-within (taking e q r h) rest = refl
 
--- a fault; the comment is over; or it goes on
-pub data Does (m : Move) : Type 0 where
-  faults : (n q : ℕ) → m ≡ halt [] n q → Does m
-  leaves : m ≡ go [] outside → Does m
-  goes-on : (state : State) → Within state → m ≡ go [] state → Does m
+-- the moves of a character alone and here: both to a fault; both out of the comment; or both on in it
+pub data Does (base s : ℕ) (m m′ : Move) : Type 0 where
+  faults : (n p p′ : ℕ) → m ≡ halt [] n p → m′ ≡ halt [] n p′ → Does base s m m′
+  leaves : m ≡ go [] outside → m′ ≡ go [] (closed base s) → Does base s m m′
+  goes-on : (alone here : State) → Within base s alone here → m ≡ go [] alone → m′ ≡ go [] here → Does base s m m′
 
-does-closed : {m : Move} (d s : ℕ) → m ≡ go [] (closed d s) → Does m
-does-closed zero s e = leaves e
-does-closed (suc d) s e = goes-on (inComment d s) (comment d s) e
+module _ {base s : ℕ} where
+  does-closed : {m m′ : Move} (e q r : ℕ) → r ≡ e + base → m ≡ go [] (closed e q) → m′ ≡ go [] (closed r s) → Does base s m m′
+  does-closed zero q r h f g = let i : r ≡ base = omega (arith, h) in leaves f (g ∙ ap (λ d. go [] (closed d s)) i)
+  does-closed (suc e) q r h f g = let i : r ≡ suc (e + base) = omega (arith, h) in goes-on (inComment e q) (inComment (e + base) s) (comment e q (e + base) refl) f (g ∙ ap (λ d. go [] (closed d s)) i)
 
-does-comment : {k : _} → InComment k → (d s p : ℕ) → Does (moveInComment k d s p)
-does-comment (stays g) d s p = goes-on (inComment d s) (comment d s) (g d s p)
-does-comment (opens g) d s p = goes-on (inComment (suc d) s) (comment (suc d) s) (g d s p)
-does-comment (byte.closes g) d s p = does-closed d s (g d s p)
-does-comment (byte.takes g) d s p = goes-on (takingInComment d s) (taking d s) (g d s p)
-does-comment (byte.faulty n g) d s p = faults n p (g d s p)
+  does-comment : {k : _} → InComment k → (e q r p p′ : ℕ) → r ≡ e + base → Does base s (moveInComment k e q p) (moveInComment k r s p′)
+  does-comment (stays g) e q r p p′ h = goes-on (inComment e q) (inComment r s) (comment e q r h) (g e q p) (g r s p′)
+  does-comment (opens g) e q r p p′ h = goes-on (inComment (suc e) q) (inComment (suc r) s) (comment (suc e) q (suc r) (omega (arith, h))) (g e q p) (g r s p′)
+  does-comment (byte.closes g) e q r p p′ h = does-closed e q r h (g e q p) (g r s p′)
+  does-comment (byte.takes g) e q r p p′ h = goes-on (takingInComment e q) (takingInComment r s) (taking e q r h) (g e q p) (g r s p′)
+  does-comment (byte.faulty n g) e q r p p′ h = faults n p p′ (g e q p) (g r s p′)
 
-does-taken : {k : _} → Behind k → (d s p : ℕ) → Does (take k (inComment d s) p)
-does-taken (taken g) d s p = goes-on (inComment d s) (comment d s) (g (inComment d s) p)
-does-taken (byte.faulty n g) d s p = faults n p (g (inComment d s) p)
+  does-taken : {k : _} → Behind k → (e q r p p′ : ℕ) → r ≡ e + base → Does base s (take k (inComment e q) p) (take k (inComment r s) p′)
+  does-taken (taken g) e q r p p′ h = goes-on (inComment e q) (inComment r s) (comment e q r h) (g (inComment e q) p) (g (inComment r s) p′)
+  does-taken (byte.faulty n g) e q r p p′ h = faults n p p′ (g (inComment e q) p) (g (inComment r s) p′)
 
-pub does : {state : State} → Within state → (b p : ℕ) (folded : Bool) → Does (move state (characterKind classTable b folded) b p)
-does (comment d s) b p folded = does-comment (comment-by (character-view b folded)) d s p
-does (taking d s) b p folded = does-taken (behind-by (character-view b folded)) d s p
+  pub does : {alone here : State} → Within base s alone here → (b p p′ : ℕ) (folded : Bool) → Does base s (move alone (characterKind classTable b folded) b p) (move here (characterKind classTable b folded) b p′)
+  does (comment e q r h) b p p′ folded = does-comment (comment-by (character-view b folded)) e q r p p′ h
+  does (taking e q r h) b p p′ folded = does-taken (behind-by (character-view b folded)) e q r p p′ h

@@ -5,8 +5,8 @@ pub mod Splits
 pub mod LastBytes
 pub mod Shifts
 pub mod Through
-pub mod Exchanges
 pub mod EveryComment
+pub mod Exchanges
 pub mod Relabels
 pub mod Verdicts
 pub mod AlikeBodies

@@ -1,15 +1,19 @@
 -- Document 02, CR 14: "any comment .. scanning alone without fault": which bytes are a comment, and where in a body one may stand.
-use Prim.Native.Nat.{ℕ}
+use Prim.Native.Nat.{ℕ, _≤_}
+use mathlib.Core.Path.{_≡_}
 use mathlib.Core.Bool.{Bool, true, false}
-use mathlib.Core.List.{List, [], _∷_}
+use mathlib.Core.List.{List, [], _∷_, _++_}
 use mathlib.Core.Option.{Option, none, some}
 use lib.Dec.{eqb}
+use lib.ListN.{length}
 use Rattle.octets.specs.Choice.{pick, both}
 use Rattle.octets.specs.Classes.{classTable}
+use Rattle.octets.specs.declared.answers.Answer.the-variants.{Accepted}
 use Rattle.scanner.specs.Kinds.{characterKind}
 use Rattle.scanner.specs.Characters.{Character, character, charactersFrom, charactersAt}
 use Rattle.scanner.specs.Characters as characters
-use Rattle.scanner.specs.Scanning.{State, outside, inAtom, inQuoted, takingInQuoted, inComment, takingInComment, Move, go, halt, move}
+use Rattle.scanner.specs.Scanning.{State, outside, inAtom, inQuoted, takingInQuoted, inComment, takingInComment, Move, go, halt, move, scan}
+use Rattle.scanner.specs.Answers.{faultOf}
 
 -- ---- where scanning stands
 
@@ -76,3 +80,18 @@ closes (c ∷ rest) state = closedBy (stateBehind state c) rest (λ state′. cl
 abbrev pub isComment : List ℕ → Bool
 isComment [] = false
 isComment (b ∷ inside) = both (eqb b openByte) (closes (charactersFrom characters.none inside 1) (inComment 0 0))
+
+-- ---- no comment is left out
+
+-- bytes begin with a comment, and others stand behind it
+pub record BeginsWithComment (bytes : List ℕ) : Type 0 where
+  pub comment : List ℕ
+  pub behind : List ℕ
+  pub splits : bytes ≡ comment ++ behind
+  pub is-comment : isComment comment ≡ true
+
+-- in a body that scans without fault, at every "(" where a comment may stand there stands one
+abbrev pub EveryCommentIsOne : Type 0
+EveryCommentIsOne =
+    (before behind : List ℕ) (start : ℕ) → start ≤ length before → commentMayFollow before start ≡ true → faultOf (scan (before ++ (openByte ∷ behind)) start) ≡ Accepted 0
+    → BeginsWithComment (openByte ∷ behind)
