@@ -43,7 +43,8 @@ void rfc733_date(const uint8_t *message, size_t message_length, size_t start, si
 
 /* Writes plainly the address list in the body of a message from start up to end. The count is the text's length.
  * Two lists have the same text exactly if they have the same addresses: kinds, nesting, names and nodes word by word,
- * case counting. What stands in comments changes neither acceptance nor text. */
+ * case counting. A comment exchanged for another, at the same place of the body, changes neither acceptance nor text,
+ * as long as the message stays within its limit. */
 void rfc733_plain(const uint8_t *message, size_t message_length, size_t start, size_t end,
                   uint8_t *text, size_t text_length, uint64_t *told, size_t told_length);
 

@@ -17,10 +17,10 @@ use Rattle.equality.specs.Cards.{SameWord, SameWords, SameList, SameAddr
 -- ---- the same addresses are equal meanings
 
 word-is : (v w : Word) → SameWord v w → v ≡ w
-word-is (atom a) (atom b) e = ap atom e
+word-is (atom a) (atom b) e = cc
 word-is (atom a) (quotedString b) e = absurd e
 word-is (quotedString a) (atom b) e = absurd e
-word-is (quotedString a) (quotedString b) e = ap quotedString e
+word-is (quotedString a) (quotedString b) e = cc
 
 words-are : (vs ws : Words) → SameWords vs ws → vs ≡ ws
 words-are noWord noWord e = refl

@@ -9,17 +9,18 @@ use lib.ListN.{length, drop}
 use lib.Seq.{drop-append-le}
 use Rattle.octets.specs.Classes.{classTable, classOf}
 use Rattle.octets.specs.Numbers.{commentNotClosed}
+use Rattle.octets.specs.Octets.{openByte}
 use Rattle.octets.specs.declared.answers.Answer.the-variants.{Accepted, Refused}
 use Rattle.scanner.specs.Kinds.{kindOf, characterKind}
 use Rattle.scanner.specs.Characters.{Character, character, foldAt, InFold, lineFeed, white, charactersFrom, charactersAt}
 use Rattle.scanner.specs.Characters as characters
 use Rattle.scanner.specs.Scanning.{Scanned, faultAt, State, outside, inAtom, inQuoted, takingInQuoted, inComment, takingInComment, Move, go, halt, move, followedBy, then, scanFrom, scan}
 use Rattle.scanner.specs.Answers.{unlessFault, faultOf}
-use Rattle.scanner.proofs.CharacterLaws.{no-fold}
+use Rattle.scanner.proofs.CharacterLaws.{plain-here, no-fold}
 use Rattle.grammar.proofs.Trees.{Sym}
-use Rattle.equality.specs.Comments.{stateOf, stateAfter, opensComment, commentMayFollow, openByte, closes, BeginsWithComment, EveryCommentIsOne}
+use Rattle.equality.specs.Comments.{stateOf, stateAfter, opensComment, commentMayFollow, closes, BeginsWithComment, EveryCommentIsOne}
 use Rattle.equality.proofs.InComments.{never, closesBy, Within, comment, taking, closes-within, Does, faults, leaves, goes-on, does}
-use Rattle.equality.proofs.Splits.{fold-here, no-fold-here, apart-before-open, split}
+use Rattle.equality.proofs.Splits.{fold-here, apart-before-open, split}
 use Rattle.equality.proofs.Through.{endedBy}
 
 -- ---- from a state in a comment on, the bytes close it, or scanning ends with a fault
@@ -83,7 +84,7 @@ module _ {base s : ℕ} where
   by-fold : (z : Bool) (b : ℕ) (cs : List ℕ) (p p′ : ℕ) {alone here : State} → foldAt (b ∷ cs) 0 ≡ z → Within base s alone here → Ends lineFeed cs (p + 1) (p′ + 1) alone here
       → ((alone′ here′ : State) → Within base s alone′ here′ → Ends characters.none cs (p + 1) (p′ + 1) alone′ here′) → Ends characters.none (b ∷ cs) p p′ alone here
   by-fold true b cs p p′ h w f g = ends-fold b cs p p′ h f
-  by-fold false b cs p p′ h w f g = ends-by characters.none b cs p p′ false (λ inside behind i e. no-fold-here b inside i (fewer b inside behind (rw e at h))) (does w b p p′ false) g
+  by-fold false b cs p p′ h w f g = ends-by characters.none b cs p p′ false (λ inside behind i e. plain-here b inside i (fewer b inside behind (rw e at h))) (does w b p p′ false) g
 
   ends : (cs : List ℕ) (fold : InFold) (p p′ : ℕ) (alone here : State) → Within base s alone here → Ends fold cs p p′ alone here
   unfolding charactersFrom

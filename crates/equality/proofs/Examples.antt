@@ -1,7 +1,8 @@
--- Examples of comments and of places where one may stand, by evaluation of the definitions; worked out from document 01, "Symbols". Assumes nothing.
+-- Examples of comments, of places where one may stand, and of words, by evaluation of the definitions; worked out from document 01, "Symbols". Assumes nothing.
 use Prim.Native.Nat.{ℕ}
 use mathlib.Core.Path.{_≡_, refl}
 use mathlib.Core.Bool.{true, false}
+use native.Mathlib.Omega.{arith}
 use mathlib.Core.List.{List, [], _∷_, _++_}
 use Rattle.octets.specs.Classes.{classOf, classTable}
 use Rattle.octets.specs.Letters.{lower, same}
@@ -9,6 +10,8 @@ use Rattle.octets.specs.Octets.{lineFeedByte, returnByte}
 use Rattle.octets.specs.Text.{bytes}
 use Rattle.scanner.specs.Kinds.{kindOf}
 use Rattle.scanner.specs.Characters.{charactersFrom}
+use Rattle.plain.specs.Meaning.{Word, atom, quotedString}
+use Rattle.equality.specs.Cards.{SameWord}
 use Rattle.equality.specs.Comments.{isComment, commentMayFollow}
 
 data Row : Type 0 where
@@ -16,12 +19,16 @@ data Row : Type 0 where
   comment noComment : List ℕ → Row
   -- a text whose body starts at a position, behind which a comment may stand, and one behind which none may
   place noPlace : List ℕ → ℕ → Row
+  -- two that are the same word, and two that are not
+  sameWord otherWord : Word → Word → Row
 
 abbrev Holds : Row → Type 0
 Holds (comment b) = isComment b ≡ true
 Holds (noComment b) = isComment b ≡ false
 Holds (place text start) = commentMayFollow text start ≡ true
 Holds (noPlace text start) = commentMayFollow text start ≡ false
+Holds (sameWord one other) = SameWord one other
+Holds (otherWord one other) = SameWord one other → ⊥
 
 abbrev AllHold : List Row → Type 0
 AllHold [] = Unit {0}
@@ -61,8 +68,17 @@ rows =
     ∷ noPlace (bytes "\"a\\") 0
     ∷ noPlace (bytes "(a\\") 0
     ∷ noPlace (folded (bytes "a") []) 0
+    -- the meaning counts, its case and the quotes too
+    ∷ sameWord (quotedString (bytes "a b")) (quotedString (bytes "a b"))
+    ∷ otherWord (atom (bytes "A")) (atom (bytes "a"))
+    ∷ otherWord (atom (bytes "a")) (quotedString (bytes "a"))
+    ∷ otherWord (quotedString (bytes "a")) (atom (bytes "a"))
     ∷ []
+
+-- "A" is not "a"
+case-counts : SameWord (atom (bytes "A")) (atom (bytes "a")) → ⊥
+case-counts e = let z : _≡_ {A = ℕ} 65 97 = cc in omega (arith, z)
 
 rows-hold : AllHold rows
 unfolding charactersFrom kindOf classOf classTable lower same
-rows-hold = (refl, (refl, (refl, (refl, (refl, (refl, (refl, (refl, (refl, (refl, (refl, (refl, (refl, (refl, (refl, (refl, (refl, (refl, (refl, (refl, tt))))))))))))))))))))
+rows-hold = (refl, (refl, (refl, (refl, (refl, (refl, (refl, (refl, (refl, (refl, (refl, (refl, (refl, (refl, (refl, (refl, (refl, (refl, (refl, (refl, (refl, (case-counts, ((λ e. e), ((λ e. e), tt))))))))))))))))))))))))

@@ -9,12 +9,13 @@ use lib.Dec.{eqb}
 use lib.ListN.{length, take, drop}
 use lib.Seq.{take-append-add, drop-append-le}
 use Rattle.octets.specs.Classes.{classTable}
+use Rattle.octets.specs.Octets.{openByte}
 use Rattle.octets.proofs.ChoiceLaws.{both-parts}
 use Rattle.scanner.specs.Characters.{Character, character, charactersFrom}
 use Rattle.scanner.specs.Characters as characters
 use Rattle.scanner.specs.Kinds.{characterKind}
 use Rattle.scanner.specs.Scanning.{Scanned, ended, State, outside, inComment, Move, go, halt, move, then, scanFrom, scan}
-use Rattle.equality.specs.Comments.{stateOf, stateAfter, opensComment, openByte, closes, isComment}
+use Rattle.equality.specs.Comments.{stateOf, stateAfter, opensComment, closes, isComment}
 use Rattle.equality.specs.Exchange.{Place, MayHoldComment, messageWith, endWith}
 use Rattle.equality.proofs.Splits.{apart-before-open, apart-behind, split}
 use Rattle.equality.proofs.Shifts.{AlikeScans, both-fault, alike-followed, alike-scan, same-symbols, shifted}
@@ -24,17 +25,17 @@ use Rattle.equality.proofs.LastBytes.{comment-ends-no-line}
 
 -- ---- the same characters before what scans alike
 
-alike-then : (m : Move) (f g : State → Scanned) → ((state : State) → stateOf m ≡ some state → AlikeScans (f state) (g state)) → AlikeScans (then m f) (then m g)
-alike-then (go symbols state) f g h = alike-followed (same-symbols symbols) (h state refl)
-alike-then (halt symbols n p) f g h = alike-followed (same-symbols symbols) (both-fault n p p)
+same-move : (m : Move) (f g : State → Scanned) → ((state : State) → stateOf m ≡ some state → AlikeScans (f state) (g state)) → AlikeScans (then m f) (then m g)
+same-move (go symbols state) f g h = alike-followed (same-symbols symbols) (h state refl)
+same-move (halt symbols n p) f g h = alike-followed (same-symbols symbols) (both-fault n p p)
 
-alike-behind : (xs ys zs : List Character) (state : State) → ((state′ : State) → stateAfter xs state ≡ some state′ → AlikeScans (scanFrom classTable ys state′) (scanFrom classTable zs state′))
+same-front : (xs ys zs : List Character) (state : State) → ((state′ : State) → stateAfter xs state ≡ some state′ → AlikeScans (scanFrom classTable ys state′) (scanFrom classTable zs state′))
     → AlikeScans (scanFrom classTable (xs ++ ys) state) (scanFrom classTable (xs ++ zs) state)
 unfolding scanFrom
-alike-behind [] ys zs state h = h state refl
-alike-behind (character b p folded ∷ xs) ys zs state h =
-    alike-then (move state (characterKind classTable b folded) b p) (λ s. scanFrom classTable (xs ++ ys) s) (λ s. scanFrom classTable (xs ++ zs) s)
-    (λ s e. alike-behind xs ys zs s (λ s′ e′. h s′ (ap (λ (o : Option State). elim o [ none ↦ none | some t ↦ stateAfter xs t ]) e ∙ e′)))
+same-front [] ys zs state h = h state refl
+same-front (character b p folded ∷ xs) ys zs state h =
+    same-move (move state (characterKind classTable b folded) b p) (λ s. scanFrom classTable (xs ++ ys) s) (λ s. scanFrom classTable (xs ++ zs) s)
+    (λ s e. same-front xs ys zs s (λ s′ e′. h s′ (ap (λ (o : Option State). elim o [ none ↦ none | some t ↦ stateAfter xs t ]) e ∙ e′)))
 
 -- ---- a comment taken apart
 
@@ -64,7 +65,7 @@ module _ (pre post : List ℕ) (from : ℕ) where
       → AlikeScans (scanFrom classTable (charactersFrom characters.none (pre ++ (one ++ post)) from) outside) (scanFrom classTable (charactersFrom characters.none (pre ++ (other ++ post)) from) outside)
   exchanged one other c d o =
       rw (comment-characters one c, comment-characters other d)
-      (alike-behind (charactersFrom characters.none pre from) _ _ outside
+      (same-front (charactersFrom characters.none pre from) _ _ outside
       (λ state e. rw (comment-scans state (c .inside) (from + length pre) (charactersFrom characters.none post (from + length pre + length one)) (o state e) (c .closed), comment-scans state (d .inside) (from + length pre) (charactersFrom characters.none post (from + length pre + length other)) (o state e) (d .closed))
       (alike-followed (same-symbols (endedBy state)) (alike-scan (shifted post characters.none _ _) (behindComment state)))))
 

@@ -5,12 +5,14 @@ use mathlib.Core.Bool.{Bool, true, false}
 use mathlib.Core.List.{List, [], _∷_}
 use native.Mathlib.Omega.{arith}
 use Rattle.octets.specs.Classes.{classTable, classOf}
+use Rattle.octets.specs.Octets.{openByte}
 use Rattle.scanner.specs.Kinds.{kindOf}
 use Rattle.scanner.specs.Characters.{Character, character, foldAt, InFold, none, lineFeed, white, charactersFrom}
 use Rattle.scanner.specs.Scanning.{State, inComment, Move}
-use Rattle.equality.specs.Comments.{openByte, isEmpty, closes}
+use Rattle.scanner.proofs.CharacterLaws.{plain-here}
+use Rattle.equality.specs.Comments.{isEmpty, closes}
 use Rattle.equality.proofs.InComments.{never, closesBy, Within, comment, taking, closes-within, Does, faults, leaves, goes-on, does}
-use Rattle.equality.proofs.Splits.{fold-here, no-fold-here, lastByte, NoLineEnd, fold-enough}
+use Rattle.equality.proofs.Splits.{fold-here, lastByte, NoLineEnd, fold-enough}
 
 -- ---- behind a character of a comment
 
@@ -45,7 +47,7 @@ unfolding charactersFrom
 has-character true b [] p e l = absurd (omega (arith, fold-enough b [] e))
 has-character true b (c ∷ []) p e l = absurd (omega (arith, fold-enough b (c ∷ []) e))
 has-character true b (c ∷ d ∷ cs) p e l = never (rw (fold-here b (c ∷ d ∷ cs) p e) at l)
-has-character false b cs p e l = never (rw (no-fold-here b cs p e) at l)
+has-character false b cs p e l = never (rw (plain-here b cs p e) at l)
 
 by-next : (b : ℕ) (cs : List ℕ) (p : ℕ) → Next (charactersFrom none (b ∷ cs) p) → ((state here : State) → Within 0 0 state here → closes (charactersFrom none (b ∷ cs) p) state ≡ true → NoLineEnd (lastByte b cs)) → NoLineEnd (lastByte b cs)
 by-next b cs p (over e) f = absurd (has-character (foldAt (b ∷ cs) 0) b cs p refl e)
@@ -54,7 +56,7 @@ by-next b cs p (on state here w l) f = f state here w l
 by-fold : (z : Bool) (b : ℕ) (cs : List ℕ) (p : ℕ) (state : State) → foldAt (b ∷ cs) 0 ≡ z → closes (charactersFrom none (b ∷ cs) p) state ≡ true
     → (closes (charactersFrom lineFeed cs (p + 1)) state ≡ true → NoLineEnd (lastByte b cs)) → (closes (character b p false ∷ charactersFrom none cs (p + 1)) state ≡ true → NoLineEnd (lastByte b cs)) → NoLineEnd (lastByte b cs)
 by-fold true b cs p state e l f g = f (rw (fold-here b cs p e) at l)
-by-fold false b cs p state e l f g = g (rw (no-fold-here b cs p e) at l)
+by-fold false b cs p state e l f g = g (rw (plain-here b cs p e) at l)
 
 last : (cs : List ℕ) (b : ℕ) (fold : InFold) (p : ℕ) (state here : State) → Within 0 0 state here → closes (charactersFrom fold (b ∷ cs) p) state ≡ true → NoLineEnd (lastByte b cs)
 unfolding charactersFrom

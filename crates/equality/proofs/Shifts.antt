@@ -7,11 +7,12 @@ use Rattle.octets.specs.Classes.{classTable}
 use Rattle.octets.specs.Numbers.{quotedNotClosed, commentNotClosed}
 use Rattle.scanner.specs.Characters.{Character, character, foldAt, InFold, none, lineFeed, white, charactersFrom}
 use Rattle.scanner.specs.Scanning.{Scanned, ended, next, faultAt, State, outside, inAtom, inQuoted, takingInQuoted, inComment, takingInComment, Move, go, halt, atom, moveOutside, endingWith, moveInAtom, moveInQuoted, closed, moveInComment, take, move, atEnd, followedBy, then, scanFrom}
+use Rattle.scanner.proofs.CharacterLaws.{plain-here}
 use Rattle.grammar.proofs.Trees.{Sym}
 use Rattle.plain.proofs.ByteKinds.{KindView}
 use Rattle.equality.proofs.ByteMoves.{character-view, Outside, between, beginsAtom, beginsQuoted, beginsComment, mark, outside-by, InAtom, goesOn, ends, atom-by, InQuoted, datum, quoted-by, InComment, stays, opens, comment-by, Behind, taken, behind-by}
 use Rattle.equality.proofs.ByteMoves as byte
-use Rattle.equality.proofs.Splits.{fold-here, no-fold-here}
+use Rattle.equality.proofs.Splits.{fold-here}
 
 -- ---- the characters
 
@@ -22,7 +23,7 @@ pub data AlikeCharacters : List Character → List Character → Type 0 where
 shifted-by : (z : Bool) (b : ℕ) (cs : List ℕ) (p q : ℕ) → foldAt (b ∷ cs) 0 ≡ z → AlikeCharacters (charactersFrom lineFeed cs (p + 1)) (charactersFrom lineFeed cs (q + 1))
     → AlikeCharacters (charactersFrom none cs (p + 1)) (charactersFrom none cs (q + 1)) → AlikeCharacters (charactersFrom none (b ∷ cs) p) (charactersFrom none (b ∷ cs) q)
 shifted-by true b cs p q e f g = rw (fold-here b cs p e, fold-here b cs q e) f
-shifted-by false b cs p q e f g = rw (no-fold-here b cs p e, no-fold-here b cs q e) (one-more b p q false g)
+shifted-by false b cs p q e f g = rw (plain-here b cs p e, plain-here b cs q e) (one-more b p q false g)
 
 pub shifted : (cs : List ℕ) (fold : InFold) (p q : ℕ) → AlikeCharacters (charactersFrom fold cs p) (charactersFrom fold cs q)
 unfolding charactersFrom

@@ -6,20 +6,15 @@ use mathlib.Core.Bool.{Bool, true, false}
 use mathlib.Core.List.{List, [], _∷_, _++_}
 use borrow.Author.Tests.{ne-eqb}
 use lib.ListN.{length}
-use Rattle.octets.specs.Octets.{lineFeedByte, returnByte}
+use Rattle.octets.specs.Octets.{lineFeedByte, returnByte, openByte}
 use Rattle.scanner.specs.Characters.{character, foldAt, InFold, none, lineFeed, white, charactersFrom}
-use Rattle.scanner.proofs.CharacterLaws.{fold-within}
-use Rattle.equality.specs.Comments.{openByte}
+use Rattle.scanner.proofs.CharacterLaws.{plain-here, fold-within}
 
--- ---- a byte begins a fold, or is a character
+-- ---- a byte that begins a fold
 
 pub fold-here : (b : ℕ) (cs : List ℕ) (p : ℕ) → foldAt (b ∷ cs) 0 ≡ true → charactersFrom none (b ∷ cs) p ≡ charactersFrom lineFeed cs (p + 1)
 unfolding charactersFrom
 fold-here b cs p e = rw (e, charactersFrom)
-
-pub no-fold-here : (b : ℕ) (cs : List ℕ) (p : ℕ) → foldAt (b ∷ cs) 0 ≡ false → charactersFrom none (b ∷ cs) p ≡ character b p false ∷ charactersFrom none cs (p + 1)
-unfolding charactersFrom
-no-fold-here b cs p e = rw (e, charactersFrom)
 
 -- ---- no fold begins in the one and ends in the other
 
@@ -76,7 +71,7 @@ split-by : (z : Bool) (b : ℕ) (cs post : List ℕ) (p : ℕ) → foldAt (b ∷
     → (z ≡ false → charactersFrom none (cs ++ post) (p + 1) ≡ charactersFrom none cs (p + 1) ++ charactersFrom none post (p + 1 + length cs))
     → charactersFrom none (b ∷ (cs ++ post)) p ≡ charactersFrom none (b ∷ cs) p ++ charactersFrom none post (p + suc (length cs))
 split-by true b cs post p e f g h = rw (fold-here b (cs ++ post) p f, fold-here b cs p e, ← (position p (length cs))) (g refl)
-split-by false b cs post p e f g h = rw (no-fold-here b (cs ++ post) p f, no-fold-here b cs p e, ← (position p (length cs))) (ap (λ xs. character b p false ∷ xs) (h refl))
+split-by false b cs post p e f g h = rw (plain-here b (cs ++ post) p f, plain-here b cs p e, ← (position p (length cs))) (ap (λ xs. character b p false ∷ xs) (h refl))
 
 split-from : (cs : List ℕ) (fold : InFold) (post : List ℕ) (p : ℕ) → Apart cs post → Enough fold cs → charactersFrom fold (cs ++ post) p ≡ charactersFrom fold cs p ++ charactersFrom none post (p + length cs)
 unfolding charactersFrom

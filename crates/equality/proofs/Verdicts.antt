@@ -24,7 +24,7 @@ together no-symbol b = b
 together (one-symbol x a) b = one-symbol x (together a b)
 
 -- symbols alike to `before`, one alike to `x`, and others
-record Apart (before : List Sym) (x : Sym) (ys : List Sym) : Type 0 where
+record Parted (before : List Sym) (x : Sym) (ys : List Sym) : Type 0 where
   front : List Sym
   y : Sym
   behind : List Sym
@@ -32,10 +32,10 @@ record Apart (before : List Sym) (x : Sym) (ys : List Sym) : Type 0 where
   alike-front : AlikeSymbols before front
   alike-y : AlikeSymbol x y
 
-apart : (before : List Sym) (x : Sym) (after ys : List Sym) → AlikeSymbols (before ++ (x ∷ after)) ys → Apart before x ys
-apart [] x after ys (one-symbol {y = y} {ys = zs} h a) = record { front = []; y = y; behind = zs; is = refl; alike-front = no-symbol; alike-y = h }
-apart (w ∷ before) x after ys (one-symbol {y = y} {ys = zs} h a) =
-    let r = apart before x after zs a in
+parted : (before : List Sym) (x : Sym) (after ys : List Sym) → AlikeSymbols (before ++ (x ∷ after)) ys → Parted before x ys
+parted [] x after ys (one-symbol {y = y} {ys = zs} h a) = record { front = []; y = y; behind = zs; is = refl; alike-front = no-symbol; alike-y = h }
+parted (w ∷ before) x after ys (one-symbol {y = y} {ys = zs} h a) =
+    let r = parted before x after zs a in
     record { front = y ∷ r .front; y = r .y; behind = r .behind; is = ap (λ l. y ∷ l) (r .is); alike-front = one-symbol h (r .alike-front); alike-y = r .alike-y }
 
 alike-up-to : {p q : List Sym} {x y : Sym} → AlikeSymbols p q → AlikeSymbol x y → AlikeSymbols (upTo p x) (upTo q y)
@@ -65,7 +65,7 @@ module _ {T : Type 0} (Derives : T → List Sym → Type 0) (deep : T → ℕ) (
     first-too : {xs rest ys : List Sym} (f : FirstRefused Derives deep limit xs rest) → AlikeSymbols xs ys → FirstToo f ys
     first-too {xs} {rest} {ys} f a =
         let e : xs ≡ f .before ++ (f .x ∷ f .after) = f .splits ∙ ap (λ l. f .before ++ l) (f .place) in
-        let r = apart (f .before) (f .x) (f .after) ys (rw e at a) in
+        let r = parted (f .before) (f .x) (f .after) ys (rw e at a) in
         let u = alike-up-to (r .alike-front) (r .alike-y) in
         record {
           place = r .y ∷ r .behind;
@@ -78,7 +78,7 @@ module _ {T : Type 0} (Derives : T → List Sym → Type 0) (deep : T → ℕ) (
                 splits = r .is;
                 earlier =
                     λ p y q h.
-                    let s = apart p y q (f .before) (rw h at (turned (r .alike-front))) in
+                    let s = parted p y q (f .before) (rw h at (turned (r .alike-front))) in
                     goes-on (AtMost limit) (turned (alike-up-to (s .alike-front) (s .alike-y))) (f .earlier (s .front) (s .y) (s .behind) (s .is));
                 here = λ g. f .here (goes-on (AtMost limit) (turned u) g);
               };

@@ -8,6 +8,7 @@ use lib.Dec.{eqb}
 use lib.ListN.{length}
 use Rattle.octets.specs.Choice.{pick, both}
 use Rattle.octets.specs.Classes.{classTable}
+use Rattle.octets.specs.Octets.{openByte}
 use Rattle.octets.specs.declared.answers.Answer.the-variants.{Accepted}
 use Rattle.scanner.specs.Kinds.{characterKind}
 use Rattle.scanner.specs.Characters.{Character, character, charactersFrom, charactersAt}
@@ -47,10 +48,6 @@ abbrev pub commentMayFollow : List ℕ → ℕ → Bool
 commentMayFollow text start = elim (stateAfter (charactersAt text start) outside) [ none ↦ false | some state ↦ opensComment state ]
 
 -- ---- comments
-
--- "("
-abbrev pub openByte : ℕ
-openByte = 40
 
 -- scanning stands outside of words and comments
 abbrev pub isOutside : State → Bool

@@ -16,6 +16,9 @@ spaceByte = 32
 abbrev pub quoteByte : ℕ
 quoteByte = 34
 
+abbrev pub openByte : ℕ
+openByte = 40
+
 abbrev pub plusByte : ℕ
 plusByte = 43
 

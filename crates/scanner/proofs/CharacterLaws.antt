@@ -30,7 +30,7 @@ no-character text at h = rw (drop-of-length-le text h)
 
 -- ---- a byte that starts no fold
 
-plain-here : (b : ℕ) (rest : List ℕ) (p : ℕ) → foldAt (b ∷ rest) 0 ≡ false → charactersFrom none (b ∷ rest) p ≡ character b p false ∷ charactersFrom none rest (p + 1)
+pub plain-here : (b : ℕ) (rest : List ℕ) (p : ℕ) → foldAt (b ∷ rest) 0 ≡ false → charactersFrom none (b ∷ rest) p ≡ character b p false ∷ charactersFrom none rest (p + 1)
 unfolding charactersFrom
 plain-here b rest p h = rw (h, charactersFrom)
 
