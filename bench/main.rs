@@ -12,7 +12,7 @@ mod readers;
 mod report;
 
 use inputs::{Input, Work};
-use readers::{Desk, Read, INDEPENDENT, PROVED};
+use readers::{Desk, Read, WITH_RECORDS};
 use report::{Cost, Row};
 
 // A date is too short to be timed alone.
@@ -56,7 +56,7 @@ impl Task<'_> {
 // All readers must find the same mailboxes: records of kind 1 are what RFC 822 calls addresses.
 fn check_mailboxes(task: &Task, desk: &mut Desk) {
     const KIND_MAILBOX: u8 = 1;
-    if !matches!(task.input.work, Work::Common(_)) || ![PROVED, INDEPENDENT].contains(&task.reader) {
+    if !matches!(task.input.work, Work::Common(_)) || !WITH_RECORDS.contains(&task.reader) {
         return;
     }
     desk.lay(&task.input.text);

@@ -28,7 +28,10 @@ impl Desk {
 pub type Read = fn(&mut Desk) -> usize;
 
 pub const PROVED: &str = "proved";
+pub const BY_TABLE: &str = "proved, by table";
 pub const INDEPENDENT: &str = "independent";
+// The readers that write records.
+pub const WITH_RECORDS: [&str; 3] = [PROVED, BY_TABLE, INDEPENDENT];
 // c-client holds back alarms at each allocation and release by a system call; here it is told not to.
 pub const NO_ALARMS: &str = "c-client, no alarms";
 
@@ -36,22 +39,26 @@ mod rfc733 {
     extern "C" {
         pub fn rfc733_split(m: *const u8, n: usize, table: *mut u8, room: usize, told: *mut u64, three: usize);
         pub fn rfc733_addresses(m: *const u8, n: usize, start: usize, end: usize, table: *mut u8, room: usize, told: *mut u64, three: usize);
+        pub fn rfc733_addresses_by_table(m: *const u8, n: usize, start: usize, end: usize, table: *mut u8, room: usize, told: *mut u64, three: usize);
         pub fn rfc733_date(m: *const u8, n: usize, start: usize, end: usize, told: *mut u64, three: usize, value: *mut i64);
         pub fn rfc733_plain(m: *const u8, n: usize, start: usize, end: usize, text: *mut u8, room: usize, told: *mut u64, three: usize);
     }
 }
 
-fn proved_addresses(desk: &mut Desk) -> usize {
-    let (n, room, mut told) = (desk.length, desk.table.len(), [0u64; 3]);
-    unsafe { rfc733::rfc733_addresses(desk.text.as_ptr(), n, 0, n, desk.table.as_mut_ptr(), room, told.as_mut_ptr(), 3) };
-    told[2] as usize
+// A function of the library that reads a list and writes into lent room.
+macro_rules! proved {
+    ($wrapper:ident, $function:ident) => {
+        fn $wrapper(desk: &mut Desk) -> usize {
+            let (n, room, mut told) = (desk.length, desk.table.len(), [0u64; 3]);
+            unsafe { rfc733::$function(desk.text.as_ptr(), n, 0, n, desk.table.as_mut_ptr(), room, told.as_mut_ptr(), 3) };
+            told[2] as usize
+        }
+    };
 }
 
-fn proved_plain(desk: &mut Desk) -> usize {
-    let (n, room, mut told) = (desk.length, desk.table.len(), [0u64; 3]);
-    unsafe { rfc733::rfc733_plain(desk.text.as_ptr(), n, 0, n, desk.table.as_mut_ptr(), room, told.as_mut_ptr(), 3) };
-    told[2] as usize
-}
+proved!(proved_addresses, rfc733_addresses);
+proved!(proved_by_table, rfc733_addresses_by_table);
+proved!(proved_plain, rfc733_plain);
 
 fn proved_split(desk: &mut Desk) -> usize {
     let (n, room, mut told) = (desk.length, desk.table.len(), [0u64; 3]);
@@ -127,20 +134,21 @@ fn libraries() -> Vec<(&'static str, Read)> {
     here
 }
 
-// The proved and the independent function for a work.
-fn pair(work: Work) -> [(&'static str, Read); 2] {
-    let (proved, independent): (Read, Read) = match work {
-        Work::Common(_) | Work::List => (proved_addresses, independent_addresses),
-        Work::Plain => (proved_plain, independent_plain),
-        Work::Split => (proved_split, independent_split),
-        Work::Date => (proved_date, independent_date),
-    };
-    [(PROVED, proved), (INDEPENDENT, independent)]
+// The proved functions and the independent one for a work.
+fn ours(work: Work) -> Vec<(&'static str, Read)> {
+    match work {
+        Work::Common(_) | Work::List => {
+            vec![(PROVED, proved_addresses), (BY_TABLE, proved_by_table), (INDEPENDENT, independent_addresses)]
+        }
+        Work::Plain => vec![(PROVED, proved_plain), (INDEPENDENT, independent_plain)],
+        Work::Split => vec![(PROVED, proved_split), (INDEPENDENT, independent_split)],
+        Work::Date => vec![(PROVED, proved_date), (INDEPENDENT, independent_date)],
+    }
 }
 
 // The readers of an input, and what each is to find.
 pub fn readers(input: &Input) -> Vec<(&'static str, Read, usize)> {
-    let mut all: Vec<_> = pair(input.work).iter().map(|(name, read)| (*name, *read, input.found)).collect();
+    let mut all: Vec<_> = ours(input.work).iter().map(|(name, read)| (*name, *read, input.found)).collect();
     if matches!(input.work, Work::Common(_)) {
         all.extend(libraries().iter().map(|(name, read)| (*name, *read, input.addresses)));
     }

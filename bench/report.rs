@@ -1,6 +1,6 @@
 // Tables, plot and targets, as text.
 use crate::inputs::{Work, SIZES};
-use crate::readers::{INDEPENDENT, NO_ALARMS, PROVED};
+use crate::readers::{INDEPENDENT, NO_ALARMS, PROVED, WITH_RECORDS};
 
 // What a call of a reader on an input cost.
 pub struct Row {
@@ -130,7 +130,7 @@ pub fn targets(rows: &[Row]) {
     let (ratio, met) = (1.0 / factor, verdict(1.0 / factor <= PROVED_TO_INDEPENDENT));
     println!("- {met}: the address reader takes at most {PROVED_TO_INDEPENDENT} times as long as the independent one: {ratio:.2} times at worst ({list})");
     library_target(rows, "the fastest C library as it is installed", |reader| {
-        ![PROVED, INDEPENDENT, NO_ALARMS].contains(&reader)
+        reader != NO_ALARMS && !WITH_RECORDS.contains(&reader)
     });
     library_target(rows, "c-client without its system calls (stricter than the target)", |reader| reader == NO_ALARMS);
     for work in [Work::Common(0), Work::List, Work::Plain, Work::Split] {

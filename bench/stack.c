@@ -9,7 +9,7 @@
 
 #include "rfc733.h"
 
-enum { STACK = 1 << 20, LIMIT = 32768, PAINT = 0xA5, FUNCTIONS = 7 };
+enum { STACK = 1 << 20, LIMIT = 32768, LEVELS = 64, BY_TABLE_MOST = 4095, PAINT = 0xA5, FUNCTIONS = 8 };
 
 static _Alignas(4096) uint8_t stack[STACK];
 static uint8_t message[LIMIT], table[12 * LIMIT];
@@ -25,7 +25,7 @@ struct worst {
     unsigned number;
 };
 
-enum { SPLIT, NAME, SCAN, ADDRESSES, PLAIN, DATE, REPLY };
+enum { SPLIT, NAME, SCAN, ADDRESSES, BY_TABLE, PLAIN, DATE, REPLY };
 
 static const struct worst inputs[] = {
     {"empty", "", "", "", 0, 0, 0, ADDRESSES, 0},
@@ -55,10 +55,20 @@ static void put(const char *text, size_t times) {
     for (; times > 0; times--, length += size) memcpy(message + length, text, size);
 }
 
+static void lay(const struct worst *one) {
+    length = 0;
+    put(one->front, one->fronts);
+    put(one->middle, one->middles);
+    put(one->back, one->backs);
+}
+
 static void run_split(void) { rfc733_split(message, length, table, sizeof table, told, 3); }
 static void run_name(void) { rfc733_known_name(message, length); }
 static void run_scan(void) { rfc733_scan(message, length, 0, length, told, 3); }
 static void run_addresses(void) { rfc733_addresses(message, length, 0, length, table, sizeof table, told, 3); }
+static void run_by_table(void) {
+    rfc733_addresses_by_table(message, length, 0, length, table, sizeof table, told, 3);
+}
 static void run_plain(void) { rfc733_plain(message, length, 0, length, table, sizeof table, told, 3); }
 static void run_reply(void) { rfc733_reply(message, length, nothing, 0); }
 static void run_date(void) {
@@ -66,8 +76,8 @@ static void run_date(void) {
     rfc733_date(message, length, 0, length, told, 3, &seconds);
 }
 
-static void (*const functions[FUNCTIONS])(void) = {run_split, run_name, run_scan, run_addresses,
-                                                   run_plain, run_date, run_reply};
+static void (*const functions[FUNCTIONS])(void) = {run_split,    run_name,  run_scan, run_addresses,
+                                                   run_by_table, run_plain, run_date, run_reply};
 static const uint8_t *caller;
 
 static void *call(void *function) {
@@ -93,29 +103,48 @@ static size_t touched(int function) {
     return (size_t)(caller - (stack + low));
 }
 
+static void fail(const struct worst *one, const char *what, size_t given, size_t wanted) {
+    fprintf(stderr, "%s: %s %zu, wanted %zu\n", one->name, what, given, wanted);
+    exit(1);
+}
+
+/* Whether the number of an input is the answer of a function. */
+static int answers(const struct worst *one, int function) {
+    return function == one->function || (function == BY_TABLE && one->function == ADDRESSES);
+}
+
+/* The second address reader must touch as much at 64 levels as at 1, and never more than its most. */
+static void check_by_table(const struct worst *one, size_t bytes) {
+    struct worst shallow = *one;
+    size_t at_one;
+    if (bytes > BY_TABLE_MOST) fail(one, "stack by table", bytes, BY_TABLE_MOST);
+    if (one->fronts != LEVELS) return;
+    shallow.fronts = 1;
+    shallow.backs /= LEVELS;
+    lay(&shallow);
+    at_one = touched(BY_TABLE);
+    if (bytes != at_one) fail(one, "stack by table", bytes, at_one);
+}
+
 static size_t most[FUNCTIONS];
 
 static void show(const struct worst *one) {
-    length = 0;
-    put(one->front, one->fronts);
-    put(one->middle, one->middles);
-    put(one->back, one->backs);
+    size_t bytes[FUNCTIONS];
+    lay(one);
     printf("| %s | %zu |", one->name, length);
     for (int i = 0; i < FUNCTIONS; i++) {
-        size_t bytes = touched(i);
-        if (i == one->function && told[0] != one->number) {
-            fprintf(stderr, "%s: answer %u, wanted %u\n", one->name, (unsigned)told[0], one->number);
-            exit(1);
-        }
-        if (bytes > most[i]) most[i] = bytes;
-        printf(" %zu |", bytes);
+        bytes[i] = touched(i);
+        if (answers(one, i) && told[0] != one->number) fail(one, "answer", told[0], one->number);
+        if (bytes[i] > most[i]) most[i] = bytes[i];
+        printf(" %zu |", bytes[i]);
     }
     puts("");
+    check_by_table(one, bytes[BY_TABLE]);
 }
 
 int main(void) {
-    puts("| input | bytes | split | known_name | scan | addresses | plain | date | reply |");
-    puts("|---|--:|--:|--:|--:|--:|--:|--:|--:|");
+    puts("| input | bytes | split | known_name | scan | addresses | addresses_by_table | plain | date | reply |");
+    puts("|---|--:|--:|--:|--:|--:|--:|--:|--:|--:|");
     for (size_t i = 0; i < sizeof inputs / sizeof *inputs; i++) show(&inputs[i]);
     printf("| most | |");
     for (int i = 0; i < FUNCTIONS; i++) printf(" %zu |", most[i]);

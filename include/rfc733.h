@@ -37,6 +37,12 @@ void rfc733_scan(const uint8_t *message, size_t message_length, size_t start, si
 void rfc733_addresses(const uint8_t *message, size_t message_length, size_t start, size_t end,
                       uint8_t *table, size_t table_length, uint64_t *told, size_t told_length);
 
+/* The same by a second reader, for a board with a small stack: no function of it calls itself, it keeps its levels in an
+ * array, and a call takes less than 4,096 bytes of stack at any depth. For every message, positions and table it gives
+ * the number, position, count and table bytes of rfc733_addresses. */
+void rfc733_addresses_by_table(const uint8_t *message, size_t message_length, size_t start, size_t end,
+                               uint8_t *table, size_t table_length, uint64_t *told, size_t told_length);
+
 /* The date in the body of a message from start up to end: seconds from 1 January 1900, 00:00 GMT; 0 with a refusal. */
 void rfc733_date(const uint8_t *message, size_t message_length, size_t start, size_t end,
                  uint64_t *told, size_t told_length, int64_t *seconds);

@@ -64,14 +64,27 @@ def fields(message):
     return [Field(*(_two(table, at + i) for i in (0, 2, 4, 6))) for at in range(0, len(table), 8)]
 
 
+def _read_addresses(name, body):
+    """What an address reader of the library gives for a body."""
+    table = _written(name, body, (0, len(body)), 12)
+    return [Address(table[at], table[at + 1], *(_two(table, at + i) for i in (2, 4, 6, 8, 10))) for at in range(0, len(table), 12)]
+
+
 def addresses(body):
     """The addresses of a list, in order, as `Address` records. Raises `Refused`.
 
     kind: 1 mailbox, 2 angle list, 3 group, 4 quoted-string, 5 Include, 6 Postal, 7 other typed.
     parent: the place in the list, from 1, of the address it lies in; 0 where it lies in none.
     """
-    table = _written("rfc733_addresses", body, (0, len(body)), 12)
-    return [Address(table[at], table[at + 1], *(_two(table, at + i) for i in (2, 4, 6, 8, 10))) for at in range(0, len(table), 12)]
+    return _read_addresses("rfc733_addresses", body)
+
+
+def addresses_by_table(body):
+    """As `addresses`, by the second reader, for machines with a small stack: no function of it calls itself.
+
+    It is proved that it gives the same records and the same refusals for every body.
+    """
+    return _read_addresses("rfc733_addresses_by_table", body)
 
 
 def plain(body):

@@ -29,17 +29,29 @@ def refused(name, call, number, place):
     same(name, got, (number, place))
 
 
-same("empty", rfc733.addresses(b""), [])
-same("commas", rfc733.addresses(b",,"), [])
-same("mailbox", rfc733.addresses(b"Neuman@BBN-TENEXA"), [(1, 0, 0, 0, 17, 0, 6)])
-same("quoted", rfc733.addresses(b'"x"'), [(4, 0, 0, 0, 3, 0, 3)])
-same("groups", rfc733.addresses(b":,A:;;"), [(3, 0, 0, 0, 6, 0, 0), (3, 1, 1, 2, 5, 2, 3)])
-refused("x", lambda: rfc733.addresses(b"x"), 9, 1)
-refused("a at b c", lambda: rfc733.addresses(b"a at b c"), 8, 7)
-refused(":A:;;", lambda: rfc733.addresses(b":A:;;"), 8, 3)
-refused("65 levels", lambda: rfc733.addresses(b"<" * 65 + b">" * 65), 10, 64)
-refused("open quote", lambda: rfc733.addresses(b'"ab'), 5, 0)
-refused("open comment", lambda: rfc733.addresses(b"("), 6, 0)
+for read in (rfc733.addresses, rfc733.addresses_by_table):
+    by = read.__name__
+    same(f"{by}, empty", read(b""), [])
+    same(f"{by}, commas", read(b",,"), [])
+    same(f"{by}, mailbox", read(b"Neuman@BBN-TENEXA"), [(1, 0, 0, 0, 17, 0, 6)])
+    same(f"{by}, quoted", read(b'"x"'), [(4, 0, 0, 0, 3, 0, 3)])
+    same(f"{by}, groups", read(b":,A:;;"), [(3, 0, 0, 0, 6, 0, 0), (3, 1, 1, 2, 5, 2, 3)])
+    refused(f"{by}, x", lambda: read(b"x"), 9, 1)
+    refused(f"{by}, a at b c", lambda: read(b"a at b c"), 8, 7)
+    refused(f"{by}, :A:;;", lambda: read(b":A:;;"), 8, 3)
+    refused(f"{by}, two types", lambda: read(b":A: :B: x at H;;"), 8, 14)
+    refused(f"{by}, open angle list", lambda: read(b"<a at b"), 9, 7)
+    refused(f"{by}, open quote", lambda: read(b'"ab'), 5, 0)
+    refused(f"{by}, open comment", lambda: read(b"("), 6, 0)
+    refused(f"{by}, too long", lambda: read(b" " * 32769), 1, 32768)
+    same(f"{by}, 64 levels", read(b"<" * 64 + b">" * 64), [(2, i, i, i, 128 - i, i, i) for i in range(64)])
+    refused(f"{by}, 65 levels", lambda: read(b"<" * 65 + b">" * 65), 10, 64)
+    # the 64th level is a typed address: its second colon opens none
+    angles = [(2, i, i, i, 132 - i, i, i) for i in range(63)]
+    typed = [(7, 63, 63, 63, 69, 64, 65), (4, 64, 64, 66, 69, 66, 69)]
+    same(f"{by}, 64th level typed", read(b"<" * 63 + b':A:"q"' + b">" * 63), angles + typed)
+    refused(f"{by}, 65th level typed", lambda: read(b"<" * 64 + b':A:"q"' + b">" * 64), 10, 64)
+    refused(f"{by}, 64 levels and a colon that fits nowhere", lambda: read(b"<" * 64 + b"x at y :"), 8, 71)
 same("EST", rfc733.date(b"Monday, 21 Nov 77 1430-EST"), 2457977400)
 same("+0100", rfc733.date(b"1 Jan 1900 0000 +0100"), -3600)
 same("A", rfc733.date(b"1 Jan 1900 0000 A"), 3600)

@@ -1,7 +1,8 @@
 #!/usr/bin/env python3
-"""The library against document 01's address rules, set down here as rules and tried one by one: every sequence of up to
-five symbols that no rule refuses before its last, and longer ones at random. A sequence is refused at its first symbol
-with which no list goes on, or is no list at its end, or has exactly one derivation; the records are that derivation's.
+"""Both address readers of the library against document 01's address rules, set down here as rules and tried one by one:
+every sequence of up to five symbols that no rule refuses before its last, and longer ones at random. A sequence is
+refused at its first symbol with which no list goes on, or is no list at its end, or has exactly one derivation; the
+records are that derivation's.
 usage: tests/rules.py [SYMBOLS [WALKS [SEED]]]"""
 import functools
 import pathlib
@@ -103,15 +104,21 @@ def records(tree, places, depth=0, parent=0, found=None):
 seen, faults = {0: 0, 8: 0, 9: 0}, []
 
 
+def answer(read, text):
+    """The records that a reader gives, or its refusal."""
+    try:
+        return [tuple(record) for record in read(text)]
+    except rfc733.Refused as fault:
+        return fault.number, fault.place
+
+
 def compare(symbols, wanted):
     text, _ = spans(symbols)
-    try:
-        got = [tuple(record) for record in rfc733.addresses(text)]
-    except rfc733.Refused as fault:
-        got = (fault.number, fault.place)
     seen[wanted[0] if isinstance(wanted, tuple) else 0] += 1
-    if got != wanted:
-        faults.append(f"{text!r}: got {got}, the rules give {wanted}")
+    for read in (rfc733.addresses, rfc733.addresses_by_table):
+        got = answer(read, text)
+        if got != wanted:
+            faults.append(f"{text!r}: {read.__name__} gives {got}, the rules {wanted}")
 
 
 def whole(symbols, reading):
@@ -161,5 +168,5 @@ for _ in range(walks):
     walk(rng.randrange(6, 15), rng)
 for fault in faults[:20]:
     print(fault)
-print(f"seed {seed}; lists {seen[0]}, refused by 8 {seen[8]}, by 9 {seen[9]}")
+print(f"seed {seed}; read by both: lists {seen[0]}, refused by 8 {seen[8]}, by 9 {seen[9]}")
 sys.exit(1 if faults or not all(seen.values()) else 0)

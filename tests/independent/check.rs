@@ -1,4 +1,4 @@
-//! Tests the second reader by itself on the examples of the page of rules.
+//! Tests the independent reader by itself on the examples of the page of rules.
 
 mod reader;
 
@@ -119,6 +119,30 @@ fn edges(tally: &mut Tally) {
     tally.same("out of order", list_at(2, 1), told(13, 0, 0));
     tally.same("behind the message", list_at(0, 4), told(13, 0, 0));
     tally.same("too long", list(&[b' '; 32_769]).0, told(1, 32_768, 0));
+}
+
+/// What the levels of a body come to.
+fn levels(tally: &mut Tally) {
+    let of = |body: &str| {
+        let found = reader::levels(body.as_bytes(), 0, body.len());
+        (found.most, found.last, found.full_typed, found.ended)
+    };
+    let none = [false; 4];
+    let angles = |n: usize| "<".repeat(n);
+    tally.same("no levels", of("x at y"), (0, 0, false, none));
+    tally.same("fault of scanning", of("<\""), (0, 0, false, none));
+    tally.same("closed", of("<:;>"), (2, 0, false, none));
+    tally.same("left open", of("<:;"), (2, 1, false, none));
+    tally.same("refused", of("<:>,<<<"), (2, 2, false, none));
+    tally.same("full", of(&[&angles(64), ":A:"].concat()), (64, 64, false, none));
+    tally.same("full, typed", of(&[&angles(63), ":A:"].concat()), (64, 64, true, none));
+    tally.same("full, nameless", of(&[&angles(63), ":A"].concat()), (64, 64, false, none));
+    tally.same("one typed", of(":A:\"q\",<:A:\"q\">,:A:\"q\""), (2, 1, false, none));
+    tally.same("by comma", of(":A: :B: x at y,"), (2, 0, false, [true, false, false, false]));
+    tally.same("by semicolon", of("::A: :B:<>;"), (4, 0, false, [false, true, false, false]));
+    tally.same("by angle", of("<:A: :B:\"q\">"), (3, 0, false, [false, false, true, false]));
+    tally.same("by the end", of(":A: :B:\"q\""), (2, 2, false, [false, false, false, true]));
+    tally.same("ended, then refused", of("<:A: :B:\"q\";"), (3, 3, false, none));
 }
 
 /// Every byte of the records of a nested list.
@@ -356,6 +380,7 @@ fn main() {
     run_examples(&mut tally);
     program_example(&mut tally);
     edges(&mut tally);
+    levels(&mut tally);
     records(&mut tally);
     scanning(&mut tally);
     writing(&mut tally);

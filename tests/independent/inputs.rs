@@ -39,6 +39,7 @@ pub enum Kind {
     List,
     Mutant,
     Deep,
+    Waves,
     Long,
     Header,
     Date,
@@ -49,14 +50,14 @@ pub enum Kind {
     Pair,
 }
 
-pub const KINDS: [Kind; 14] = [
+pub const KINDS: [Kind; 15] = [
     Kind::Bytes, Kind::Tokens, Kind::Symbols, Kind::List, Kind::Mutant, Kind::Deep,
-    Kind::Long, Kind::Header, Kind::Date, Kind::DateMutant, Kind::Reply, Kind::Name,
-    Kind::Exchange, Kind::Pair,
+    Kind::Waves, Kind::Long, Kind::Header, Kind::Date, Kind::DateMutant, Kind::Reply,
+    Kind::Name, Kind::Exchange, Kind::Pair,
 ];
 
 /// How often each kind is made, of 1,000.
-const WEIGHTS: [usize; 14] = [40, 130, 150, 95, 155, 75, 2, 78, 50, 50, 18, 7, 80, 70];
+const WEIGHTS: [usize; 15] = [40, 110, 130, 95, 135, 75, 60, 2, 78, 50, 50, 18, 7, 80, 70];
 
 /// Chooses the place of a kind in `KINDS`.
 pub fn choose(rng: &mut Rng) -> usize {
@@ -82,6 +83,7 @@ pub fn body(rng: &mut Rng, kind: Kind) -> Vec<u8> {
             mutate(rng, valid)
         }
         Kind::Deep => deep(rng),
+        Kind::Waves => waves(rng),
         Kind::Long => long(rng),
         Kind::Header => header(rng),
         Kind::Date => date(rng),
@@ -146,7 +148,8 @@ fn tokens(rng: &mut Rng) -> Vec<u8> {
 
 /// Symbols of a small alphabet, so that short lists are met often.
 fn symbols(rng: &mut Rng) -> Vec<u8> {
-    let small: [&[u8]; 10] = [b"x", b"\"q\"", b"at", b"@", b"<", b">", b":", b";", b",", b"y"];
+    let small: [&[u8]; 11] =
+        [b"x", b"\"q\"", b"at", b"@", b"<", b">", b":", b";", b",", b"y", b")"];
     let mut parts: Vec<Vec<u8>> = Vec::new();
     let mut length = rng.below(14);
     while length > 0 {
@@ -359,6 +362,122 @@ fn add_opener(rng: &mut Rng, out: &mut Tokens, closers: &mut Tokens, opener: &[u
     } else if !typed {
         add(closers, if opener.contains(&b'<') { b">" } else { b";" });
     }
+}
+
+/// What opens a level, and what closes it: nothing for a typed address.
+const LEVELS: [(&[u8], &[u8]); 7] = [
+    (b"<", b">"), (b"a:", b";"), (b":", b";"), (b":a:", b""), (b"x y<", b">"), (b"\"q\":", b";"),
+    (b":Postal:", b""),
+];
+
+/// A list in the making.
+#[derive(Default)]
+struct Climb {
+    tokens: Tokens,
+    /// What closes each open level.
+    open: Vec<&'static [u8]>,
+    /// Whether an address has just ended.
+    ended: bool,
+}
+
+impl Climb {
+    fn put(&mut self, token: &[u8]) {
+        add(&mut self.tokens, token);
+        self.ended = false;
+    }
+
+    /// Whether a typed address still lacks the address it holds.
+    fn owed(&self) -> bool {
+        self.open.last().is_some_and(|closer| closer.is_empty())
+    }
+
+    /// Puts the comma that the next address needs, and now and then others.
+    fn part(&mut self, rng: &mut Rng) {
+        while self.ended || (!self.owed() && rng.once_in(10)) {
+            self.put(b",");
+        }
+    }
+
+    /// Opens a level; an atom and ":" make the nameless group before them a
+    /// typed address.
+    fn open(&mut self, rng: &mut Rng, (opener, closer): (&[u8], &'static [u8])) {
+        self.part(rng);
+        if opener == b"a:" && self.tokens.last().is_some_and(|token| token == b":") {
+            self.open.pop();
+            self.open.push(b"");
+        } else {
+            self.open.push(closer);
+        }
+        self.put(opener);
+    }
+
+    /// Opens levels up to a number of them.
+    fn rise(&mut self, rng: &mut Rng, top: usize) {
+        while self.open.len() < top {
+            let level = LEVELS[rng.below(LEVELS.len())];
+            let run = 1 + rng.below(3);
+            for _ in 0..run.min(top - self.open.len()) {
+                self.open(rng, level);
+            }
+        }
+    }
+
+    /// Ends an address, and the typed addresses right around it.
+    fn end(&mut self, token: &[u8]) {
+        self.put(token);
+        while self.owed() {
+            self.open.pop();
+        }
+        self.ended = true;
+    }
+
+    /// Puts an address that opens no level.
+    fn member(&mut self, rng: &mut Rng) {
+        self.part(rng);
+        let members: [&[u8]; 4] = [b"x at y", b"\"q\"", b"a b@c@\"d\"", b"\"q\" x@y"];
+        self.end(rng.pick(&members));
+    }
+
+    /// Closes a level, if there is one.
+    fn close(&mut self, rng: &mut Rng) {
+        if self.owed() {
+            self.member(rng);
+        }
+        if rng.once_in(8) {
+            self.put(b",");
+        }
+        if let Some(closer) = self.open.pop() {
+            self.end(closer);
+        }
+    }
+}
+
+/// Lists that go up to about 64 levels, and down and up again.
+fn waves(rng: &mut Rng) -> Vec<u8> {
+    let mut climb = Climb::default();
+    for _ in 0..1 + rng.below(4) {
+        let top = if rng.once_in(8) { 65 + rng.below(2) } else { 60 + rng.below(5) };
+        climb.rise(rng, top);
+        if rng.once_in(8) {
+            climb.put(&symbols(rng));
+        }
+        for _ in 0..rng.below(12) {
+            if rng.once_in(3) { climb.member(rng) } else { climb.close(rng) }
+        }
+    }
+    if !rng.once_in(5) {
+        while !climb.open.is_empty() {
+            climb.close(rng);
+        }
+    }
+    if rng.once_in(4) {
+        let few = climb.open.len() + rng.below(4);
+        climb.rise(rng, few);
+        climb.member(rng);
+    }
+    let compact = !rng.once_in(4);
+    let whole = glue(rng, &climb.tokens, compact);
+    if rng.once_in(8) { mutate(rng, whole) } else { whole }
 }
 
 /// Bodies up to and just past the longest message.

@@ -1,4 +1,4 @@
-//! Compares the proved library, through its C functions, with the second
+//! Compares the proved library, through its C functions, with the independent
 //! reader on random inputs: `main SEED SECONDS`.
 
 mod inputs;
@@ -21,6 +21,11 @@ extern "C" {
         told: *mut u64, told_len: usize,
     );
     fn rfc733_addresses(
+        message: *const u8, message_len: usize, start: usize, end: usize,
+        table: *mut u8, table_len: usize,
+        told: *mut u64, told_len: usize,
+    );
+    fn rfc733_addresses_by_table(
         message: *const u8, message_len: usize, start: usize, end: usize,
         table: *mut u8, table_len: usize,
         told: *mut u64, told_len: usize,
@@ -68,20 +73,29 @@ mod proved {
         answer(told)
     }
 
-    pub fn addresses(message: &[u8], start: usize, end: usize, table: &mut [u8]) -> Told {
+    /// A C function that reads a body and fills a buffer.
+    type Filling = unsafe extern "C" fn(
+        *const u8, usize, usize, usize, *mut u8, usize, *mut u64, usize,
+    );
+
+    fn fill(call: Filling, message: &[u8], start: usize, end: usize, lent: &mut [u8]) -> Told {
         let mut told = UNSET;
-        let (m, t) = (message.as_ptr(), table.as_mut_ptr());
+        let (m, b) = (message.as_ptr(), lent.as_mut_ptr());
         let out = told.as_mut_ptr();
-        unsafe { rfc733_addresses(m, message.len(), start, end, t, table.len(), out, 3) };
+        unsafe { call(m, message.len(), start, end, b, lent.len(), out, 3) };
         answer(told)
     }
 
+    pub fn addresses(message: &[u8], start: usize, end: usize, table: &mut [u8]) -> Told {
+        fill(rfc733_addresses, message, start, end, table)
+    }
+
+    pub fn addresses_by_table(message: &[u8], start: usize, end: usize, table: &mut [u8]) -> Told {
+        fill(rfc733_addresses_by_table, message, start, end, table)
+    }
+
     pub fn plain(message: &[u8], start: usize, end: usize, text: &mut [u8]) -> Told {
-        let mut told = UNSET;
-        let (m, t) = (message.as_ptr(), text.as_mut_ptr());
-        let out = told.as_mut_ptr();
-        unsafe { rfc733_plain(m, message.len(), start, end, t, text.len(), out, 3) };
-        answer(told)
+        fill(rfc733_plain, message, start, end, text)
     }
 
     pub fn date(message: &[u8], start: usize, end: usize) -> (Told, i64) {
@@ -97,13 +111,20 @@ mod proved {
     }
 }
 
+/// Reads the addresses of a body into a table.
+type Reader = fn(&[u8], usize, usize, &mut [u8]) -> Told;
+
+/// The proved address readers: the first, and the second, driven by a table.
+const READERS: [(&str, Reader); 2] =
+    [("addresses", proved::addresses), ("addresses by table", proved::addresses_by_table)];
+
 /// What stands in every lent buffer beforehand.
 const PATTERN: u8 = 0xA5;
 
 /// Bytes of the longest message, and of the longest plain text read back.
 const LONGEST: usize = 32_768;
 
-/// Seconds after which every tally of the laws must have counted.
+/// Seconds after which every tally must have counted.
 const LONG_ENOUGH: u64 = 5;
 
 /// One input and where it came from.
@@ -126,62 +147,63 @@ fn show(case: &Case) {
 }
 
 /// Prints a difference whole and ends the program.
-fn differ(case: &Case, function: &str, room: usize, proved: &dyn Debug, second: &dyn Debug) -> ! {
+fn differ(case: &Case, function: &str, room: usize, proved: &dyn Debug, wanted: &dyn Debug) -> ! {
     println!("DIFFERENCE in {function}");
     println!("seed {} kind {:?} room {room}", case.seed, case.kind);
     show(case);
     println!("proved: {proved:?}");
-    println!("second: {second:?}");
+    println!("wanted: {wanted:?}");
     std::process::exit(1);
 }
 
 /// Prints two messages that break a law together and ends the program.
-fn break_law(one: &Case, other: &Case, law: &str, proved: &dyn Debug, second: &dyn Debug) -> ! {
+fn break_law(one: &Case, other: &Case, law: &str, proved: &dyn Debug, wanted: &dyn Debug) -> ! {
     println!("the first of two messages:");
     show(one);
-    differ(other, law, 0, proved, second);
+    differ(other, law, 0, proved, wanted);
 }
 
-fn agree<T: PartialEq + Debug>(case: &Case, function: &str, room: usize, proved: T, second: T) {
-    if proved != second {
-        differ(case, function, room, &proved, &second);
+fn agree<T: PartialEq + Debug>(case: &Case, function: &str, room: usize, proved: T, wanted: T) {
+    if proved != wanted {
+        differ(case, function, room, &proved, &wanted);
     }
 }
 
-/// A room around what is needed: none, too little, exact, or more.
+/// A room around what is needed: none, too little, exact, or more; or any.
 fn room(rng: &mut Rng, needed: usize, size: usize) -> usize {
     let exact = needed * size;
-    match rng.below(7) {
+    match rng.below(8) {
         0 => 0,
         1 => exact.saturating_sub(size),
         2 => exact.saturating_sub(1),
         3 => exact + rng.below(3 * size),
         4 => exact + size + rng.below(100),
         5 => rng.below(exact + 1),
+        6 => rng.below(2_001),
         _ => exact,
     }
 }
 
-/// Runs a function that fills a buffer, on both sides, with rooms around
-/// what it needs, and compares answers and whole buffers.
+/// Runs functions that fill a buffer, proved ones and the independent one,
+/// with rooms around what they need, and compares answers and whole buffers.
 fn compare_filling(
     rng: &mut Rng,
     case: &Case,
-    name: &str,
     size: usize,
-    proved: &dyn Fn(&mut [u8]) -> Told,
-    second: &dyn Fn(&mut [u8]) -> Told,
+    proved: &[(&str, impl Fn(&mut [u8]) -> Told)],
+    independent: impl Fn(&mut [u8]) -> Told,
 ) -> Told {
-    let mut told = second(&mut []);
+    let mut told = independent(&mut []);
     let needed = told.count as usize;
     let guess = if needed > 0 { needed } else { rng.below(6) };
     for lent in [room(rng, guess, size), needed * size] {
-        let mut one = vec![PATTERN; lent];
-        let mut two = vec![PATTERN; lent];
-        let left = proved(&mut one);
-        told = second(&mut two);
-        agree(case, name, lent, left, told);
-        agree(case, name, lent, one, two);
+        let mut wanted = vec![PATTERN; lent];
+        told = independent(&mut wanted);
+        for (name, fill) in proved {
+            let mut filled = vec![PATTERN; lent];
+            agree(case, name, lent, fill(&mut filled), told);
+            agree(case, name, lent, &filled, &wanted);
+        }
     }
     told
 }
@@ -193,11 +215,13 @@ fn round_trip(case: &Case) {
     if text.len() > LONGEST {
         return;
     }
-    let mut table = vec![PATTERN; records.len()];
-    let told = proved::addresses(&text, 0, text.len(), &mut table);
     let wanted = Told { number: 0, position: 0, count: (records.len() / 12) as u64 };
-    agree(case, "round trip, answer", 0, told, wanted);
-    agree(case, "round trip, records", 0, heads(&table), heads(&records));
+    for (name, read) in READERS {
+        let mut table = vec![PATTERN; records.len()];
+        let told = read(&text, 0, text.len(), &mut table);
+        agree(case, "round trip, answer", 0, (name, told), (name, wanted));
+        agree(case, "round trip, records", 0, (name, heads(&table)), (name, heads(&records)));
+    }
     agree(case, "round trip, text", 0, proved_plain(&text, 0, text.len()), text);
 }
 
@@ -225,15 +249,17 @@ fn compare_body(rng: &mut Rng, case: &Case) -> u64 {
     let (message, start, end) = (case.message, case.start, case.end);
     agree(case, "scan", 0, proved::scan(message, start, end), reader::scan(message, start, end));
     agree(case, "date", 0, proved::date(message, start, end), reader::date(message, start, end));
+    let readers =
+        READERS.map(|(name, read)| (name, move |lent: &mut [u8]| read(message, start, end, lent)));
     let told = compare_filling(
-        rng, case, "addresses", 12,
-        &|table| proved::addresses(message, start, end, table),
-        &|table| reader::addresses(message, start, end, table),
+        rng, case, 12,
+        &readers,
+        |table| reader::addresses(message, start, end, table),
     );
     let text = compare_filling(
-        rng, case, "plain", 1,
-        &|text| proved::plain(message, start, end, text),
-        &|text| reader::plain(message, start, end, text),
+        rng, case, 1,
+        &[("plain", |text: &mut [u8]| proved::plain(message, start, end, text))],
+        |text| reader::plain(message, start, end, text),
     );
     agree(case, "plain against addresses", 0, text.number, told.number);
     if told.number == 0 {
@@ -246,9 +272,9 @@ fn compare_body(rng: &mut Rng, case: &Case) -> u64 {
 fn compare_header(rng: &mut Rng, case: &Case) -> u64 {
     let message = case.message;
     let told = compare_filling(
-        rng, case, "split", 8,
-        &|table| proved::split(message, table),
-        &|table| reader::split(message, table),
+        rng, case, 8,
+        &[("split", |table: &mut [u8]| proved::split(message, table))],
+        |table| reader::split(message, table),
     );
     if told.number != 0 {
         return told.number;
@@ -303,7 +329,8 @@ fn proved_kept(case: &Case) -> Kept {
     }
 }
 
-/// How often the laws of equal addresses were tried, and on what.
+/// How often the laws of equal addresses and the limit of levels were tried,
+/// and on what.
 #[derive(Default)]
 struct Seen {
     /// Exchanges of comments by the answer number of the body.
@@ -316,6 +343,13 @@ struct Seen {
     same: u64,
     different: u64,
     unread: u64,
+    /// Bodies with 64 levels open, refused ones where they are refused, by
+    /// the answer number.
+    full: [u64; 15],
+    /// Bodies whose last level allowed became a typed address.
+    full_typed: u64,
+    /// Bodies where several typed addresses end at once, by what ends them.
+    ended: [u64; 4],
 }
 
 impl Seen {
@@ -332,7 +366,26 @@ impl Seen {
         all.push(("pairs with the same addresses".to_string(), self.same));
         all.push(("pairs with other addresses".to_string(), self.different));
         all.push(("pairs not both accepted".to_string(), self.unread));
+        all.push(("64 levels open, accepted".to_string(), self.full[0]));
+        for number in [8, 9, 10] {
+            all.push((format!("64 levels open, refused {number}"), self.full[number]));
+        }
+        all.push(("64th level typed".to_string(), self.full_typed));
+        for ((end, _), times) in reader::ENDS.iter().zip(self.ended) {
+            all.push((format!("typed ones ended together, by {end}"), times));
+        }
         all
+    }
+
+    /// Counts what the levels of a body come to.
+    fn count_levels(&mut self, case: &Case, number: u64) {
+        let levels = reader::levels(case.message, case.start, case.end);
+        let open = if number == 0 { levels.most } else { levels.last };
+        self.full[number as usize] += u64::from(open == 64);
+        self.full_typed += u64::from(levels.full_typed);
+        for (times, ended) in self.ended.iter_mut().zip(levels.ended) {
+            *times += u64::from(ended);
+        }
     }
 
     /// Prints the tallies; false if one of them is still zero.
@@ -395,11 +448,11 @@ fn compare_pair(rng: &mut Rng, seed: u64, seen: &mut Seen) -> u64 {
     let (first, last) = (proved_kept(&left), proved_kept(&right));
     let accepted = first.number == 0 && last.number == 0;
     let proved = accepted.then_some(first.text == last.text);
-    let second = reader::same_addresses((&one.0, one.1, one.2), (&other.0, other.1, other.2));
-    if proved != second || (proved == Some(true) && first != last) {
-        break_law(&left, &right, "same addresses", &(proved, first, last), &second);
+    let wanted = reader::same_addresses((&one.0, one.1, one.2), (&other.0, other.1, other.2));
+    if proved != wanted || (proved == Some(true) && first != last) {
+        break_law(&left, &right, "same addresses", &(proved, first, last), &wanted);
     }
-    match second {
+    match wanted {
         None => seen.unread += 1,
         Some(true) => seen.same += 1,
         Some(false) => seen.different += 1,
@@ -435,6 +488,9 @@ fn one_input(rng: &mut Rng, seed: u64, kind: Kind, seen: &mut Seen) -> u64 {
                 return compare_exchange(rng, &case, seen);
             }
             let list = compare_body(rng, &case);
+            if kind == Kind::Deep || kind == Kind::Waves {
+                seen.count_levels(&case, list);
+            }
             match kind {
                 Kind::Date | Kind::DateMutant => reader::date(&message, start, end).0.number,
                 _ => list,

@@ -1,4 +1,4 @@
-//! A second reader of RFC 733 headers, written from the page of rules alone.
+//! A reader of RFC 733 headers, written from the page of rules alone.
 //! Bodies are unfolded, cut into symbols, read into a tree by a machine with
 //! an explicit stack, and only then turned into records or plain text.
 
@@ -545,6 +545,44 @@ fn read(message: &[u8], start: usize, end: usize) -> Result<Reading, Fault> {
     }
     let (tree, roots) = (machine.tree, machine.roots);
     Ok(Reading { symbols, tree, roots })
+}
+
+/// What ends an address, a mark or the body's end, and how many levels it
+/// closes besides typed addresses.
+pub const ENDS: [(&str, usize); 4] = [(",", 0), (";", 1), (">", 1), ("end", 0)];
+
+/// What the levels of a body come to, up to its end or first refused symbol.
+#[derive(Default)]
+pub struct Levels {
+    /// Most levels open at once.
+    pub most: usize,
+    /// Levels open at the end or the refused symbol.
+    pub last: usize,
+    /// Whether the last level allowed became a typed address.
+    pub full_typed: bool,
+    /// Which of `ENDS` ended two or more typed addresses at once.
+    pub ended: [bool; 4],
+}
+
+/// Follows the levels of a body.
+pub fn levels(message: &[u8], start: usize, end: usize) -> Levels {
+    let mut levels = Levels::default();
+    let symbols = symbols(message, start, end).unwrap_or_default();
+    let mut machine = Machine::new(&symbols);
+    for i in 0..=symbols.len() {
+        levels.last = machine.open.len();
+        levels.most = levels.most.max(levels.last);
+        let taken = if i < symbols.len() { machine.take(i).is_ok() } else { machine.settle(i) };
+        if !taken {
+            break;
+        }
+        levels.full_typed |= machine.place == Place::Owed && machine.open.len() == LEVELS;
+        let mark = symbols.get(i).map_or(&b"end"[..], |symbol| &symbol.meaning);
+        for ((end, closed), ended) in ENDS.iter().zip(&mut levels.ended) {
+            *ended |= mark == end.as_bytes() && levels.last > machine.open.len() + closed + 1;
+        }
+    }
+    levels
 }
 
 fn kind(reading: &Reading, address: &Address) -> u8 {

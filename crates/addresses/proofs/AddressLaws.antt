@@ -12,15 +12,15 @@ use Rattle.octets.specs.Numbers.{noListGoesOn, endsTooSoon}
 use Rattle.scanner.specs.declared.Next.{Next}
 use Rattle.scanner.specs.declared.Next.the-variants.{Found, Ended, Fault}
 use Rattle.grammar.specs.Language.{Refusal, unfit, unfinished, tooDeep, refused, number, positionOf}
-use Rattle.grammar.specs.Records.{recordBytes, tableBytes}
+use Rattle.grammar.specs.Records.{recordBy, recordBytes, tableBytes}
 use Rattle.grammar.proofs.Trees.{Class, Atom, Quoted, At, LessThan, GreaterThan, Comma, Semicolon, Colon, Stray, Lexeme, Sym, of, Word, atomWord, quotedWord, Phrase, one, more, Address, mailbox, quoted, phraseThen, nodesThen, atomColon}
 use Rattle.grammar.proofs.AddressMachine.{Here, inList, inTyped, phrase, firstAt, lone, levelsHere, fresh, run, judge, Spot}
 use Rattle.grammar.proofs.Complete.{begin, Clear, run-phrase, run-mailbox}
 use Rattle.grammar.proofs.Readers.{AddressEnds, endsAddress, at-unfit}
-use Rattle.grammar.proofs.TreeRecords.{phraseStart, phraseEnd, nodesEnd, recordBy}
+use Rattle.grammar.proofs.TreeRecords.{phraseStart, phraseEnd, nodesEnd}
 use Rattle.addresses.specs.Steps.{endsAddressNext, refusedNext, loneQuoted, symbolsFrom, lexemeAt, symbolAt, symbolsAhead, Standing, Ahead, NodesEnd, Stops, NodesContext, NodesIs, AddressRead, AddressStops, AddressIs, Ready, Opened, Named, NoMark, followsPhrase, Lone}
 use Rattle.addresses.specs.declared.Frame.{Frame}
-use Rattle.addresses.specs.declared.Span.{Span}
+use Rattle.grammar.specs.declared.Span.{Span}
 use Rattle.addresses.specs.declared.Reading.the-variants.{Read, Refused}
 
 -- what ends an address, of what comes next

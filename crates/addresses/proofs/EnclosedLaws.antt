@@ -9,11 +9,10 @@ use lib.ListN.{length}
 use lib.Seq.{sets}
 use Rattle.octets.specs.Numbers.{noListGoesOn, endsTooSoon, tooManyLevels}
 use Rattle.octets.specs.Text.{part}
-use Rattle.octets.proofs.Parts.{sets-behind-first}
 use Rattle.scanner.specs.declared.Next.{Next}
 use Rattle.scanner.specs.declared.Next.the-variants.{Found, Ended, Fault}
 use Rattle.grammar.specs.Language.{Refusal, unfit, unfinished, tooDeep, refused, number, positionOf}
-use Rattle.grammar.specs.Records.{AddressRecord, recordBytes, tableBytes}
+use Rattle.grammar.specs.Records.{AddressRecord, recordBy, recordBytes, tableBytes}
 use Rattle.grammar.specs.Rfc733.{sameClass, kindNumber, typedKind}
 use Rattle.grammar.proofs.HouseRule.{same-class}
 use Rattle.grammar.proofs.Trees.{Class, Atom, Quoted, At, LessThan, GreaterThan, Comma, Semicolon, Colon, Stray, Lexeme, Sym, of, Phrase, AddressList, empty, idle, Address, angle, group, typed, nameThen, atomColon}
@@ -21,10 +20,11 @@ use Rattle.grammar.proofs.AnyMachine.{stopped}
 use Rattle.grammar.proofs.AddressMachine.{Here, inTyped, Level, inAngle, inGroup, list, want, asList, close, levelsHere, levelsAt, nameless, fresh, run, judge}
 use Rattle.grammar.proofs.Complete.{begin, doneAddress, doneList, Clear, complete-doneList, run-angle, run-group}
 use Rattle.grammar.proofs.Readers.{AddressEnds, ListEnds, endsAddress, deep-angle, deep-group, closed-unfit, clear-colon, run-typed}
-use Rattle.grammar.proofs.TreeRecords.{nameStart, nameEnd, addressEnd, addressRecord, insideRecords, addressRecords, listRecords, recordBy}
+use Rattle.grammar.proofs.TreeRecords.{nameStart, nameEnd, addressEnd, addressRecord, insideRecords, addressRecords, listRecords}
+use Rattle.grammar.proofs.RecordLaws.{stored-around}
 use Rattle.addresses.specs.Steps.{endsAddressNext, refusedNext, opening, closing, enclosureKind, levelIn, enclosed, House, symbolsFrom, lexemeAt, symbolAt, symbolsAhead, Faultless, Standing, Ahead, Stops, AddressRead, AddressStops, AddressIs, Ready, Opening, Opened, ListRead, ListStops, inner, TypedFollows, ColonFirst, TypedFirst}
 use Rattle.addresses.specs.declared.Frame.{Frame}
-use Rattle.addresses.specs.declared.Span.{Span}
+use Rattle.grammar.specs.declared.Span.{Span}
 use Rattle.addresses.specs.declared.Enclosure.{Enclosure}
 use Rattle.addresses.specs.declared.Enclosure.the-variants.{Angle, Group}
 use Rattle.addresses.specs.declared.Reading.the-variants.{Read, Refused}
@@ -103,15 +103,13 @@ count-of Group o t l u = refl
 
 -- ---- a record that is written behind those which lie in its address
 
-pub stored-around : (table between after : List ℕ) (i depth levels : ℕ) (r : AddressRecord) (rs : ℕ → ℕ → List AddressRecord) → (levels ≡ 0 → ⊥) → levels ≤ 64
+stored-in : (table between after : List ℕ) (i levels : ℕ) (r : AddressRecord) (rs : ℕ → ℕ → List AddressRecord) → (levels ≡ 0 → ⊥) → levels ≤ 64
     → between ≡ sets table ((i + 1) * 12) (tableBytes (rs (64 - (levels - 1)) (i + 1))) → after ≡ sets between (i * 12) (recordBytes r)
     → after ≡ sets table (i * 12) (tableBytes (r ∷ rs (suc (64 - levels)) (suc i)))
-stored-around table between after i depth levels r rs n h e f =
+stored-in table between after i levels r rs n h e f =
     let d : 64 - (levels - 1) ≡ suc (64 - levels) = omega arith in
     let p : i + 1 ≡ suc i = omega arith in
-    let q : suc i * 12 ≡ i * 12 + 12 = omega arith in
-    let g : between ≡ sets table (i * 12 + 12) (tableBytes (rs (suc (64 - levels)) (suc i))) = e ∙ rw (d, p, q) in
-    f ∙ ap (λ (z : List ℕ). sets z (i * 12) (recordBytes r)) g ∙ sets-behind-first (recordBytes r) (tableBytes (rs (suc (64 - levels)) (suc i))) table (i * 12)
+    stored-around table between after i r (rs (suc (64 - levels)) (suc i)) (e ∙ rw (d, p)) f
 
 module _ (classes text : List ℕ) where
   -- ---- angle lists and groups
@@ -219,7 +217,7 @@ module _ (classes text : List ℕ) where
           last-is = sym (end-of e (o .name) t (l .tree) closed-by);
           count = omega (arith, l .count, count-of e (o .name) t (l .tree) closed-by);
           stored =
-              stored-around table between after (frame .number) 0 (frame .levels) _ (λ d m. listRecords (l .tree) d m m) n (p .ready .levels-low) (l .stored) w
+              stored-in table between after (frame .number) (frame .levels) _ (λ d m. listRecords (l .tree) d m m) n (p .ready .levels-low) (l .stored) w
               ∙ ap (λ rs. sets table (frame .number * 12) (tableBytes rs)) its-records;
           from = omega (arith, p .behind, p .stands .starts, l .from, l .ahead-ok .0, s .starts);
           within = s .within;
@@ -316,7 +314,7 @@ module _ (classes text : List ℕ) where
               count = omega (arith, r .count);
               stored =
                   rw (← (r .last-is))
-                  (stored-around table between after (frame .number) 0 (frame .levels) _ (λ d m. addressRecords (r .tree) d m m) n (t .first .ready .levels-low) (r .stored) w);
+                  (stored-in table between after (frame .number) (frame .levels) _ (λ d m. addressRecords (r .tree) d m m) n (t .first .ready .levels-low) (r .stored) w);
               from = omega (arith, t .first .stands .starts, t .follows .from, t .follows .atom-starts, t .follows .end-before, x .ok .0, r .from);
               within = r .within;
               free-low = r .free-low;

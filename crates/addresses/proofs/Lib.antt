@@ -4,7 +4,6 @@ pub mod NextLaws
 pub mod PhraseLaws
 pub mod NodesLaws
 pub mod TypedLaws
-pub mod RecordLaws
 pub mod AddressLaws
 pub mod EnclosedLaws
 pub mod ListLaws

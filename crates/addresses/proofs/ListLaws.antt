@@ -1,43 +1,23 @@
 -- A list, address by address. Assumes nothing.
 use mathlib.Core.Path.{_≡_, refl, sym, ap, _∙_}
-use mathlib.Core.Bool.{Bool, true, false, true≢false}
-use mathlib.Core.List.{List, [], _∷_, _++_}
-use mathlib.Core.Option.{Option, none, some}
-use Prim.Native.Nat.{ℕ, suc, _+_, _*_, _-_, _≤_, _<_}
+use mathlib.Core.Bool.{false, true≢false}
+use mathlib.Core.List.{List, _∷_}
+use Prim.Native.Nat.{ℕ, _+_, _*_, _-_, _≤_}
 use native.Mathlib.Omega.{arith}
-use lib.ListN.{length, length-append}
+use lib.ListN.{length}
 use lib.Seq.{sets}
-use Rattle.octets.proofs.Parts.{sets-append}
 use Rattle.scanner.specs.declared.Next.{Next}
-use Rattle.scanner.specs.declared.Next.the-variants.{Found, Ended, Fault}
-use Rattle.grammar.specs.Records.{AddressRecord, tableBytes}
-use Rattle.grammar.proofs.Records.{length-tableBytes, tableBytes-append}
-use Rattle.grammar.proofs.Trees.{Class, Comma, Lexeme, Sym, of, Place, empty, comma, AddressList, idle, full, Address, mailbox, angle, group, quoted, typed, atomColon}
+use Rattle.scanner.specs.declared.Next.the-variants.{Found}
+use Rattle.grammar.specs.Records.{tableBytes}
+use Rattle.grammar.proofs.Trees.{Class, Comma, Lexeme, Sym, of, empty, comma, AddressList, idle, full, atomColon}
 use Rattle.grammar.proofs.AddressMachine.{inList, Level, list, levelsAt, nameless, fresh, run, judge}
 use Rattle.grammar.proofs.Complete.{doneList, Clear, complete-doneList}
 use Rattle.grammar.proofs.Readers.{AddressEnds, ListEnds, endsAddress}
-use Rattle.grammar.proofs.TreeRecords.{placeCount, listCount, addressCount, placeRecords, listRecords, insideRecords, addressRecords}
-use Rattle.addresses.specs.Steps.{symbolsFrom, lexemeAt, symbolAt, symbolsAhead, Faultless, Standing, Ahead, Stops, AddressRead, AddressStops, Ready, ListRead, ListStops, Entered}
+use Rattle.grammar.proofs.TreeRecords.{listCount, listRecords}
+use Rattle.grammar.proofs.RecordLaws.{stored-behind}
+use Rattle.addresses.specs.Steps.{symbolsFrom, lexemeAt, symbolsAhead, Ahead, AddressRead, AddressStops, ListRead, ListStops, Entered}
 use Rattle.addresses.specs.declared.Frame.{Frame}
 use Rattle.addresses.proofs.NextLaws.{NextIs}
-
--- ---- as many records as addresses
-
-mutual
-  place-length : (r : Place) (d p i : ℕ) → length (placeRecords r d p i) ≡ placeCount r
-  place-length empty d p i = refl
-  place-length (comma l t) d p i = list-length l d p i
-
-  list-length : (l : AddressList) (d p i : ℕ) → length (listRecords l d p i) ≡ listCount l
-  list-length (idle r) d p i = place-length r d p i
-  list-length (full r a) d p i = simp length-append (omega (arith, place-length r d p i, inside-length a (suc d) (suc (i + placeCount r))))
-
-  inside-length : (a : Address) (d i : ℕ) → suc (length (insideRecords a d i)) ≡ addressCount a
-  inside-length (mailbox p m) d i = refl
-  inside-length (angle o t l u) d i = omega (arith, list-length l d i i)
-  inside-length (group o t l u) d i = omega (arith, list-length l d i i)
-  inside-length (quoted t) d i = refl
-  inside-length (typed t a u b) d i = omega (arith, inside-length b (suc d) (suc i))
 
 -- ---- the machine in a list
 
@@ -53,17 +33,6 @@ ClearAt k (full r a) ys = Unit {0}
 abbrev Behind : AddressList → List Sym → Type 0
 Behind (idle r) ys = Unit {0}
 Behind (full r a) ys = AddressEnds ys
-
--- the records of one address more, behind those of a place
-stored-behind : (table now after : List ℕ) (first : ℕ) (r : Place) (a : Address) (free depth parent : ℕ) → free ≡ first + placeCount r → now ≡ sets table (first * 12) (tableBytes (placeRecords r depth parent first))
-    → after ≡ sets now (free * 12) (tableBytes (addressRecords a depth parent free)) → after ≡ sets table (first * 12) (tableBytes (listRecords (full r a) depth parent first))
-stored-behind table now after first r a free depth parent e f g =
-    let rs = placeRecords r depth parent first in
-    let n : length (tableBytes rs) ≡ 12 * placeCount r = omega (arith, length-tableBytes rs, place-length r depth parent first) in
-    let q : free * 12 ≡ first * 12 + length (tableBytes rs) = omega arith in
-    let k : after ≡ sets (sets table (first * 12) (tableBytes rs)) (first * 12 + length (tableBytes rs)) (tableBytes (addressRecords a depth parent (first + placeCount r))) =
-    rw (← q, ← f, ← e) g in
-    k ∙ sym (ap (sets table (first * 12)) (tableBytes-append rs (addressRecords a depth parent (first + placeCount r))) ∙ sets-append (tableBytes rs) _ table (first * 12))
 
 module _ (classes text : List ℕ) where
   -- the list so far
@@ -130,7 +99,7 @@ module _ (classes text : List ℕ) where
               behind = r .ends;
               ahead-ok = r .ahead-ok;
               count = omega (arith, r .count);
-              stored = stored-behind table now after (frame .number) p (r .tree) free (64 - frame .levels) (frame .parent) count stored (r .stored);
+              stored = rw (stored, count) at (r .stored) ∙ stored-behind table (frame .number) p (r .tree) (64 - frame .levels) (frame .parent);
               from = omega (arith, w .from, w .ahead-ok .0, r .from);
               within = r .within;
               free-low = r .free-low;

@@ -13,7 +13,7 @@ use Rattle.grammar.proofs.Trees.{Class, Atom, Quoted, At, LessThan, GreaterThan
 use Rattle.grammar.proofs.TreeRecords.{phraseStart, phraseEnd}
 use Rattle.addresses.specs.Steps.{isWord, isQuoted, followsPhrase, loneQuoted, opening, House, symbolsFrom, lexemeAt, symbolAt, symbolsAhead, Ahead, FirstWord, WordsIs, NoMark, Named, Opening}
 use Rattle.addresses.specs.declared.Words.{Words}
-use Rattle.addresses.specs.declared.Span.{Span}
+use Rattle.grammar.specs.declared.Span.{Span}
 use Rattle.addresses.specs.declared.Enclosure.{Enclosure}
 use Rattle.addresses.specs.declared.Enclosure.the-variants.{Angle, Group}
 use Rattle.addresses.proofs.ClassCases.{tag}

@@ -12,11 +12,10 @@ use Rattle.octets.specs.Numbers.{messageLimit, addressRecordSize}
 use Rattle.octets.specs.Stored.{numberFrom, numberAt, roomFor}
 use Rattle.octets.specs.declared.answers.Answer.the-variants.{Accepted, NoRoom}
 use Rattle.octets.proofs.RecordsBack.{joined, record-back, number-back}
-use Rattle.grammar.specs.Records.{AddressRecord, count, records, recordBytes, tableBytes}
+use Rattle.grammar.specs.Records.{AddressRecord, recordBy, count, records, recordBytes, tableBytes}
 use Rattle.grammar.specs.Rfc733.{Derivation}
 use Rattle.grammar.proofs.Order.{Lies, lies-at}
 use Rattle.grammar.proofs.Records.{length-records, length-recordBytes, parent-smaller}
-use Rattle.grammar.proofs.TreeRecords.{recordBy}
 use Rattle.addresses.specs.Outcome.{Outcome, derived, outcome}
 use Rattle.addresses.proofs.BodyRecords.{records-half, records-in-order}
 use Rattle.addresses.proofs.Judgements.{ListBody, Judged, refusedAt, listed, listed-outcome, judged}

@@ -26,7 +26,7 @@ use Rattle.addresses.specs.declared.NodesRead.{NodesRead}
 use Rattle.addresses.specs.declared.NodesRead.the-variants.{Behind, Stopped}
 use Rattle.addresses.specs.declared.Words.{Words}
 use Rattle.addresses.specs.declared.Frame.{Frame}
-use Rattle.addresses.specs.declared.Span.{Span}
+use Rattle.grammar.specs.declared.Span.{Span}
 use Rattle.addresses.specs.declared.TypedAtom.{TypedAtom}
 use Rattle.addresses.specs.declared.TypedAtom.the-variants.{Typed, Nameless}
 use Rattle.addresses.specs.declared.Enclosure.{Enclosure}

@@ -15,8 +15,8 @@ use Rattle.grammar.proofs.Condition3.{answer}
 use Rattle.grammar.proofs.Trees.{Sym}
 use Rattle.addresses.specs.Outcome.{refusal, decided}
 use Rattle.addresses.specs.Steps.{symbolsFrom, Faultless}
-use Rattle.addresses.specs.declared.Whole.{Whole}
-use Rattle.addresses.specs.declared.Whole.the-variants.{Listed, Refused}
+use Rattle.grammar.specs.declared.Whole.{Whole}
+use Rattle.grammar.specs.declared.Whole.the-variants.{Listed, Refused}
 
 module _ (classes text : List ℕ) where
   pub record Body (at : ℕ) : Type 0 where

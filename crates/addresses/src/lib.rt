@@ -7,15 +7,18 @@ ghost use lib.ListN.{length};
 ghost use lib.Seq.{sets};
 ghost use Rattle.octets.specs.Text.{part};
 ghost use Rattle.octets.specs.Numbers.{messageLimit};
-ghost use Rattle.grammar.specs.Records.{recordBytes};
-ghost use Rattle.grammar.specs.Rfc733.{kindNumber, typedKind};
-ghost use Rattle.grammar.proofs.TreeRecords.{recordBy};
+ghost use Rattle.grammar.specs.Records.{recordBy, recordBytes};
 ghost use Rattle.addresses.specs.Steps.{isWord, isQuoted, endsAddressNext, refusedNext, closing, enclosureKind, Faultless, Standing, Reached, WordsIs, NodesIs, TypedAtomIs, Opened, MailboxIs, Lone, LoneIs, CloseIs, Entered, ListIs, BeginsAddress, AddressAt, NamedFirst, EnclosedIs, ColonFirst, TypedFirst};
 ghost use Rattle.addresses.specs.Whole.{Body, WholeIs, TwiceIs, TextIs};
 ghost use Rattle.addresses.specs.Outcome.{outcome};
 ghost use Rattle.addresses.specs.Condition3.{Condition3};
 ghost use Rattle.grammar.specs.Rfc733.{sameClass};
 ghost use Rattle.scanner.specs.declared.Class.the-variants.{Colon};
+use grammar::AddressRecord;
+use grammar::Span;
+use grammar::Whole;
+use grammar::store_record;
+use grammar::typed_kind;
 use octets::answers::Answer;
 use octets::classes::CLASSES;
 use octets::numbers::ADDRESS_RECORD_SIZE;
@@ -42,12 +45,6 @@ struct Frame {
     number: usize,
 }
 
-// A span of a name, or of an address without one.
-struct Span {
-    start: usize,
-    end: usize,
-}
-
 // What reading gives: the symbol behind, the end of the last symbol read and the next free record number; or a refusal.
 enum Reading {
     Read(Next, usize, usize),
@@ -67,12 +64,6 @@ enum NodesRead {
     Stopped(u8, usize),
 }
 
-// A whole list: the number of its addresses, or a refusal.
-enum Whole {
-    Listed(usize),
-    Refused(u8, usize),
-}
-
 // An atom and ":" that follow a ":": the atom's span and the position behind the second ":".
 enum TypedAtom {
     Typed(usize, usize, usize),
@@ -84,17 +75,16 @@ fn put_record(table: &mut [u8], frame: Frame, kind: u8, end: usize, start: usize
     requires { ⌜ (frame .levels ≤ 64) × (frame .number ≤ messageLimit) ⌝ }
     ensures { λ _. ⌜ now (table .exit) ≡ sets (now (table .entry)) (frame .number * 12) (recordBytes (recordBy kind (64 - frame .levels) (frame .parent) start end (name .start) (name .end))) ⌝ }
 {
-    let at = frame.number * ADDRESS_RECORD_SIZE;
-    if table.len() <= at {
-        return;
-    }
-    octets::stored::store_byte(table, at, kind);
-    octets::stored::store_byte(table, at + 1, (LEVEL_LIMIT - frame.levels) as u8);
-    octets::stored::store_two(table, at + 2, frame.parent);
-    octets::stored::store_two(table, at + 4, start);
-    octets::stored::store_two(table, at + 6, end);
-    octets::stored::store_two(table, at + 8, name.start);
-    octets::stored::store_two(table, at + 10, name.end);
+    let depth = (LEVEL_LIMIT - frame.levels) as u8;
+    let address = AddressRecord {
+        kind,
+        depth,
+        parent: frame.parent,
+        start,
+        end,
+        name,
+    };
+    store_record(table, frame.number, address);
 }
 
 // Whether a symbol of a class is a word.
@@ -215,19 +205,6 @@ fn typed_atom(classes: &[u8; 256], text: &[u8], at: usize) -> TypedAtom
         return TypedAtom::Nameless;
     };
     TypedAtom::Typed(start, end, behind)
-}
-
-// The kind of a typed address, told by its atom.
-fn typed_kind(atom: &[u8]) -> u8
-    ensures { λ r. ⌜ r ≡ kindNumber (typedKind (now (atom .entry))) ⌝ }
-{
-    if octets::letters::same_letters(atom, b"Include") {
-        return 5;
-    }
-    if octets::letters::same_letters(atom, b"Postal") {
-        return 6;
-    }
-    7
 }
 
 // A mailbox, behind its phrase and the "at" that stands from start to end.

@@ -89,6 +89,20 @@ pub extern "C" fn rfc733_addresses(
     tell(array, addresses::read_addresses(message, start, end, table));
 }
 
+// The same by the second reader, which calls itself nowhere and keeps its levels in an array.
+#[no_mangle]
+pub extern "C" fn rfc733_addresses_by_table(
+    message: &[u8],
+    start: usize,
+    end: usize,
+    table: &mut [u8],
+    array: &mut [u64],
+)
+    ensures { λ _. ⌜ (now (table .exit) ≡ outcome (now (message .entry)) start end (now (table .entry)) .table) × (now (array .exit) ≡ told (now (array .entry)) (outcome (now (message .entry)) start end (now (table .entry)) .answer)) ⌝ }
+{
+    tell(array, engine::read_addresses(message, start, end, table));
+}
+
 // Read the date in the body of a message from start up to end: seconds from 1 January 1900, 00:00 GMT, and 0 with a refusal.
 #[no_mangle]
 pub extern "C" fn rfc733_date(

@@ -5,28 +5,12 @@ ghost use Prim.Native.Nat.{_≤_, _<_};
 ghost use lib.ListN.{length};
 use addresses::read_addresses;
 use octets::answers::Answer;
-use octets::numbers::ADDRESS_RECORD_SIZE;
-use octets::numbers::MESSAGE_LIMIT;
 use octets::stored::load_byte;
 use octets::stored::store_byte;
 use report::bytes;
-use report::decimal;
 use report::line;
-use report::numbers;
+use report::records;
 use report::text;
-
-// The fields of a record.
-fn record(table: &[u8], i: usize) {
-    if MESSAGE_LIMIT <= i {
-        return;
-    }
-    let at = i * ADDRESS_RECORD_SIZE;
-    text(b"   ");
-    decimal(load_byte(table, at) as usize);
-    decimal(load_byte(table, at + 1) as usize);
-    numbers(table, at + 2, 5);
-    text(b"\n");
-}
 
 // The records that an answer says are written.
 fn written(answer: Answer) -> usize {
@@ -34,15 +18,6 @@ fn written(answer: Answer) -> usize {
         Answer::Accepted(records) => records,
         Answer::Refused(_, _) => 0,
         Answer::NoRoom(_) => 0,
-    }
-}
-
-// Each record from one number up to another.
-fn records(table: &[u8], from: usize, to: usize) {
-    let mut i = from;
-    while i < to {
-        record(table, i);
-        i += 1;
     }
 }
 

@@ -10,11 +10,10 @@ use Rattle.octets.specs.Numbers.{levelLimit}
 use Rattle.octets.specs.Text.{bytes}
 use Rattle.grammar.specs.Grammar.{levels}
 use Rattle.grammar.specs.Language.{Verdict, accepted, refused, verdictNumber, verdictPosition}
-use Rattle.grammar.specs.Records.{AddressRecord, records, tableBytes}
+use Rattle.grammar.specs.Records.{AddressRecord, recordBy, records, tableBytes}
 use Rattle.grammar.specs.Rfc733.{Derivation, DerivedList}
 use Rattle.grammar.proofs.OnlyRight.{unfit-none}
 use Rattle.grammar.proofs.Trees.{Class, Atom, Quoted, At, LessThan, GreaterThan, Comma, Semicolon, Colon, Stray, Sym, of}
-use Rattle.grammar.proofs.TreeRecords.{recordBy}
 use Rattle.grammar.proofs.Order.{InOrder}
 use Rattle.grammar.proofs.Condition3.{answer, answer-right}
 

@@ -1,4 +1,4 @@
--- Laws of the grammar. `Condition3` has the theorems, `Readers` and `TreeRecords` what the readers rest on.
+-- Laws of the grammar. `Condition3` has the theorems, `Readers`, `TreeRecords` and `RecordLaws` what the readers rest on.
 pub mod OnlyRight
 pub mod AnyMachine
 pub mod Trees
@@ -12,5 +12,6 @@ pub mod Condition3
 pub mod Readers
 pub mod Records
 pub mod TreeRecords
+pub mod RecordLaws
 pub mod Order
 pub mod Examples

@@ -6,7 +6,7 @@ use mathlib.Core.List.{List, [], _∷_, _++_, append-assoc, append-nil}
 use mathlib.Core.Option.{Option, none, some}
 use Rattle.grammar.specs.Grammar.{Row, nil, leaf, branch, yieldThen, yield}
 use Rattle.grammar.specs.Language.{positionOf}
-use Rattle.grammar.specs.Records.{AddressRecord, lastEnd, partOf, count, recordsFrom, records}
+use Rattle.grammar.specs.Records.{AddressRecord, recordBy, lastEnd, partOf, count, recordsFrom, records}
 use Rattle.grammar.specs.Rfc733.{Derivation, kindNumber, typedKind}
 use Rattle.grammar.specs.Rfc733 as rfc
 use Rattle.grammar.proofs.Trees.{Lexeme, LessThan, GreaterThan, Colon, Semicolon, Comma, At, Sym, of, Word, atomWord, quotedWord, Phrase, one, more, Nodes, first, next, Place, empty, comma, AddressList, idle, full, Address, mailbox, angle, group, quoted, typed, wordSymbol, phraseThen, nodesThen, listThen, addressThen}
@@ -46,10 +46,6 @@ addressEnd (angle o t l u) = u .end
 addressEnd (group o t l u) = u .end
 addressEnd (quoted t) = t .end
 addressEnd (typed t a u b) = addressEnd b
-
--- kind, depth, parent, start, end, name start, name end
-abbrev pub recordBy : ℕ → ℕ → ℕ → ℕ → ℕ → ℕ → ℕ → AddressRecord
-recordBy k d p s e ns ne = record { kind = k; depth = d; parent = p; start = s; end = e; nameStart = ns; nameEnd = ne }
 
 abbrev pub addressRecord : Address → ℕ → ℕ → AddressRecord
 addressRecord (mailbox p m) depth parent = recordBy (kindNumber rfc.mailbox) depth parent (phraseStart p) (nodesEnd m) (phraseStart p) (phraseEnd p)

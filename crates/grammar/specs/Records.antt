@@ -18,6 +18,11 @@ pub record AddressRecord : Type 0 where
   pub nameStart : ℕ
   pub nameEnd : ℕ
 
+-- .. of these numbers, in this order
+abbrev pub recordBy : ℕ → ℕ → ℕ → ℕ → ℕ → ℕ → ℕ → AddressRecord
+recordBy kind depth parent start end nameStart nameEnd =
+    record { kind = kind; depth = depth; parent = parent; start = start; end = end; nameStart = nameStart; nameEnd = nameEnd }
+
 -- ---- of symbols
 
 -- the end of the last of these symbols; where there is none, this position

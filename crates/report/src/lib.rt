@@ -3,6 +3,8 @@ use octets::answers::Answer;
 use octets::answers::count;
 use octets::answers::number;
 use octets::answers::position;
+use octets::numbers::ADDRESS_RECORD_SIZE;
+use octets::numbers::MESSAGE_LIMIT;
 use octets::stored::load_byte;
 use octets::stored::load_two;
 
@@ -42,6 +44,28 @@ pub fn numbers(table: &[u8], at: usize, many: usize) {
         }
         decimal(load_two(table, p));
         p += 2;
+        i += 1;
+    }
+}
+
+// The kind, depth, parent, start, end, name start and name end of an address record.
+fn record(table: &[u8], i: usize) {
+    if MESSAGE_LIMIT <= i {
+        return;
+    }
+    let at = i * ADDRESS_RECORD_SIZE;
+    text(b"   ");
+    decimal(load_byte(table, at) as usize);
+    decimal(load_byte(table, at + 1) as usize);
+    numbers(table, at + 2, 5);
+    text(b"\n");
+}
+
+// Each address record from one number up to another.
+pub fn records(table: &[u8], from: usize, to: usize) {
+    let mut i = from;
+    while i < to {
+        record(table, i);
         i += 1;
     }
 }

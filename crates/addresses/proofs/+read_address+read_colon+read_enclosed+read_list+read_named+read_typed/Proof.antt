@@ -45,7 +45,7 @@ use Rattle.addresses.proofs.read_mailbox.Reads as read-mailbox-reads
 use Rattle.addresses.proofs.read_words.Reads as read-words-reads
 use Rattle.addresses.proofs.refuse.Reads as refuse-reads
 use Rattle.addresses.proofs.typed_atom.Reads as typed-atom-reads
-use Rattle.addresses.proofs.typed_kind.Reads as typed-kind-reads
+use Rattle.grammar.proofs.typed_kind.Reads as typed-kind-reads
 use Rattle.scanner.proofs.next_by.Reads as next-by-reads
 use Rattle.addresses.proofs.+read_address+read_colon+read_enclosed+read_list+read_named+read_typed.{
   statement,

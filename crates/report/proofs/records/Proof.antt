@@ -1,8 +1,8 @@
--- `check_addresses::records` is safe and ends. Assumes nothing.
+-- `report::records` is safe and ends. Assumes nothing.
 use borrow.Author.Needs.{needs}
 use Prim.Native.Nat.{_≤_, _-_}
-use Rattle.check_addresses.proofs.records.Statement.{statement}
-use Rattle.check_addresses.proofs.records.Tie as tie
+use Rattle.report.proofs.records.Statement.{statement}
+use Rattle.report.proofs.records.Tie as tie
 
 abbrev Inv-loop : tie.InvT-loop
 Inv-loop table from to i₀ i = from ≤ i

@@ -1,33 +1,29 @@
--- `addresses::put_record` meets its contract. Assumes nothing.
+-- `grammar::store_record` meets its contract. Assumes nothing.
 use mathlib.Core.Path.{sym}
-use Prim.Native.Nat.{_*_, _-_}
+use Prim.Native.Nat.{_*_}
+use native.Mathlib.Omega.{arith}
+use Rattle.octets.specs.Numbers.{addressRecordSize}
 use Rattle.octets.proofs.Parts.{sets-out}
-use Rattle.grammar.specs.Records.{recordBytes}
-use Rattle.grammar.proofs.TreeRecords.{recordBy}
-use Rattle.addresses.proofs.RecordLaws.{record-stored}
+use Rattle.grammar.specs.Records.{recordBy, recordBytes}
+use Rattle.grammar.proofs.RecordLaws.{record-stored}
 use borrow.Author.Needs.{needs}
-use Rattle.addresses.proofs.put_record.Statement.{statement}
-use Rattle.addresses.proofs.put_record.Tie as tie
-
-mul-at : tie.Need-mul-at
-mul-at c = search needs
+use Rattle.grammar.proofs.store_record.Statement.{statement}
+use Rattle.grammar.proofs.store_record.Tie as tie
 
 returns : tie.Need-returns
 returns c =
-    let a = c .before .before .before .args in
-    sym (sets-out (recordBytes (recordBy (a .kind) (64 - a .frame .levels) (a .frame .parent) (a .start) (a .end) (a .name .start) (a .name .end))) (a .table .now) (a .frame .number * 12) (c .if1 .taken))
+    let a = c .before .before .args in
+    let r = recordBy (a .address .kind) (a .address .depth) (a .address .parent) (a .address .start) (a .address .end) (a .address .name .start) (a .address .name .end) in
+    sym (sets-out (recordBytes r) (a .table .now) (a .number * addressRecordSize) (omega (arith, c .if1 .taken)))
+
+mul-at : tie.Need-mul-at
+mul-at c = search needs
 
 store-byte-requires : tie.Need-store-byte-requires
 store-byte-requires c κs = search needs
 
 add-store-byte : tie.Need-add-store-byte
 add-store-byte c = search needs
-
-sub-store-byte : tie.Need-sub-store-byte
-sub-store-byte c = search needs
-
-cast-store-byte : tie.Need-cast-store-byte
-cast-store-byte c = search needs
 
 store-byte-requires-2 : tie.Need-store-byte-requires-2
 store-byte-requires-2 c κs = search needs
@@ -67,21 +63,19 @@ same-length c = search needs
 
 returns-2 : tie.Need-returns-2
 returns-2 c =
-    let a = c .before .before .before .before .before .before .before .before .before .before .before .before .before .before .before .before .before .before .before .before .before .before .before .before .before .before .before .before .before .before .before .before .args in
-    record-stored (a .table .now) _ (a .kind) _ (a .frame .parent) (a .start) (a .end) (a .name .start) (a .name .end) (c .before .before .before .before .before .before .before .before .before .before .before .before .before .before .before .before .before .before .before .before .before .before .before .before .before .before .before .store-byte .ensures)
+    let a = c .before .before .before .before .before .before .before .before .before .before .before .before .before .before .before .before .before .before .before .before .before .before .before .before .before .before .before .before .before .before .args in
+    record-stored (a .table .now) _ (a .address .kind) (a .address .depth) (a .address .parent) (a .address .start) (a .address .end) (a .address .name .start) (a .address .name .end) (c .before .before .before .before .before .before .before .before .before .before .before .before .before .before .before .before .before .before .before .before .before .before .before .before .before .before .store-byte .ensures)
     (c .before .before .before .before .before .before .before .before .before .before .before .before .before .before .before .before .before .before .before .before .before .before .store-byte2 .ensures) (c .before .before .before .before .before .before .before .before .before .before .before .before .before .before .before .before .before .before .store-two .ensures)
     (c .before .before .before .before .before .before .before .before .before .before .before .before .before .before .store-two2 .ensures) (c .before .before .before .before .before .before .before .before .before .before .store-two3 .ensures) (c .before .before .before .before .before .before .store-two4 .ensures) (c .before .before .store-two5 .ensures)
 
-pub put-record-spec : {M : Type 1} → statement M
-put-record-spec =
+pub store-record-spec : {M : Type 1} → statement M
+store-record-spec =
     tie.close
     (tie.spec
-    mul-at
     returns
+    mul-at
     store-byte-requires
     add-store-byte
-    sub-store-byte
-    cast-store-byte
     store-byte-requires-2
     add-store-two
     store-two-requires

@@ -1,12 +1,12 @@
--- `addresses::typed_kind` meets its contract. Assumes nothing.
+-- `grammar::typed_kind` meets its contract. Assumes nothing.
 use mathlib.Core.Path.{sym, ap, _∙_}
 use Rattle.octets.specs.Choice.{pick}
 use Rattle.octets.specs.Letters.{sameLetters}
 use Rattle.octets.specs.Text.{bytes}
 use Rattle.grammar.specs.Rfc733.{kindNumber, include, postal, otherTyped}
 use borrow.Author.Needs.{needs}
-use Rattle.addresses.proofs.typed_kind.Statement.{statement}
-use Rattle.addresses.proofs.typed_kind.Tie as tie
+use Rattle.grammar.proofs.typed_kind.Statement.{statement}
+use Rattle.grammar.proofs.typed_kind.Tie as tie
 
 slice-aggregate-same-letters : tie.Need-slice-aggregate-same-letters
 slice-aggregate-same-letters c = search needs

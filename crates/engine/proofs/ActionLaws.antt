@@ -1,0 +1,128 @@
+-- The table holds what is done in each mode at each symbol. Assumes nothing.
+use Prim.Native.Nat.{ℕ, _+_, _*_, _/_, _%_, _<_}
+use mathlib.Core.Path.{_≡_, refl, sym, ap, _∙_}
+use mathlib.Core.Bool.{Bool}
+use mathlib.Core.List.{[], _∷_}
+use lib.Dec.{eqb, eqb→eq}
+use lib.ListN.{getD}
+use native.Mathlib.Omega.{arith}
+use Rattle.octets.proofs.Tables.{at}
+use Rattle.grammar.specs.Rfc733.{classNumber}
+use Rattle.grammar.proofs.Trees.{Class, Atom, Quoted, At, LessThan, GreaterThan, Comma, Semicolon, Colon, Stray}
+use Rattle.engine.specs.Actions.{Mode, atPlace, atStart, atFirstAtom, wanting, atAtom, atQuoted, atWords, behindAt, atNode, behindAddress, modeNumber, Act, refuses, begins, adds, passes, opens, opensNamed, turnsTyped, endsAtComma, closes, endsAndCloses, finishes, endsAndFinishes, actNumber, no, Action, entry, Row, rowOf, onClass, actionOf, columns, cells, modes, actionTable}
+
+pub mode-small : (m : Mode) → modeNumber m < 10
+mode-small atPlace = omega arith
+mode-small atStart = omega arith
+mode-small atFirstAtom = omega arith
+mode-small wanting = omega arith
+mode-small atAtom = omega arith
+mode-small atQuoted = omega arith
+mode-small atWords = omega arith
+mode-small behindAt = omega arith
+mode-small atNode = omega arith
+mode-small behindAddress = omega arith
+
+pub class-small : (c : Class) → classNumber c < 9
+class-small Atom = omega arith
+class-small Quoted = omega arith
+class-small At = omega arith
+class-small LessThan = omega arith
+class-small GreaterThan = omega arith
+class-small Comma = omega arith
+class-small Semicolon = omega arith
+class-small Colon = omega arith
+class-small Stray = omega arith
+
+-- ---- the table, entry by entry
+
+-- the entry that stands at a place
+abbrev entryAt : ℕ → ℕ
+entryAt i = entry (getD (cells (rowOf (getD modes (i / columns) atPlace))) (i % columns) no)
+
+-- the entry at a place is as it should be
+abbrev right : ℕ → ℕ → Bool
+right i e = eqb e (entryAt i)
+
+-- one test over the whole table, at each entry
+rule : (i : ℕ) → i < 100 → getD actionTable i 0 ≡ entryAt i
+unfolding actionTable
+rule i h = eqb→eq (getD actionTable i 0) (entryAt i) (at right actionTable 0 tt i h)
+
+mode-at : (m : Mode) → getD modes (modeNumber m) atPlace ≡ m
+mode-at atPlace = refl
+mode-at atStart = refl
+mode-at atFirstAtom = refl
+mode-at wanting = refl
+mode-at atAtom = refl
+mode-at atQuoted = refl
+mode-at atWords = refl
+mode-at behindAt = refl
+mode-at atNode = refl
+mode-at behindAddress = refl
+
+-- a column of a row
+column-at : (m : Mode) (j : ℕ) → j < columns → getD actionTable (modeNumber m * columns + j) 0 ≡ entry (getD (cells (rowOf m)) j no)
+column-at m j h =
+    let n = mode-small m in
+    let p : (modeNumber m * columns + j) / columns ≡ modeNumber m = omega arith in
+    let q : (modeNumber m * columns + j) % columns ≡ j = omega arith in
+    rule (modeNumber m * columns + j) (omega arith) ∙ rw (p, q, mode-at m)
+
+cell-at : (r : Row) (c : Class) → getD (cells r) (classNumber c) no ≡ onClass r c
+cell-at r Atom = refl
+cell-at r Quoted = refl
+cell-at r At = refl
+cell-at r LessThan = refl
+cell-at r GreaterThan = refl
+cell-at r Comma = refl
+cell-at r Semicolon = refl
+cell-at r Colon = refl
+cell-at r Stray = refl
+
+-- what is done in a mode at a symbol of a class
+pub entry-at : (m : Mode) (c : Class) → getD actionTable (modeNumber m * columns + classNumber c) 0 ≡ entry (actionOf m c)
+entry-at m c = column-at m (classNumber c) (omega (arith, class-small c)) ∙ ap entry (cell-at (rowOf m) c)
+
+-- .. and at the end of the text
+pub end-entry : (m : Mode) → getD actionTable (modeNumber m * columns + 9) 0 ≡ entry (rowOf m .end)
+end-entry m = column-at m 9 (omega arith)
+
+-- ---- what is done, by its number
+
+abbrev actAt : ℕ → Act
+actAt n = getD (refuses ∷ begins ∷ adds ∷ passes ∷ opens ∷ opensNamed ∷ turnsTyped ∷ endsAtComma ∷ closes ∷ endsAndCloses ∷ finishes ∷ endsAndFinishes ∷ []) n refuses
+
+act-at : (d : Act) → actAt (actNumber d) ≡ d
+act-at refuses = refl
+act-at begins = refl
+act-at adds = refl
+act-at passes = refl
+act-at opens = refl
+act-at opensNamed = refl
+act-at turnsTyped = refl
+act-at endsAtComma = refl
+act-at closes = refl
+act-at endsAndCloses = refl
+act-at finishes = refl
+act-at endsAndFinishes = refl
+
+pub act-is : (d e : Act) → actNumber d ≡ actNumber e → d ≡ e
+act-is d e p = sym (act-at d) ∙ ap actAt p ∙ act-at e
+
+act-small : (d : Act) → actNumber d < 12
+act-small refuses = omega arith
+act-small begins = omega arith
+act-small adds = omega arith
+act-small passes = omega arith
+act-small opens = omega arith
+act-small opensNamed = omega arith
+act-small turnsTyped = omega arith
+act-small endsAtComma = omega arith
+act-small closes = omega arith
+act-small endsAndCloses = omega arith
+act-small finishes = omega arith
+act-small endsAndFinishes = omega arith
+
+pub entry-small : (a : Action) → entry a < 256
+entry-small a = omega (arith, act-small (a .act), mode-small (a .next))

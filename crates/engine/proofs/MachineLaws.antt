@@ -1,0 +1,276 @@
+-- What the table does in each mode is what the machine of the grammar does. Assumes nothing.
+use Prim.Native.Nat.{ℕ}
+use mathlib.Core.Path.{_≡_, refl, ap}
+use mathlib.Core.Option.{Option, none, some}
+use native.Mathlib.Omega.{arith}
+use Rattle.grammar.specs.Language.{unfit}
+use Rattle.grammar.proofs.AnyMachine.{go, stop}
+use Rattle.grammar.proofs.Trees.{Class, Atom, Quoted, At, LessThan, GreaterThan, Comma, Semicolon, Colon, Stray, Lexeme, Word, atomWord, quotedWord, Phrase, one, more, Nodes, first, next, Place, empty, comma, AddressList, idle, full, Address, mailbox, quoted}
+use Rattle.grammar.proofs.AddressMachine.{Here, inList, inTyped, Level, top, inAngle, inGroup, State, list, phrase, firstAt, nextAt, node, want, close, enter, Began, fresh, phraseColon, stepOn, finish, wholeOf}
+use Rattle.grammar.proofs.Complete.{begin}
+use Rattle.engine.specs.Actions.{Mode, atPlace, wanting, atWords, behindAddress, Act, refuses, begins, adds, passes, opens, opensNamed, turnsTyped, endsAtComma, closes, endsAndCloses, finishes, endsAndFinishes, Action, rowOf, actionOf}
+use Rattle.engine.specs.Stands.{placeMode, atomMode, modeOf}
+use Rattle.engine.specs.Turns.{isAngle, levelIf, endIf, Ended, lone, boxed}
+
+-- ---- what each doing means
+
+-- a word of a class
+pub data WordIs : Class → Lexeme → Word → Type 0 where
+  atomIs : {t : Lexeme} → WordIs Atom t (atomWord t)
+  quotedIs : {t : Lexeme} → WordIs Quoted t (quotedWord t)
+
+pub record Begins (mode : Mode) (n : ℕ) (s : State) (c : Class) (t : Lexeme) : Type 0 where
+  pub here : Here
+  pub word : Word
+  pub at : s ≡ begin here
+  pub is : WordIs c t word
+  pub steps : stepOn n s c t ≡ go (phrase here (one word))
+  pub mode-is : modeOf (phrase here (one word)) ≡ mode
+
+pub record Adds (mode : Mode) (n : ℕ) (s : State) (c : Class) (t : Lexeme) : Type 0 where
+  pub here : Here
+  pub sofar : Phrase
+  pub word : Word
+  pub at : s ≡ phrase here sofar
+  pub is : WordIs c t word
+  pub steps : stepOn n s c t ≡ go (phrase here (more sofar word))
+  pub mode-is : atWords ≡ mode
+
+-- a step that changes no record and no level
+pub data Keeps (t : Lexeme) : State → State → Type 0 where
+  toAt : {h : Here} {p : Phrase} → Keeps t (phrase h p) (firstAt h p t)
+  toNextAt : {h : Here} {p : Phrase} {m : Nodes} → Keeps t (node h p m) (nextAt h p m t)
+  toNode : {h : Here} {p : Phrase} {v : Lexeme} (c : Class) {w : Word} → WordIs c t w → Keeps t (firstAt h p v) (node h p (first v w))
+  toNextNode : {h : Here} {p : Phrase} {m : Nodes} {v : Lexeme} (c : Class) {w : Word} → WordIs c t w → Keeps t (nextAt h p m v) (node h p (next m v w))
+  toPlace : {k : Level} {l : AddressList} → Keeps t (list k l) (list k (idle (comma l t)))
+
+pub record Passes (mode : Mode) (n : ℕ) (s : State) (c : Class) (t : Lexeme) : Type 0 where
+  pub after : State
+  pub keeps : Keeps t s after
+  pub steps : stepOn n s c t ≡ go after
+  pub mode-is : modeOf after ≡ mode
+
+-- a level is opened, behind a name or without one
+pub record Opens (mode : Mode) (n : ℕ) (s : State) (c : Class) (t : Lexeme) : Type 0 where
+  pub here : Here
+  pub at : s ≡ begin here
+  pub steps : stepOn n s c t ≡ enter n (levelIf (isAngle c) here none t)
+  pub mode-is : modeOf (list (levelIf (isAngle c) here none t) (idle empty)) ≡ mode
+
+pub record OpensNamed (mode : Mode) (n : ℕ) (s : State) (c : Class) (t : Lexeme) : Type 0 where
+  pub here : Here
+  pub name : Phrase
+  pub at : s ≡ phrase here name
+  pub steps : stepOn n s c t ≡ enter n (levelIf (isAngle c) here (some name) t)
+  pub mode-is : modeOf (list (levelIf (isAngle c) here (some name) t) (idle empty)) ≡ mode
+
+pub record TurnsTyped (mode : Mode) (n : ℕ) (s : State) (c : Class) (t : Lexeme) : Type 0 where
+  pub here : Here
+  pub colon : Lexeme
+  pub atom : Lexeme
+  pub at : s ≡ phrase (inList (inGroup here none colon) empty) (one (atomWord atom))
+  pub steps : stepOn n s c t ≡ go (want here colon atom t)
+  pub mode-is : wanting ≡ mode
+
+pub record EndsAtComma (mode : Mode) (n : ℕ) (s : State) (c : Class) (t : Lexeme) : Type 0 where
+  pub here : Here
+  pub address : Address
+  pub ended : Ended s here address
+  pub steps : stepOn n s c t ≡ go (list (close here address .level) (idle (comma (close here address .sofar) t)))
+  pub mode-is : atPlace ≡ mode
+
+pub record Closes (mode : Mode) (n : ℕ) (s : State) (c : Class) (t : Lexeme) : Type 0 where
+  pub level : Level
+  pub sofar : AddressList
+  pub at : s ≡ list level sofar
+  pub steps : stepOn n s c t ≡ endIf (isAngle c) level sofar t
+  pub mode-is : behindAddress ≡ mode
+
+pub record EndsAndCloses (mode : Mode) (n : ℕ) (s : State) (c : Class) (t : Lexeme) : Type 0 where
+  pub here : Here
+  pub address : Address
+  pub ended : Ended s here address
+  pub steps : stepOn n s c t ≡ endIf (isAngle c) (close here address .level) (close here address .sofar) t
+  pub mode-is : behindAddress ≡ mode
+
+abbrev pub Does : Act → Mode → ℕ → State → Class → Lexeme → Type 0
+Does refuses mode n s c t = stepOn n s c t ≡ stop unfit
+Does begins mode n s c t = Begins mode n s c t
+Does adds mode n s c t = Adds mode n s c t
+Does passes mode n s c t = Passes mode n s c t
+Does opens mode n s c t = Opens mode n s c t
+Does opensNamed mode n s c t = OpensNamed mode n s c t
+Does turnsTyped mode n s c t = TurnsTyped mode n s c t
+Does endsAtComma mode n s c t = EndsAtComma mode n s c t
+Does closes mode n s c t = Closes mode n s c t
+Does endsAndCloses mode n s c t = EndsAndCloses mode n s c t
+Does finishes mode n s c t = ⊥
+Does endsAndFinishes mode n s c t = ⊥
+
+abbrev pub DoesSo : Action → ℕ → State → Class → Lexeme → Type 0
+DoesSo a n s c t = Does (a .act) (a .next) n s c t
+
+-- ---- the machine does so
+
+fresh-some : (h : Here) (b : Began) → fresh h ≡ some b → h ≡ inList (inGroup (b .here) none (b .colon)) empty
+fresh-some (inList top empty) b e = let z : _≡_ {A = ℕ} 0 1 = cc in absurd (omega arith)
+fresh-some (inList (inAngle h o t) empty) b e = let z : _≡_ {A = ℕ} 0 1 = cc in absurd (omega arith)
+fresh-some (inList (inGroup h none t) empty) b e = let f : record { here = h; colon = t } ≡ b = cc in cc
+fresh-some (inList (inGroup h (some p) t) empty) b e = let z : _≡_ {A = ℕ} 0 1 = cc in absurd (omega arith)
+fresh-some (inList k (comma l t)) b e = let z : _≡_ {A = ℕ} 0 1 = cc in absurd (omega arith)
+fresh-some (inTyped h t a u) b e = let z : _≡_ {A = ℕ} 0 1 = cc in absurd (omega arith)
+
+module _ (n : ℕ) (t : Lexeme) where
+  at-place : (k : Level) (r : Place) (o : Option Began) → fresh (inList k r) ≡ o → (c : Class) → DoesSo (actionOf (placeMode o) c) n (list k (idle r)) c t
+  at-place k r none e Atom = record { here = inList k r; word = atomWord t; at = refl; is = atomIs; steps = refl; mode-is = ap atomMode e }
+  at-place k r none e Quoted = record { here = inList k r; word = quotedWord t; at = refl; is = quotedIs; steps = refl; mode-is = refl }
+  at-place k r none e At = refl
+  at-place k r none e LessThan = record { here = inList k r; at = refl; steps = refl; mode-is = refl }
+  at-place k r none e GreaterThan = record { level = k; sofar = idle r; at = refl; steps = refl; mode-is = refl }
+  at-place k r none e Comma = record { after = list k (idle (comma (idle r) t)); keeps = toPlace; steps = refl; mode-is = refl }
+  at-place k r none e Semicolon = record { level = k; sofar = idle r; at = refl; steps = refl; mode-is = refl }
+  at-place k r none e Colon = record { here = inList k r; at = refl; steps = refl; mode-is = refl }
+  at-place k r none e Stray = refl
+  at-place k r (some b) e Atom = record { here = inList k r; word = atomWord t; at = refl; is = atomIs; steps = refl; mode-is = ap atomMode e }
+  at-place k r (some b) e Quoted = record { here = inList k r; word = quotedWord t; at = refl; is = quotedIs; steps = refl; mode-is = refl }
+  at-place k r (some b) e At = refl
+  at-place k r (some b) e LessThan = record { here = inList k r; at = refl; steps = refl; mode-is = refl }
+  at-place k r (some b) e GreaterThan = record { level = k; sofar = idle r; at = refl; steps = refl; mode-is = refl }
+  at-place k r (some b) e Comma = record { after = list k (idle (comma (idle r) t)); keeps = toPlace; steps = refl; mode-is = refl }
+  at-place k r (some b) e Semicolon = record { level = k; sofar = idle r; at = refl; steps = refl; mode-is = refl }
+  at-place k r (some b) e Colon = record { here = inList k r; at = refl; steps = refl; mode-is = refl }
+  at-place k r (some b) e Stray = refl
+
+  at-atom : (h : Here) (a : Lexeme) (o : Option Began) → fresh h ≡ o → (c : Class) → DoesSo (actionOf (atomMode o) c) n (phrase h (one (atomWord a))) c t
+  at-atom h a none e Atom = record { here = h; sofar = one (atomWord a); word = atomWord t; at = refl; is = atomIs; steps = refl; mode-is = refl }
+  at-atom h a none e Quoted = record { here = h; sofar = one (atomWord a); word = quotedWord t; at = refl; is = quotedIs; steps = refl; mode-is = refl }
+  at-atom h a none e At = record { after = firstAt h (one (atomWord a)) t; keeps = toAt; steps = refl; mode-is = refl }
+  at-atom h a none e LessThan = record { here = h; name = one (atomWord a); at = refl; steps = refl; mode-is = refl }
+  at-atom h a none e GreaterThan = refl
+  at-atom h a none e Comma = refl
+  at-atom h a none e Semicolon = refl
+  at-atom h a none e Colon = record { here = h; name = one (atomWord a); at = refl; steps = ap (phraseColon n h (one (atomWord a)) t) e; mode-is = refl }
+  at-atom h a none e Stray = refl
+  at-atom h a (some b) e Atom = record { here = h; sofar = one (atomWord a); word = atomWord t; at = refl; is = atomIs; steps = refl; mode-is = refl }
+  at-atom h a (some b) e Quoted = record { here = h; sofar = one (atomWord a); word = quotedWord t; at = refl; is = quotedIs; steps = refl; mode-is = refl }
+  at-atom h a (some b) e At = record { after = firstAt h (one (atomWord a)) t; keeps = toAt; steps = refl; mode-is = refl }
+  at-atom h a (some b) e LessThan = record { here = h; name = one (atomWord a); at = refl; steps = refl; mode-is = refl }
+  at-atom h a (some b) e GreaterThan = refl
+  at-atom h a (some b) e Comma = refl
+  at-atom h a (some b) e Semicolon = refl
+  at-atom h a (some b) e Colon = record { here = b .here; colon = b .colon; atom = a; at = ap (λ g. phrase g (one (atomWord a))) (fresh-some h b e); steps = ap (phraseColon n h (one (atomWord a)) t) e; mode-is = refl }
+  at-atom h a (some b) e Stray = refl
+
+  -- in each mode the machine does what the table says
+  pub does : (s : State) (c : Class) → DoesSo (actionOf (modeOf s) c) n s c t
+  does (list k (idle r)) c = at-place k r (fresh (inList k r)) refl c
+  does (list k (full r a)) Atom = refl
+  does (list k (full r a)) Quoted = refl
+  does (list k (full r a)) At = refl
+  does (list k (full r a)) LessThan = refl
+  does (list k (full r a)) GreaterThan = record { level = k; sofar = full r a; at = refl; steps = refl; mode-is = refl }
+  does (list k (full r a)) Comma = record { after = list k (idle (comma (full r a) t)); keeps = toPlace; steps = refl; mode-is = refl }
+  does (list k (full r a)) Semicolon = record { level = k; sofar = full r a; at = refl; steps = refl; mode-is = refl }
+  does (list k (full r a)) Colon = refl
+  does (list k (full r a)) Stray = refl
+  does (phrase h (one (atomWord a))) c = at-atom h a (fresh h) refl c
+  does (phrase h (one (quotedWord q))) Atom = record { here = h; sofar = one (quotedWord q); word = atomWord t; at = refl; is = atomIs; steps = refl; mode-is = refl }
+  does (phrase h (one (quotedWord q))) Quoted = record { here = h; sofar = one (quotedWord q); word = quotedWord t; at = refl; is = quotedIs; steps = refl; mode-is = refl }
+  does (phrase h (one (quotedWord q))) At = record { after = firstAt h (one (quotedWord q)) t; keeps = toAt; steps = refl; mode-is = refl }
+  does (phrase h (one (quotedWord q))) LessThan = record { here = h; name = one (quotedWord q); at = refl; steps = refl; mode-is = refl }
+  does (phrase h (one (quotedWord q))) GreaterThan = record { here = h; address = quoted q; ended = lone; steps = refl; mode-is = refl }
+  does (phrase h (one (quotedWord q))) Comma = record { here = h; address = quoted q; ended = lone; steps = refl; mode-is = refl }
+  does (phrase h (one (quotedWord q))) Semicolon = record { here = h; address = quoted q; ended = lone; steps = refl; mode-is = refl }
+  does (phrase h (one (quotedWord q))) Colon = record { here = h; name = one (quotedWord q); at = refl; steps = refl; mode-is = refl }
+  does (phrase h (one (quotedWord q))) Stray = refl
+  does (phrase h (more p w)) Atom = record { here = h; sofar = more p w; word = atomWord t; at = refl; is = atomIs; steps = refl; mode-is = refl }
+  does (phrase h (more p w)) Quoted = record { here = h; sofar = more p w; word = quotedWord t; at = refl; is = quotedIs; steps = refl; mode-is = refl }
+  does (phrase h (more p w)) At = record { after = firstAt h (more p w) t; keeps = toAt; steps = refl; mode-is = refl }
+  does (phrase h (more p w)) LessThan = record { here = h; name = more p w; at = refl; steps = refl; mode-is = refl }
+  does (phrase h (more p w)) GreaterThan = refl
+  does (phrase h (more p w)) Comma = refl
+  does (phrase h (more p w)) Semicolon = refl
+  does (phrase h (more p w)) Colon = record { here = h; name = more p w; at = refl; steps = refl; mode-is = refl }
+  does (phrase h (more p w)) Stray = refl
+  does (firstAt h p v) Atom = record { after = node h p (first v (atomWord t)); keeps = toNode Atom atomIs; steps = refl; mode-is = refl }
+  does (firstAt h p v) Quoted = record { after = node h p (first v (quotedWord t)); keeps = toNode Quoted quotedIs; steps = refl; mode-is = refl }
+  does (firstAt h p v) At = refl
+  does (firstAt h p v) LessThan = refl
+  does (firstAt h p v) GreaterThan = refl
+  does (firstAt h p v) Comma = refl
+  does (firstAt h p v) Semicolon = refl
+  does (firstAt h p v) Colon = refl
+  does (firstAt h p v) Stray = refl
+  does (nextAt h p m v) Atom = record { after = node h p (next m v (atomWord t)); keeps = toNextNode Atom atomIs; steps = refl; mode-is = refl }
+  does (nextAt h p m v) Quoted = record { after = node h p (next m v (quotedWord t)); keeps = toNextNode Quoted quotedIs; steps = refl; mode-is = refl }
+  does (nextAt h p m v) At = refl
+  does (nextAt h p m v) LessThan = refl
+  does (nextAt h p m v) GreaterThan = refl
+  does (nextAt h p m v) Comma = refl
+  does (nextAt h p m v) Semicolon = refl
+  does (nextAt h p m v) Colon = refl
+  does (nextAt h p m v) Stray = refl
+  does (node h p m) Atom = refl
+  does (node h p m) Quoted = refl
+  does (node h p m) At = record { after = nextAt h p m t; keeps = toNextAt; steps = refl; mode-is = refl }
+  does (node h p m) LessThan = refl
+  does (node h p m) GreaterThan = record { here = h; address = mailbox p m; ended = boxed; steps = refl; mode-is = refl }
+  does (node h p m) Comma = record { here = h; address = mailbox p m; ended = boxed; steps = refl; mode-is = refl }
+  does (node h p m) Semicolon = record { here = h; address = mailbox p m; ended = boxed; steps = refl; mode-is = refl }
+  does (node h p m) Colon = refl
+  does (node h p m) Stray = refl
+  does (want h v a u) Atom = record { here = inTyped h v a u; word = atomWord t; at = refl; is = atomIs; steps = refl; mode-is = refl }
+  does (want h v a u) Quoted = record { here = inTyped h v a u; word = quotedWord t; at = refl; is = quotedIs; steps = refl; mode-is = refl }
+  does (want h v a u) At = refl
+  does (want h v a u) LessThan = record { here = inTyped h v a u; at = refl; steps = refl; mode-is = refl }
+  does (want h v a u) GreaterThan = refl
+  does (want h v a u) Comma = refl
+  does (want h v a u) Semicolon = refl
+  does (want h v a u) Colon = record { here = inTyped h v a u; at = refl; steps = refl; mode-is = refl }
+  does (want h v a u) Stray = refl
+
+-- ---- the end
+
+pub record Finishes (s : State) : Type 0 where
+  pub level : Level
+  pub sofar : AddressList
+  pub at : s ≡ list level sofar
+
+pub record EndsAndFinishes (s : State) : Type 0 where
+  pub here : Here
+  pub address : Address
+  pub ended : Ended s here address
+  pub is : finish s ≡ wholeOf (some (close here address))
+
+abbrev pub DoesAtEnd : Act → State → Type 0
+DoesAtEnd refuses s = finish s ≡ none
+DoesAtEnd begins s = ⊥
+DoesAtEnd adds s = ⊥
+DoesAtEnd passes s = ⊥
+DoesAtEnd opens s = ⊥
+DoesAtEnd opensNamed s = ⊥
+DoesAtEnd turnsTyped s = ⊥
+DoesAtEnd endsAtComma s = ⊥
+DoesAtEnd closes s = ⊥
+DoesAtEnd endsAndCloses s = ⊥
+DoesAtEnd finishes s = Finishes s
+DoesAtEnd endsAndFinishes s = EndsAndFinishes s
+
+place-end : (k : Level) (r : Place) (o : Option Began) → DoesAtEnd (rowOf (placeMode o) .end .act) (list k (idle r))
+place-end k r none = record { level = k; sofar = idle r; at = refl }
+place-end k r (some b) = record { level = k; sofar = idle r; at = refl }
+
+atom-end : (h : Here) (a : Lexeme) (o : Option Began) → DoesAtEnd (rowOf (atomMode o) .end .act) (phrase h (one (atomWord a)))
+atom-end h a none = refl
+atom-end h a (some b) = refl
+
+pub does-at-end : (s : State) → DoesAtEnd (rowOf (modeOf s) .end .act) s
+does-at-end (list k (idle r)) = place-end k r (fresh (inList k r))
+does-at-end (list k (full r a)) = record { level = k; sofar = full r a; at = refl }
+does-at-end (phrase h (one (atomWord a))) = atom-end h a (fresh h)
+does-at-end (phrase h (one (quotedWord q))) = record { here = h; address = quoted q; ended = lone; is = refl }
+does-at-end (phrase h (more p w)) = refl
+does-at-end (firstAt h p v) = refl
+does-at-end (nextAt h p m v) = refl
+does-at-end (node h p m) = record { here = h; address = mailbox p m; ended = boxed; is = refl }
+does-at-end (want h v a u) = refl

@@ -1,0 +1,78 @@
+-- `engine::close_typed` meets its contract. Assumes nothing.
+use mathlib.Core.Path.{_≡_, refl}
+use mathlib.Core.List.{List}
+use Prim.Native.Nat.{ℕ, _≤_}
+use native.Mathlib.Omega.{arith}
+use lib.ListN.{length}
+use Rattle.octets.specs.Numbers.{levelLimit}
+use Rattle.grammar.proofs.Trees.{Address}
+use Rattle.grammar.proofs.AddressMachine.{Here}
+use Rattle.engine.specs.Turns.{Closing}
+use Rattle.engine.proofs.CodeLaws.{ClosingOn, closing-start, closing-none, closing-stays, typed-top, some-level, top-level, closing-more}
+use borrow.Author.Needs.{needs}
+use Rattle.engine.proofs.close_typed.Statement.{statement}
+use Rattle.engine.proofs.close_typed.Tie as tie
+
+abbrev Inv-loop : tie.InvT-loop
+Inv-loop stack table₀ depth end left₀ table left =
+    (left ≤ levelLimit) × (length table ≡ length table₀) × ((lent : List ℕ) (h : Here) (a : Address) → Closing lent stack table₀ depth end h a → ClosingOn lent stack end h a table left)
+
+abbrev μ-loop : tie.MeasureT-loop
+μ-loop stack table₀ depth end left₀ table left = left
+
+loop-holds : tie.Need-loop-holds Inv-loop μ-loop
+loop-holds c = (c .before .pre .closing .is-open .deep, refl, λ lent h a x. closing-start x)
+
+same-length : tie.Need-same-length Inv-loop μ-loop
+same-length c = search needs
+
+returns : tie.Need-returns Inv-loop μ-loop
+returns c = λ lent h a x. closing-none h a (omega arith) (c .before .loop .inv .2 lent h a x)
+
+sub-level : tie.Need-sub-level Inv-loop μ-loop
+sub-level c = search needs
+
+number-of-requires : tie.Need-number-of-requires Inv-loop μ-loop
+number-of-requires c κs = search needs
+
+same-length-2 : tie.Need-same-length-2 Inv-loop μ-loop
+same-length-2 c = search needs
+
+returns-2 : tie.Need-returns-2 Inv-loop μ-loop
+returns-2 c = λ lent h a x. closing-stays h a (omega (arith, c .before .number-of .ensures)) (c .before .before .before .loop .inv .2 lent h a x)
+
+put-level-requires : tie.Need-put-level-requires Inv-loop μ-loop
+put-level-requires c κs =
+    let p = c .before .before .before .before .before .before .pre in
+    let n = c .before .before .number-of .ensures in
+    some-level (p .here) (p .address) (typed-top (p .here) (p .address) (λ e. omega arith) (omega (arith, n)) (c .before .before .before .before .loop .inv .2 (p .lent) (p .here) (p .address) (p .closing)))
+
+loop-less : tie.Need-loop-less Inv-loop μ-loop
+loop-less c = search needs
+
+loop-again : tie.Need-loop-again Inv-loop μ-loop
+loop-again c =
+    let n = c .before .before .before .before .before .number-of .ensures in (
+      omega arith,
+      search needs,
+      λ lent h a x.
+          let y = typed-top h a (λ e. omega arith) (omega (arith, n)) (c .before .before .before .before .before .before .before .loop .inv .2 lent h a x) in
+          closing-more h a y _ (c .before .before .put-level .ensures (y .here) _ _ _ _ (top-level h a y)),
+    )
+
+pub close-typed-spec : {M : Type 1} → statement M
+close-typed-spec =
+    tie.close
+    (tie.spec
+    Inv-loop
+    μ-loop
+    loop-holds
+    same-length
+    returns
+    sub-level
+    number-of-requires
+    same-length-2
+    returns-2
+    put-level-requires
+    loop-less
+    loop-again)

@@ -1,0 +1,26 @@
+-- Document 02, CR 9: "For every input and every table given it must return the same number, position, count and table bytes as
+-- the first one."
+use Prim.Native.Nat.{ℕ}
+use mathlib.Core.Path.{_≡_}
+use mathlib.Core.List.{List}
+use Rattle.octets.specs.Answers.{numberOf, positionOf, countOf}
+use Rattle.octets.specs.declared.answers.Answer.{Answer}
+use Rattle.addresses.specs.Outcome.{outcome}
+
+-- what a reader answers and the table afterwards, as both readers promise it in their clause `outcome`
+pub record Promised (message : List ℕ) (start end : ℕ) (table : List ℕ) (r : Answer) (after : List ℕ) : Type 0 where
+  pub answer : r ≡ outcome message start end table .answer
+  pub bytes : after ≡ outcome message start end table .table
+
+-- the same number, position, count and table bytes
+pub record Same (r r′ : Answer) (after after′ : List ℕ) : Type 0 where
+  pub number : numberOf r ≡ numberOf r′
+  pub position : positionOf r ≡ positionOf r′
+  pub count : countOf r ≡ countOf r′
+  pub bytes : after ≡ after′
+
+-- for every input and every table
+abbrev pub BothReadersSame : Type 0
+BothReadersSame =
+    (message : List ℕ) (start end : ℕ) (table : List ℕ) (r r′ : Answer) (after after′ : List ℕ) → Promised message start end table r after → Promised message start end table r′ after′
+    → Same r r′ after after′
