@@ -77,26 +77,27 @@ module _ (stack : List ℕ) (level kind first last : ℕ) (n : placeOf level lev
         last-is = getD-set-same (set (set stack (placeOf level 2) kind) (placeOf level 3) first) (placeOf level 4) last 0 (simp length-set (omega arith));
       }
 
--- all of them
-abbrev begun : List ℕ → ℕ → ℕ → ℕ → List ℕ
-begun stack level number start = set (set stack (placeOf level 0) number) (placeOf level 1) start
+-- its number and start
+abbrev started : List ℕ → ℕ → ℕ → ℕ → List ℕ
+started stack level number start = set (set stack (placeOf level 0) number) (placeOf level 1) start
 
+-- all of them
 abbrev pub pushed : List ℕ → ℕ → ℕ → ℕ → ℕ → ℕ → ℕ → List ℕ
-pushed stack level number start kind first last = named (begun stack level number start) level kind first last
+pushed stack level number start kind first last = named (started stack level number start) level kind first last
 
 module _ (stack : List ℕ) (level number start kind first last : ℕ) (n : placeOf level levelSize ≤ length stack) where
-  longer : placeOf level levelSize ≤ length (begun stack level number start)
+  longer : placeOf level levelSize ≤ length (started stack level number start)
   longer = simp length-set (omega arith)
 
   pub pushed-under : Agrees (level * levelSize) stack (pushed stack level number start kind first last)
   pushed-under =
       record {
-        same = λ j h. named-below (begun stack level number start) level kind first last longer j (omega arith)
+        same = λ j h. named-below (started stack level number start) level kind first last longer j (omega arith)
             ∙ under (set stack (placeOf level 0) number) (placeOf level 1) j start (omega arith) ∙ under stack (placeOf level 0) j number (omega arith);
       }
 
   pub pushed-entry : Entry (pushed stack level number start kind first last) level number start kind first last
   pushed-entry =
-      named-entry (begun stack level number start) level kind first last longer
+      named-entry (started stack level number start) level kind first last longer
       (under (set stack (placeOf level 0) number) (placeOf level 1) (placeOf level 0) start (omega arith) ∙ getD-set-same stack (placeOf level 0) number 0 (omega arith))
       (getD-set-same (set stack (placeOf level 0) number) (placeOf level 1) start 0 (simp length-set (omega arith)))

@@ -1,4 +1,4 @@
--- What a turn does, by the number of the table's entry; the end; and the whole. Assumes nothing.
+-- What a turn does, by the act of the table's entry, and what the end does. Assumes nothing.
 use Prim.Native.Nat.{ℕ, _+_, _/_, _%_, _≤_, _<_}
 use mathlib.Core.Path.{_≡_, refl, sym, ap, _∙_}
 use mathlib.Core.List.{List}
@@ -36,16 +36,16 @@ module _ {text lent stack table : List ℕ} {s : State} {t : Lexeme} {e : Engine
   next-is : action % modeRoom ≡ modeNumber (a .next)
   next-is = entry-next a action (x .action-is)
 
-  pub turn-refuses : action / modeRoom ≡ 0 → StopsBy (stepOn levelLimit s c t) noListGoesOn stack stack
+  pub turn-refuses : action / modeRoom ≡ actNumber refuses → StopsBy (stepOn levelLimit s c t) noListGoesOn stack stack
   turn-refuses q = record { why = unfit; steps = does-as refuses q; number-is = refl; kept = refl }
 
-  pub turn-begins : action / modeRoom ≡ 1 → GoesTo text lent (stepOn levelLimit s c t) to (engineBy (action % modeRoom) (e .depth) (e .free) from to to) stack table
+  pub turn-begins : action / modeRoom ≡ actNumber begins → GoesTo text lent (stepOn levelLimit s c t) to (engineBy (action % modeRoom) (e .depth) (e .free) from to to) stack table
   turn-begins q = let b = does-as begins q in goes-begin (x .follows) (b .here) (b .word) (b .at) (x .stands) (b .is) (b .steps) (next-is ∙ sym (ap modeNumber (b .mode-is)))
 
-  pub turn-adds : action / modeRoom ≡ 2 → GoesTo text lent (stepOn levelLimit s c t) to (engineBy (action % modeRoom) (e .depth) (e .free) (e .start) to to) stack table
+  pub turn-adds : action / modeRoom ≡ actNumber adds → GoesTo text lent (stepOn levelLimit s c t) to (engineBy (action % modeRoom) (e .depth) (e .free) (e .start) to to) stack table
   turn-adds q = let b = does-as adds q in goes-add (x .follows) (b .here) (b .sofar) (b .word) (b .at) (x .stands) (b .is) (b .steps) (next-is ∙ sym (ap modeNumber (b .mode-is)))
 
-  pub turn-passes : action / modeRoom ≡ 3 → GoesTo text lent (stepOn levelLimit s c t) to (passed e (action % modeRoom) to) stack table
+  pub turn-passes : action / modeRoom ≡ actNumber passes → GoesTo text lent (stepOn levelLimit s c t) to (passed e (action % modeRoom) to) stack table
   turn-passes q = let b = does-as passes q in goes-pass (x .follows) (b .keeps) (x .stands) (b .steps) (next-is ∙ sym (ap modeNumber (b .mode-is)))
 
   shorter : to ≤ messageLimit
@@ -61,7 +61,7 @@ module _ {text lent stack table : List ℕ} {s : State} {t : Lexeme} {e : Engine
     pub opening : Opening text lent here name t (isAngle c) e′ kind (action % modeRoom) to stack table
     pub steps : stepOn levelLimit s c t ≡ enter levelLimit (levelIf (isAngle c) here name t)
 
-  pub turn-opens : action / modeRoom ≡ 4 → (kind : ℕ) → kind ≡ kindIf (isAngle c) → OpensBy (engineBy (e .mode) (e .depth) (e .free) from from (e .at)) kind
+  pub turn-opens : action / modeRoom ≡ actNumber opens → (kind : ℕ) → kind ≡ kindIf (isAngle c) → OpensBy (engineBy (e .mode) (e .depth) (e .free) from from (e .at)) kind
   turn-opens q kind k =
       let b = does-as opens q in
       let o = begin-open (b .here) (rw (b .at) at (x .stands)) in
@@ -84,7 +84,7 @@ module _ {text lent stack table : List ℕ} {s : State} {t : Lexeme} {e : Engine
         steps = b .steps;
       }
 
-  pub turn-opens-named : action / modeRoom ≡ 5 → (kind : ℕ) → kind ≡ kindIf (isAngle c) → OpensBy e kind
+  pub turn-opens-named : action / modeRoom ≡ actNumber opensNamed → (kind : ℕ) → kind ≡ kindIf (isAngle c) → OpensBy e kind
   turn-opens-named q kind k =
       let b = does-as opensNamed q in
       let y : Stands text lent (phrase (b .here) (b .name)) e stack table = rw (b .at) at (x .stands) in
@@ -121,7 +121,7 @@ module _ {text lent stack table : List ℕ} {s : State} {t : Lexeme} {e : Engine
     pub at : AtTyped text lent here colon atom e (action % modeRoom) to stack table
     pub steps : stepOn levelLimit s c t ≡ go (want here colon atom t)
 
-  pub turn-types : action / modeRoom ≡ 6 → TypesBy
+  pub turn-types : action / modeRoom ≡ actNumber turnsTyped → TypesBy
   turn-types q =
       let b = does-as turnsTyped q in
       record {
@@ -138,7 +138,7 @@ module _ {text lent stack table : List ℕ} {s : State} {t : Lexeme} {e : Engine
     pub address : Address
     pub ended : Ended s here address
 
-  ends-by : (d : Act) → 6 < actNumber d → (actNumber d ≡ 8 → ⊥) → Does d (a .next) levelLimit s c t → EndsBy
+  ends-by : (d : Act) → actNumber turnsTyped < actNumber d → (actNumber d ≡ actNumber closes → ⊥) → Does d (a .next) levelLimit s c t → EndsBy
   ends-by refuses h f y = absurd (omega arith)
   ends-by begins h f y = absurd (omega arith)
   ends-by adds h f y = absurd (omega arith)
@@ -152,11 +152,11 @@ module _ {text lent stack table : List ℕ} {s : State} {t : Lexeme} {e : Engine
   ends-by finishes h f y = absurd y
   ends-by endsAndFinishes h f y = absurd y
 
-  -- an act above 6 that is not `closes` ends an address
-  pub turn-ends : 6 < action / modeRoom → (action / modeRoom ≡ 8 → ⊥) → EndsBy
+  -- an act behind `turnsTyped` that is not `closes` ends an address
+  pub turn-ends : actNumber turnsTyped < action / modeRoom → (action / modeRoom ≡ actNumber closes → ⊥) → EndsBy
   turn-ends h f = let n = entry-act a action (x .action-is) in ends-by (a .act) (omega arith) (λ e. f (n ∙ e)) (does levelLimit t s c)
 
-  comma-by : (d : Act) → 6 < actNumber d → (actNumber d ≡ 8 → ⊥) → (actNumber d ≡ 9 → ⊥) → Does d (a .next) levelLimit s c t → actNumber d ≡ 7
+  comma-by : (d : Act) → actNumber turnsTyped < actNumber d → (actNumber d ≡ actNumber closes → ⊥) → (actNumber d ≡ actNumber endsAndCloses → ⊥) → Does d (a .next) levelLimit s c t → actNumber d ≡ actNumber endsAtComma
   comma-by refuses h f g y = absurd (omega arith)
   comma-by begins h f g y = absurd (omega arith)
   comma-by adds h f g y = absurd (omega arith)
@@ -171,10 +171,10 @@ module _ {text lent stack table : List ℕ} {s : State} {t : Lexeme} {e : Engine
   comma-by endsAndFinishes h f g y = absurd y
 
   -- .. and one that is neither ends it at a comma
-  pub at-comma : 6 < action / modeRoom → (action / modeRoom ≡ 8 → ⊥) → (action / modeRoom ≡ 9 → ⊥) → action / modeRoom ≡ 7
+  pub at-comma : actNumber turnsTyped < action / modeRoom → (action / modeRoom ≡ actNumber closes → ⊥) → (action / modeRoom ≡ actNumber endsAndCloses → ⊥) → action / modeRoom ≡ actNumber endsAtComma
   at-comma h f g = let n = entry-act a action (x .action-is) in n ∙ comma-by (a .act) (omega arith) (λ e. f (n ∙ e)) (λ e. g (n ∙ e)) (does levelLimit t s c)
 
-  pub turn-comma : {after : List ℕ} {left : ℕ} → action / modeRoom ≡ 7 → ((h : Here) (y : Address) → Ended s h y → Closed lent (close h y) after left)
+  pub turn-comma : {after : List ℕ} {left : ℕ} → action / modeRoom ≡ actNumber endsAtComma → ((h : Here) (y : Address) → Ended s h y → Closed lent (close h y) after left)
       → GoesTo text lent (stepOn levelLimit s c t) to (engineBy (action % modeRoom) left (e .free + 1) to to to) stack after
   turn-comma q f =
       let b = does-as endsAtComma q in
@@ -187,7 +187,7 @@ module _ {text lent stack table : List ℕ} {s : State} {t : Lexeme} {e : Engine
     pub at : AtClose text lent level sofar t (isAngle c) depth free kind (action % modeRoom) to stack′ table′
     pub steps : stepOn levelLimit s c t ≡ endIf (isAngle c) level sofar t
 
-  pub turn-closes : action / modeRoom ≡ 8 → (kind : ℕ) → kind ≡ kindIf (isAngle c) → ClosesBy (e .depth) (e .free) kind stack table
+  pub turn-closes : action / modeRoom ≡ actNumber closes → (kind : ℕ) → kind ≡ kindIf (isAngle c) → ClosesBy (e .depth) (e .free) kind stack table
   turn-closes q kind k =
       let b = does-as closes q in
       record {
@@ -197,7 +197,7 @@ module _ {text lent stack table : List ℕ} {s : State} {t : Lexeme} {e : Engine
         steps = b .steps;
       }
 
-  pub turn-ended-closes : {after : List ℕ} {left : ℕ} → action / modeRoom ≡ 9 → (kind : ℕ) → kind ≡ kindIf (isAngle c) → ((h : Here) (y : Address) → Ended s h y → Closed lent (close h y) after left)
+  pub turn-ended-closes : {after : List ℕ} {left : ℕ} → action / modeRoom ≡ actNumber endsAndCloses → (kind : ℕ) → kind ≡ kindIf (isAngle c) → ((h : Here) (y : Address) → Ended s h y → Closed lent (close h y) after left)
       → ClosesBy left (e .free + 1) kind stack after
   turn-ended-closes q kind k f =
       let b = does-as endsAndCloses q in
@@ -229,22 +229,22 @@ module _ {text lent stack table : List ℕ} {s : State} {e : Engine} {action : �
   ends-as : (d : Act) → action / modeRoom ≡ actNumber d → DoesAtEnd d s
   ends-as d q = rw (act-is (z .act) d (sym (entry-act z action (x .action-is)) ∙ q)) at (does-at-end s)
 
-  pub end-refused : action / modeRoom ≡ 0 → Unfinished text s endsTooSoon (length text)
+  pub end-refused : action / modeRoom ≡ actNumber refuses → Unfinished text s endsTooSoon (length text)
   end-refused q = record { is = ends-as refuses q; number-is = refl; place-is = refl }
 
-  pub end-listed : action / modeRoom ≡ 10 → e .depth ≡ 0 → FinishedList lent s table (e .free)
+  pub end-listed : action / modeRoom ≡ actNumber finishes → e .depth ≡ 0 → FinishedList lent s table (e .free)
   end-listed q d =
       let b = ends-as finishes q in
       let y : Stands text lent (list (b .level) (b .sofar)) e stack table = rw (b .at) at (x .stands) in
       finished-list lent table s (b .level) (b .sofar) (e .free) (e .depth) (ap finish (b .at)) (y .depth-is) d (y .free-is) (y .stored)
 
-  pub end-open : action / modeRoom ≡ 10 → (e .depth ≡ 0 → ⊥) → Unfinished text s endsTooSoon (length text)
+  pub end-open : action / modeRoom ≡ actNumber finishes → (e .depth ≡ 0 → ⊥) → Unfinished text s endsTooSoon (length text)
   end-open q d =
       let b = ends-as finishes q in
       let y : Stands text lent (list (b .level) (b .sofar)) e stack table = rw (b .at) at (x .stands) in
       record { is = ap finish (b .at) ∙ open-whole (b .level) (b .sofar) (λ g. d (y .depth-is ∙ g)); number-is = refl; place-is = refl }
 
-  last-end : (d : Act) → (actNumber d ≡ 0 → ⊥) → (actNumber d ≡ 10 → ⊥) → DoesAtEnd d s → d ≡ endsAndFinishes
+  last-end : (d : Act) → (actNumber d ≡ actNumber refuses → ⊥) → (actNumber d ≡ actNumber finishes → ⊥) → DoesAtEnd d s → d ≡ endsAndFinishes
   last-end refuses f g y = absurd (f refl)
   last-end begins f g y = absurd y
   last-end adds f g y = absurd y
@@ -258,15 +258,15 @@ module _ {text lent stack table : List ℕ} {s : State} {e : Engine} {action : �
   last-end finishes f g y = absurd (g refl)
   last-end endsAndFinishes f g y = refl
 
-  ends-last : (action / modeRoom ≡ 0 → ⊥) → (action / modeRoom ≡ 10 → ⊥) → EndsAndFinishes s
+  ends-last : (action / modeRoom ≡ actNumber refuses → ⊥) → (action / modeRoom ≡ actNumber finishes → ⊥) → EndsAndFinishes s
   ends-last f g =
       let n = entry-act z action (x .action-is) in
       rw (last-end (z .act) (λ h. f (n ∙ h)) (λ h. g (n ∙ h)) (does-at-end s)) at (does-at-end s)
 
-  pub end-ends : (action / modeRoom ≡ 0 → ⊥) → (action / modeRoom ≡ 10 → ⊥) → (h : Here) × (y : Address) × Ended s h y
+  pub end-ends : (action / modeRoom ≡ actNumber refuses → ⊥) → (action / modeRoom ≡ actNumber finishes → ⊥) → (h : Here) × (y : Address) × Ended s h y
   end-ends f g = let b = ends-last f g in (b .here, b .address, b .ended)
 
-  module _ {after : List ℕ} {left : ℕ} (f : action / modeRoom ≡ 0 → ⊥) (g : action / modeRoom ≡ 10 → ⊥) (closed : (h : Here) (y : Address) → Ended s h y → Closed lent (close h y) after left) where
+  module _ {after : List ℕ} {left : ℕ} (f : action / modeRoom ≡ actNumber refuses → ⊥) (g : action / modeRoom ≡ actNumber finishes → ⊥) (closed : (h : Here) (y : Address) → Ended s h y → Closed lent (close h y) after left) where
     pub end-ended-listed : left ≡ 0 → FinishedList lent s after (e .free + 1)
     end-ended-listed d =
         let b = ends-last f g in

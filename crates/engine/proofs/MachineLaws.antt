@@ -8,17 +8,18 @@ use Rattle.grammar.proofs.AnyMachine.{go, stop}
 use Rattle.grammar.proofs.Trees.{Class, Atom, Quoted, At, LessThan, GreaterThan, Comma, Semicolon, Colon, Stray, Lexeme, Word, atomWord, quotedWord, Phrase, one, more, Nodes, first, next, Place, empty, comma, AddressList, idle, full, Address, mailbox, quoted}
 use Rattle.grammar.proofs.AddressMachine.{Here, inList, inTyped, Level, top, inAngle, inGroup, State, list, phrase, firstAt, nextAt, node, want, close, enter, Began, fresh, phraseColon, stepOn, finish, wholeOf}
 use Rattle.grammar.proofs.Complete.{begin}
-use Rattle.engine.specs.Actions.{Mode, atPlace, wanting, atWords, behindAddress, Act, refuses, begins, adds, passes, opens, opensNamed, turnsTyped, endsAtComma, closes, endsAndCloses, finishes, endsAndFinishes, Action, rowOf, actionOf}
+use Rattle.engine.specs.Actions.{Mode, atPlace, wanting, atWords, behindAddress, Act, refuses, begins, adds, passes, opens, opensNamed, turnsTyped, endsAtComma, closes, endsAndCloses, finishes, endsAndFinishes, Action, _then_, placeRow, wordsRow, rowOf, onClass, actionOf}
 use Rattle.engine.specs.Stands.{placeMode, atomMode, modeOf}
 use Rattle.engine.specs.Turns.{isAngle, levelIf, endIf, Ended, lone, boxed}
 
--- ---- what each doing means
+-- ---- what each act is, of the machine with at most `n` levels in the state `s` at a symbol
 
 -- a word of a class
 pub data WordIs : Class → Lexeme → Word → Type 0 where
   atomIs : {t : Lexeme} → WordIs Atom t (atomWord t)
   quotedIs : {t : Lexeme} → WordIs Quoted t (quotedWord t)
 
+-- a word begins an address
 pub record Begins (mode : Mode) (n : ℕ) (s : State) (c : Class) (t : Lexeme) : Type 0 where
   pub here : Here
   pub word : Word
@@ -27,6 +28,7 @@ pub record Begins (mode : Mode) (n : ℕ) (s : State) (c : Class) (t : Lexeme) :
   pub steps : stepOn n s c t ≡ go (phrase here (one word))
   pub mode-is : modeOf (phrase here (one word)) ≡ mode
 
+-- a further word of its phrase
 pub record Adds (mode : Mode) (n : ℕ) (s : State) (c : Class) (t : Lexeme) : Type 0 where
   pub here : Here
   pub sofar : Phrase
@@ -44,19 +46,21 @@ pub data Keeps (t : Lexeme) : State → State → Type 0 where
   toNextNode : {h : Here} {p : Phrase} {m : Nodes} {v : Lexeme} (c : Class) {w : Word} → WordIs c t w → Keeps t (nextAt h p m v) (node h p (next m v w))
   toPlace : {k : Level} {l : AddressList} → Keeps t (list k l) (list k (idle (comma l t)))
 
+-- only the mode changes
 pub record Passes (mode : Mode) (n : ℕ) (s : State) (c : Class) (t : Lexeme) : Type 0 where
   pub after : State
   pub keeps : Keeps t s after
   pub steps : stepOn n s c t ≡ go after
   pub mode-is : modeOf after ≡ mode
 
--- a level is opened, behind a name or without one
+-- a level is opened without a name, if the limit allows it
 pub record Opens (mode : Mode) (n : ℕ) (s : State) (c : Class) (t : Lexeme) : Type 0 where
   pub here : Here
   pub at : s ≡ begin here
   pub steps : stepOn n s c t ≡ enter n (levelIf (isAngle c) here none t)
   pub mode-is : modeOf (list (levelIf (isAngle c) here none t) (idle empty)) ≡ mode
 
+-- .. behind a name
 pub record OpensNamed (mode : Mode) (n : ℕ) (s : State) (c : Class) (t : Lexeme) : Type 0 where
   pub here : Here
   pub name : Phrase
@@ -64,6 +68,7 @@ pub record OpensNamed (mode : Mode) (n : ℕ) (s : State) (c : Class) (t : Lexem
   pub steps : stepOn n s c t ≡ enter n (levelIf (isAngle c) here (some name) t)
   pub mode-is : modeOf (list (levelIf (isAngle c) here (some name) t) (idle empty)) ≡ mode
 
+-- behind ":" and an atom: the nameless group that was opened turns typed, and no level is opened
 pub record TurnsTyped (mode : Mode) (n : ℕ) (s : State) (c : Class) (t : Lexeme) : Type 0 where
   pub here : Here
   pub colon : Lexeme
@@ -72,6 +77,7 @@ pub record TurnsTyped (mode : Mode) (n : ℕ) (s : State) (c : Class) (t : Lexem
   pub steps : stepOn n s c t ≡ go (want here colon atom t)
   pub mode-is : wanting ≡ mode
 
+-- an address ends, with the typed addresses around it, and a place follows
 pub record EndsAtComma (mode : Mode) (n : ℕ) (s : State) (c : Class) (t : Lexeme) : Type 0 where
   pub here : Here
   pub address : Address
@@ -79,6 +85,7 @@ pub record EndsAtComma (mode : Mode) (n : ℕ) (s : State) (c : Class) (t : Lexe
   pub steps : stepOn n s c t ≡ go (list (close here address .level) (idle (comma (close here address .sofar) t)))
   pub mode-is : atPlace ≡ mode
 
+-- the innermost level is closed, if the mark is its own
 pub record Closes (mode : Mode) (n : ℕ) (s : State) (c : Class) (t : Lexeme) : Type 0 where
   pub level : Level
   pub sofar : AddressList
@@ -86,6 +93,7 @@ pub record Closes (mode : Mode) (n : ℕ) (s : State) (c : Class) (t : Lexeme) :
   pub steps : stepOn n s c t ≡ endIf (isAngle c) level sofar t
   pub mode-is : behindAddress ≡ mode
 
+-- an address ends, with the typed addresses around it, and the level around them is closed, if the mark is its own
 pub record EndsAndCloses (mode : Mode) (n : ℕ) (s : State) (c : Class) (t : Lexeme) : Type 0 where
   pub here : Here
   pub address : Address
@@ -93,6 +101,7 @@ pub record EndsAndCloses (mode : Mode) (n : ℕ) (s : State) (c : Class) (t : Le
   pub steps : stepOn n s c t ≡ endIf (isAngle c) (close here address .level) (close here address .sofar) t
   pub mode-is : behindAddress ≡ mode
 
+-- any act; the last two stand in no column of a class
 abbrev pub Does : Act → Mode → ℕ → State → Class → Lexeme → Type 0
 Does refuses mode n s c t = stepOn n s c t ≡ stop unfit
 Does begins mode n s c t = Begins mode n s c t
@@ -107,6 +116,7 @@ Does endsAndCloses mode n s c t = EndsAndCloses mode n s c t
 Does finishes mode n s c t = ⊥
 Does endsAndFinishes mode n s c t = ⊥
 
+-- .. with the next mode
 abbrev pub DoesSo : Action → ℕ → State → Class → Lexeme → Type 0
 DoesSo a n s c t = Does (a .act) (a .next) n s c t
 
@@ -120,50 +130,46 @@ fresh-some (inList (inGroup h (some p) t) empty) b e = let z : _≡_ {A = ℕ} 0
 fresh-some (inList k (comma l t)) b e = let z : _≡_ {A = ℕ} 0 1 = cc in absurd (omega arith)
 fresh-some (inTyped h t a u) b e = let z : _≡_ {A = ℕ} 0 1 = cc in absurd (omega arith)
 
-module _ (n : ℕ) (t : Lexeme) where
-  at-place : (k : Level) (r : Place) (o : Option Began) → fresh (inList k r) ≡ o → (c : Class) → DoesSo (actionOf (placeMode o) c) n (list k (idle r)) c t
-  at-place k r none e Atom = record { here = inList k r; word = atomWord t; at = refl; is = atomIs; steps = refl; mode-is = ap atomMode e }
-  at-place k r none e Quoted = record { here = inList k r; word = quotedWord t; at = refl; is = quotedIs; steps = refl; mode-is = refl }
-  at-place k r none e At = refl
-  at-place k r none e LessThan = record { here = inList k r; at = refl; steps = refl; mode-is = refl }
-  at-place k r none e GreaterThan = record { level = k; sofar = idle r; at = refl; steps = refl; mode-is = refl }
-  at-place k r none e Comma = record { after = list k (idle (comma (idle r) t)); keeps = toPlace; steps = refl; mode-is = refl }
-  at-place k r none e Semicolon = record { level = k; sofar = idle r; at = refl; steps = refl; mode-is = refl }
-  at-place k r none e Colon = record { here = inList k r; at = refl; steps = refl; mode-is = refl }
-  at-place k r none e Stray = refl
-  at-place k r (some b) e Atom = record { here = inList k r; word = atomWord t; at = refl; is = atomIs; steps = refl; mode-is = ap atomMode e }
-  at-place k r (some b) e Quoted = record { here = inList k r; word = quotedWord t; at = refl; is = quotedIs; steps = refl; mode-is = refl }
-  at-place k r (some b) e At = refl
-  at-place k r (some b) e LessThan = record { here = inList k r; at = refl; steps = refl; mode-is = refl }
-  at-place k r (some b) e GreaterThan = record { level = k; sofar = idle r; at = refl; steps = refl; mode-is = refl }
-  at-place k r (some b) e Comma = record { after = list k (idle (comma (idle r) t)); keeps = toPlace; steps = refl; mode-is = refl }
-  at-place k r (some b) e Semicolon = record { level = k; sofar = idle r; at = refl; steps = refl; mode-is = refl }
-  at-place k r (some b) e Colon = record { here = inList k r; at = refl; steps = refl; mode-is = refl }
-  at-place k r (some b) e Stray = refl
+place-row : (o : Option Began) → rowOf (placeMode o) ≡ placeRow (atomMode o)
+place-row none = refl
+place-row (some b) = refl
 
-  at-atom : (h : Here) (a : Lexeme) (o : Option Began) → fresh h ≡ o → (c : Class) → DoesSo (actionOf (atomMode o) c) n (phrase h (one (atomWord a))) c t
-  at-atom h a none e Atom = record { here = h; sofar = one (atomWord a); word = atomWord t; at = refl; is = atomIs; steps = refl; mode-is = refl }
-  at-atom h a none e Quoted = record { here = h; sofar = one (atomWord a); word = quotedWord t; at = refl; is = quotedIs; steps = refl; mode-is = refl }
-  at-atom h a none e At = record { after = firstAt h (one (atomWord a)) t; keeps = toAt; steps = refl; mode-is = refl }
-  at-atom h a none e LessThan = record { here = h; name = one (atomWord a); at = refl; steps = refl; mode-is = refl }
-  at-atom h a none e GreaterThan = refl
-  at-atom h a none e Comma = refl
-  at-atom h a none e Semicolon = refl
+-- ":" behind one atom
+abbrev colonOf : Option Began → Action
+colonOf none = opensNamed then atPlace
+colonOf (some b) = turnsTyped then wanting
+
+atom-row : (o : Option Began) → rowOf (atomMode o) ≡ wordsRow (colonOf o)
+atom-row none = refl
+atom-row (some b) = refl
+
+module _ (n : ℕ) (t : Lexeme) where
+  at-place : (k : Level) (r : Place) (o : Option Began) → fresh (inList k r) ≡ o → (c : Class) → DoesSo (onClass (placeRow (atomMode o)) c) n (list k (idle r)) c t
+  at-place k r o e Atom = record { here = inList k r; word = atomWord t; at = refl; is = atomIs; steps = refl; mode-is = ap atomMode e }
+  at-place k r o e Quoted = record { here = inList k r; word = quotedWord t; at = refl; is = quotedIs; steps = refl; mode-is = refl }
+  at-place k r o e At = refl
+  at-place k r o e LessThan = record { here = inList k r; at = refl; steps = refl; mode-is = refl }
+  at-place k r o e GreaterThan = record { level = k; sofar = idle r; at = refl; steps = refl; mode-is = refl }
+  at-place k r o e Comma = record { after = list k (idle (comma (idle r) t)); keeps = toPlace; steps = refl; mode-is = refl }
+  at-place k r o e Semicolon = record { level = k; sofar = idle r; at = refl; steps = refl; mode-is = refl }
+  at-place k r o e Colon = record { here = inList k r; at = refl; steps = refl; mode-is = refl }
+  at-place k r o e Stray = refl
+
+  at-atom : (h : Here) (a : Lexeme) (o : Option Began) → fresh h ≡ o → (c : Class) → DoesSo (onClass (wordsRow (colonOf o)) c) n (phrase h (one (atomWord a))) c t
+  at-atom h a o e Atom = record { here = h; sofar = one (atomWord a); word = atomWord t; at = refl; is = atomIs; steps = refl; mode-is = refl }
+  at-atom h a o e Quoted = record { here = h; sofar = one (atomWord a); word = quotedWord t; at = refl; is = quotedIs; steps = refl; mode-is = refl }
+  at-atom h a o e At = record { after = firstAt h (one (atomWord a)) t; keeps = toAt; steps = refl; mode-is = refl }
+  at-atom h a o e LessThan = record { here = h; name = one (atomWord a); at = refl; steps = refl; mode-is = refl }
+  at-atom h a o e GreaterThan = refl
+  at-atom h a o e Comma = refl
+  at-atom h a o e Semicolon = refl
   at-atom h a none e Colon = record { here = h; name = one (atomWord a); at = refl; steps = ap (phraseColon n h (one (atomWord a)) t) e; mode-is = refl }
-  at-atom h a none e Stray = refl
-  at-atom h a (some b) e Atom = record { here = h; sofar = one (atomWord a); word = atomWord t; at = refl; is = atomIs; steps = refl; mode-is = refl }
-  at-atom h a (some b) e Quoted = record { here = h; sofar = one (atomWord a); word = quotedWord t; at = refl; is = quotedIs; steps = refl; mode-is = refl }
-  at-atom h a (some b) e At = record { after = firstAt h (one (atomWord a)) t; keeps = toAt; steps = refl; mode-is = refl }
-  at-atom h a (some b) e LessThan = record { here = h; name = one (atomWord a); at = refl; steps = refl; mode-is = refl }
-  at-atom h a (some b) e GreaterThan = refl
-  at-atom h a (some b) e Comma = refl
-  at-atom h a (some b) e Semicolon = refl
   at-atom h a (some b) e Colon = record { here = b .here; colon = b .colon; atom = a; at = ap (λ g. phrase g (one (atomWord a))) (fresh-some h b e); steps = ap (phraseColon n h (one (atomWord a)) t) e; mode-is = refl }
-  at-atom h a (some b) e Stray = refl
+  at-atom h a o e Stray = refl
 
   -- in each mode the machine does what the table says
   pub does : (s : State) (c : Class) → DoesSo (actionOf (modeOf s) c) n s c t
-  does (list k (idle r)) c = at-place k r (fresh (inList k r)) refl c
+  does (list k (idle r)) c = rw (place-row (fresh (inList k r))) (at-place k r (fresh (inList k r)) refl c)
   does (list k (full r a)) Atom = refl
   does (list k (full r a)) Quoted = refl
   does (list k (full r a)) At = refl
@@ -173,7 +179,7 @@ module _ (n : ℕ) (t : Lexeme) where
   does (list k (full r a)) Semicolon = record { level = k; sofar = full r a; at = refl; steps = refl; mode-is = refl }
   does (list k (full r a)) Colon = refl
   does (list k (full r a)) Stray = refl
-  does (phrase h (one (atomWord a))) c = at-atom h a (fresh h) refl c
+  does (phrase h (one (atomWord a))) c = rw (atom-row (fresh h)) (at-atom h a (fresh h) refl c)
   does (phrase h (one (quotedWord q))) Atom = record { here = h; sofar = one (quotedWord q); word = atomWord t; at = refl; is = atomIs; steps = refl; mode-is = refl }
   does (phrase h (one (quotedWord q))) Quoted = record { here = h; sofar = one (quotedWord q); word = quotedWord t; at = refl; is = quotedIs; steps = refl; mode-is = refl }
   does (phrase h (one (quotedWord q))) At = record { after = firstAt h (one (quotedWord q)) t; keeps = toAt; steps = refl; mode-is = refl }
@@ -231,17 +237,20 @@ module _ (n : ℕ) (t : Lexeme) where
 
 -- ---- the end
 
+-- a list may end
 pub record Finishes (s : State) : Type 0 where
   pub level : Level
   pub sofar : AddressList
   pub at : s ≡ list level sofar
 
+-- .. with an address
 pub record EndsAndFinishes (s : State) : Type 0 where
   pub here : Here
   pub address : Address
   pub ended : Ended s here address
   pub is : finish s ≡ wholeOf (some (close here address))
 
+-- what an act is at the end of the text
 abbrev pub DoesAtEnd : Act → State → Type 0
 DoesAtEnd refuses s = finish s ≡ none
 DoesAtEnd begins s = ⊥
@@ -256,18 +265,11 @@ DoesAtEnd endsAndCloses s = ⊥
 DoesAtEnd finishes s = Finishes s
 DoesAtEnd endsAndFinishes s = EndsAndFinishes s
 
-place-end : (k : Level) (r : Place) (o : Option Began) → DoesAtEnd (rowOf (placeMode o) .end .act) (list k (idle r))
-place-end k r none = record { level = k; sofar = idle r; at = refl }
-place-end k r (some b) = record { level = k; sofar = idle r; at = refl }
-
-atom-end : (h : Here) (a : Lexeme) (o : Option Began) → DoesAtEnd (rowOf (atomMode o) .end .act) (phrase h (one (atomWord a)))
-atom-end h a none = refl
-atom-end h a (some b) = refl
-
+-- at the end, too
 pub does-at-end : (s : State) → DoesAtEnd (rowOf (modeOf s) .end .act) s
-does-at-end (list k (idle r)) = place-end k r (fresh (inList k r))
+does-at-end (list k (idle r)) = rw (place-row (fresh (inList k r))) (record { level = k; sofar = idle r; at = refl })
 does-at-end (list k (full r a)) = record { level = k; sofar = full r a; at = refl }
-does-at-end (phrase h (one (atomWord a))) = atom-end h a (fresh h)
+does-at-end (phrase h (one (atomWord a))) = rw (atom-row (fresh h)) refl
 does-at-end (phrase h (one (quotedWord q))) = record { here = h; address = quoted q; ended = lone; is = refl }
 does-at-end (phrase h (more p w)) = refl
 does-at-end (firstAt h p v) = refl

@@ -122,15 +122,23 @@ abbrev pub markRow : Action → Action → Action → Action → Row
 markRow at close comma end =
     record { atom = no; quoted = no; at = at; less = no; greater = close; comma = comma; semicolon = close; colon = no; stray = no; end = end }
 
+-- a place of a list, where an atom begins an address in this mode
+abbrev pub placeRow : Mode → Row
+placeRow mode = beginRow mode (closes then behindAddress) (passes then atPlace) (finishes then atPlace)
+
+-- words that are no address yet, behind which ":" does this
+abbrev pub wordsRow : Action → Row
+wordsRow colon = phraseRow colon no no no
+
 -- the row of each mode
 abbrev pub rowOf : Mode → Row
-rowOf atPlace = beginRow atAtom (closes then behindAddress) (passes then atPlace) (finishes then atPlace)
-rowOf atStart = beginRow atFirstAtom (closes then behindAddress) (passes then atPlace) (finishes then atPlace)
-rowOf atFirstAtom = phraseRow (turnsTyped then wanting) no no no
+rowOf atPlace = placeRow atAtom
+rowOf atStart = placeRow atFirstAtom
+rowOf atFirstAtom = wordsRow (turnsTyped then wanting)
 rowOf wanting = beginRow atAtom no no no
-rowOf atAtom = phraseRow (opensNamed then atPlace) no no no
+rowOf atAtom = wordsRow (opensNamed then atPlace)
 rowOf atQuoted = phraseRow (opensNamed then atPlace) (endsAndCloses then behindAddress) (endsAtComma then atPlace) (endsAndFinishes then atPlace)
-rowOf atWords = phraseRow (opensNamed then atPlace) no no no
+rowOf atWords = wordsRow (opensNamed then atPlace)
 rowOf behindAt =
     record {
       atom = passes then atNode;

@@ -9,7 +9,7 @@ use lib.Seq.{sets}
 use Rattle.octets.specs.Numbers.{messageLimit, levelLimit, addressRecordSize}
 use Rattle.octets.specs.Text.{part}
 use Rattle.grammar.specs.Records.{tableBytes}
-use Rattle.grammar.specs.Rfc733.{kindNumber, typedKind}
+use Rattle.grammar.specs.Rfc733.{kindNumber, typedKind, angleList, group}
 use Rattle.grammar.proofs.Trees.{Lexeme, Phrase, one, more, atomWord, quotedWord, idle, full, AddressList, Address}
 use Rattle.grammar.proofs.AddressMachine.{Here, inList, inTyped, Level, top, inAngle, inGroup, State, list, phrase, firstAt, nextAt, node, want, levelsHere, levelsAt, fresh, Began}
 use Rattle.grammar.proofs.TreeRecords.{placeCount, listCount, placeRecords, listRecords, addressRecords, phraseStart, phraseEnd, nodesEnd, nameStart, nameEnd}
@@ -117,8 +117,8 @@ abbrev mutual
   -- .. and around a list
   pub HoldsLevel : List ℕ → Level → Type 0
   HoldsLevel stack top = Unit {0}
-  HoldsLevel stack (inAngle h o t) = Entry stack (levelsHere h) (numberHere h) (nameStart o t) 2 (nameStart o t) (nameEnd o t) × HoldsHere stack h
-  HoldsLevel stack (inGroup h o t) = Entry stack (levelsHere h) (numberHere h) (nameStart o t) 3 (nameStart o t) (nameEnd o t) × HoldsHere stack h
+  HoldsLevel stack (inAngle h o t) = Entry stack (levelsHere h) (numberHere h) (nameStart o t) (kindNumber angleList) (nameStart o t) (nameEnd o t) × HoldsHere stack h
+  HoldsLevel stack (inGroup h o t) = Entry stack (levelsHere h) (numberHere h) (nameStart o t) (kindNumber group) (nameStart o t) (nameEnd o t) × HoldsHere stack h
 
 -- .. and around what is read
 abbrev pub HoldsState : List ℕ → State → Type 0

@@ -1,4 +1,5 @@
 -- What the functions of the reader answer. Nothing here needs to be believed.
+-- A function asks that there is a state of the machine for which its arguments stand (`Some..`), and answers for every such state.
 use Prim.Native.Nat.{ℕ, _+_, _*_, _/_, _≤_, _<_}
 use mathlib.Core.Path.{_≡_}
 use mathlib.Core.Bool.{Bool, true, false}
@@ -20,7 +21,7 @@ use Rattle.grammar.proofs.Trees.{Lexeme, Phrase, one, atomWord, quotedWord, Nod
 use Rattle.grammar.proofs.Trees as trees
 use Rattle.grammar.proofs.AddressMachine.{Here, inList, Level, inAngle, inGroup, State, list, phrase, node, want, Spot, close, enter, endAngle, endGroup, levelsHere, levelsAt, stepOn, finish}
 use Rattle.grammar.proofs.TreeRecords.{listCount, listRecords, addressEnd, nameStart, nameEnd}
-use Rattle.engine.specs.Actions.{modeNumber, behindAddress, wanting, atQuoted, modeRoom, entry, rowOf, actionOf}
+use Rattle.engine.specs.Actions.{modeNumber, behindAddress, wanting, atQuoted, refuses, opens, turnsTyped, actNumber, modeRoom, entry, rowOf, actionOf}
 use Rattle.engine.specs.Stands.{modeOf, stackSize, numberHere, parentAt, parentHere, Entry, HoldsHere, HoldsLevel, storedHere, storedList, storedAddress, Stands}
 use Rattle.engine.specs.declared.Engine.{Engine}
 use Rattle.grammar.specs.declared.Whole.{Whole}
@@ -260,7 +261,7 @@ pub record SomeTurning (text : List ℕ) (e : Engine) (action : ℕ) (c : Class)
 -- a symbol that opens and closes nothing
 abbrev pub PassIs : Engine → ℕ → ℕ → ℕ → Engine → Type 0
 PassIs e action start end r =
-    (text lent stack table : List ℕ) (s : State) (c : Class) (t : Lexeme) → Turning text lent s t e action c start end stack table → 0 < action / modeRoom → action / modeRoom < 4
+    (text lent stack table : List ℕ) (s : State) (c : Class) (t : Lexeme) → Turning text lent s t e action c start end stack table → actNumber refuses < action / modeRoom → action / modeRoom < actNumber opens
     → GoesTo text lent (stepOn levelLimit s c t) end r stack table
 
 -- a symbol that ends an address or closes a level
@@ -271,11 +272,11 @@ pub record SomeEnding (e : Engine) (action : ℕ) (c : Class) (end : ℕ) (stack
   pub symbol : Lexeme
   pub start : ℕ
   pub turning : Turning text lent state symbol e action c start end stack table
-  pub ends : 6 < action / modeRoom
+  pub ends : actNumber turnsTyped < action / modeRoom
 
 abbrev pub EndsIs : List ℕ → List ℕ → List ℕ → Engine → ℕ → Class → ℕ → Turned → Type 0
 EndsIs stack table after e action c end r =
-    (text lent : List ℕ) (s : State) (t : Lexeme) (start : ℕ) → Turning text lent s t e action c start end stack table → 6 < action / modeRoom
+    (text lent : List ℕ) (s : State) (t : Lexeme) (start : ℕ) → Turning text lent s t e action c start end stack table → actNumber turnsTyped < action / modeRoom
     → TurnedIs text lent (stepOn levelLimit s c t) end stack stack after r
 
 -- any symbol

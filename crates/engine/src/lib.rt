@@ -47,19 +47,19 @@ use scanner::Next;
 
 mod actions;
 
-// The numbers of a level in the array: its record's number,
+// Where each number of a level stands in the array: the number of its record,
 const NUMBER: usize = 0;
 // its start,
 const START: usize = 1;
 // its kind,
 const KIND: usize = 2;
-// and the span of its name.
+// the start of its name,
 const NAME_START: usize = 3;
-
+// and the end of its name.
 const NAME_END: usize = 4;
-// How many these are,
+// The numbers of a level.
 const LEVEL_SIZE: usize = 5;
-// and those of all levels.
+// The numbers of all levels.
 const STACK_SIZE: usize = LEVEL_LIMIT * LEVEL_SIZE;
 // The lowest kind of a typed address.
 const FIRST_TYPED: u32 = 5;
