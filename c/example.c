@@ -1,4 +1,5 @@
-/* Prints the records of the address list given as the first argument, and the list written plainly. */
+/* Prints the records of an address list, and the list written plainly.
+ * usage: example [--by-table] [LIST]     --by-table: by the second reader, for a board with a small stack */
 #include <stdio.h>
 #include <string.h>
 
@@ -7,12 +8,16 @@
 static unsigned two(const uint8_t *table, size_t at) { return table[at] * 256u + table[at + 1]; }
 
 int main(int argc, char **argv) {
-    const char *list = argc > 1 ? argv[1] : "Cooks: Childs at WGBH;, \"Al\"";
+    int by_table = argc > 1 && strcmp(argv[1], "--by-table") == 0;
+    const char *list = argc > 1 + by_table ? argv[1 + by_table] : "Cooks: Childs at WGBH;, \"Al\"";
     const uint8_t *body = (const uint8_t *)list;
     size_t length = strlen(list);
     static uint8_t table[12 * 2048], text[65536];
     uint64_t told[3];
-    rfc733_addresses(body, length, 0, length, table, sizeof table, told, 3);
+    if (by_table)
+        rfc733_addresses_by_table(body, length, 0, length, table, sizeof table, told, 3);
+    else
+        rfc733_addresses(body, length, 0, length, table, sizeof table, told, 3);
     if (told[0] != 0) {
         printf("refused %u %u\n", (unsigned)told[0], (unsigned)told[1]);
         return 1;

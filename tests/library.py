@@ -79,10 +79,11 @@ refused("neither is a list", lambda: equal(b"x", b"x"), 9, 1)
 refused("the first is no list", lambda: equal(b"a at b c", b"a@b"), 8, 7)
 refused("the second is no list", lambda: equal(b"a@b", b"<a at b"), 9, 7)
 refused("the first is asked first", lambda: equal(b"(", b"a at b c"), 6, 0)
-example = subprocess.run([root / "target/lib/example", "Al at X"], capture_output=True, text=True)
-same("C example", (example.returncode, example.stdout), (0, "address 1 0 0 0 7 0 2  Al\nplain Al at X\n"))
-example = subprocess.run([root / "target/lib/example", "x"], capture_output=True, text=True)
-same("C example, refused", (example.returncode, example.stdout), (1, "refused 9 1\n"))
+for option in ([], ["--by-table"]):
+    example = subprocess.run([root / "target/lib/example", *option, "Al at X"], capture_output=True, text=True)
+    same(f"C example {option}", (example.returncode, example.stdout), (0, "address 1 0 0 0 7 0 2  Al\nplain Al at X\n"))
+    example = subprocess.run([root / "target/lib/example", *option, "x"], capture_output=True, text=True)
+    same(f"C example {option}, refused", (example.returncode, example.stdout), (1, "refused 9 1\n"))
 
 for fault in faults:
     print(fault)

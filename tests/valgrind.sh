@@ -1,5 +1,6 @@
 #!/usr/bin/env bash
-# The C example under valgrind: no fault of memory on lists that are accepted, refused, empty, deep and long.
+# The C example under valgrind, with either address reader: no fault of memory on lists that are accepted, refused, empty,
+# deep and long.
 set -u
 cd "$(dirname "$0")/.." || exit 2
 if ! command -v valgrind >/dev/null 2>&1; then
@@ -17,10 +18,16 @@ times() {
     for ((i = 0; i < $2; i++)); do printf '%s' "$1"; done
 }
 
-# Runs the example on a list; document 01 says whether it exits with 0, accepted, or 1, refused. A fault of memory is 99.
+# Runs the example with either reader; document 01 says whether it exits with 0, accepted, or 1, refused.
 check() {
-    local name=$1 wanted=$2 list=$3 log status fault=
-    log=$(valgrind --error-exitcode=99 --leak-check=full target/lib/example "$list" 2>&1 >/dev/null)
+    run "$1" "$2" "$3"
+    run "$1, by table" "$2" --by-table "$3"
+}
+
+# Runs the example; a fault of memory is exit 99.
+run() {
+    local name=$1 wanted=$2 log status fault=
+    log=$(valgrind --error-exitcode=99 --leak-check=full target/lib/example "${@:3}" 2>&1 >/dev/null)
     status=$?
     seen=$((seen + 1))
     [ "$status" -eq "$wanted" ] || fault="exit $status, wanted $wanted"
@@ -41,5 +48,5 @@ check "long" 0 "$(times 'Al Neuman at Mad-Host, ' 1424)"
 check "more addresses than the table holds" 1 "$(times 'a@b,' 8192)"
 check "over 32,768 bytes" 1 "$(times ',' 32769)"
 
-echo "lists under valgrind: $seen"
+echo "runs under valgrind: $seen"
 [ "$faults" -eq 0 ]

@@ -9,9 +9,9 @@ use native.Mathlib.Omega.{arith}
 use Rattle.octets.proofs.Tables.{at}
 use Rattle.grammar.specs.Rfc733.{classNumber}
 use Rattle.grammar.proofs.Trees.{Class, Atom, Quoted, At, LessThan, GreaterThan, Comma, Semicolon, Colon, Stray}
-use Rattle.engine.specs.Actions.{Mode, atPlace, atStart, atFirstAtom, wanting, atAtom, atQuoted, atWords, behindAt, atNode, behindAddress, modeNumber, Act, refuses, begins, adds, passes, opens, opensNamed, turnsTyped, endsAtComma, closes, endsAndCloses, finishes, endsAndFinishes, actNumber, no, Action, entry, Row, rowOf, onClass, actionOf, columns, cells, modes, actionTable}
+use Rattle.engine.specs.Actions.{Mode, atPlace, atStart, atFirstAtom, wanting, atAtom, atQuoted, atWords, behindAt, atNode, behindAddress, modeNumber, Act, refuses, begins, adds, passes, opens, opensNamed, turnsTyped, endsAtComma, closes, endsAndCloses, finishes, endsAndFinishes, actNumber, no, Action, entry, Row, rowOf, onClass, actionOf, columns, cells, modeCount, modes, actionTable}
 
-pub mode-small : (m : Mode) → modeNumber m < 10
+pub mode-small : (m : Mode) → modeNumber m < modeCount
 mode-small atPlace = omega arith
 mode-small atStart = omega arith
 mode-small atFirstAtom = omega arith

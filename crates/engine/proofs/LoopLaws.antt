@@ -22,7 +22,7 @@ use Rattle.grammar.proofs.TreeRecords.{tree-records, tree-count}
 use Rattle.addresses.specs.Steps.{symbolsFrom, symbolsAhead, lexemeAt, Faultless}
 use Rattle.addresses.specs.Whole.{Body, IsRefused, WholeIs}
 use Rattle.addresses.proofs.NextLaws.{NextIs}
-use Rattle.engine.specs.Actions.{columns, actionTable}
+use Rattle.engine.specs.Actions.{columns, modeCount, actionTable}
 use Rattle.engine.specs.Stands.{modeOf, stackSize, Stands}
 use Rattle.engine.specs.Turns.{Follows, GoesTo, StopsBy, Turning, Finishing, FinishedIs}
 use Rattle.engine.specs.declared.Engine.{Engine}
@@ -65,7 +65,7 @@ follows {classes} {text} {a = a} {b = b} {c = c} x =
     record { start-is = refl; end-is = refl; from = x .ok .0; starts = x .ok .1 .starts; within = x .ok .1 .within; meaning = meaning-is classes text c a b }
 
 module _ {classes text lent : List ℕ} {from : ℕ} {e : Engine} {stack table : List ℕ} (r : Reading classes text lent from e stack table) where
-  pub reading-mode : e .mode < columns
+  pub reading-mode : e .mode < modeCount
   reading-mode = omega (arith, r .stands .mode-is, mode-small (modeOf (r .state)))
 
   -- ---- a symbol

@@ -180,7 +180,11 @@ abbrev pub cells : Row → List Action
 cells r =
     r .atom ∷ r .quoted ∷ r .at ∷ r .less ∷ r .greater ∷ r .comma ∷ r .semicolon ∷ r .colon ∷ r .stray ∷ r .end ∷ []
 
--- the modes, in order
+-- the rows
+abbrev pub modeCount : ℕ
+modeCount = 10
+
+-- .. in order
 abbrev pub modes : List Mode
 modes = atPlace ∷ atStart ∷ atFirstAtom ∷ wanting ∷ atAtom ∷ atQuoted ∷ atWords ∷ behindAt ∷ atNode ∷ behindAddress ∷ []
 

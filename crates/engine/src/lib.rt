@@ -9,7 +9,7 @@ ghost use Rattle.grammar.specs.Rfc733.{classNumber};
 ghost use Rattle.addresses.specs.Whole.{Body, WholeIs, TwiceIs, TextIs};
 ghost use Rattle.addresses.specs.Outcome.{outcome};
 ghost use Rattle.addresses.specs.Condition3.{Condition3};
-ghost use Rattle.engine.specs.Actions.{actionTable, columns};
+ghost use Rattle.engine.specs.Actions.{actionTable, columns, modeCount};
 ghost use Rattle.engine.specs.Stands.{levelSize, placeOf};
 ghost use Rattle.engine.specs.Turns.{isAngle, kindIf, loneKind, SomeHere, ParentIs, SomeLevel, PutLevelIs, SomeClosing, CloseTypedIs, SomeEnded, CompleteIs, Fits, OpenLevelIs, SomeAtClose, CloseLevelIs, SomeTyped, MakeTypedIs, PassIs, SomeEnding, EndsIs, SomeTurning, TurnIs, SomeFinishing, FinishIs};
 use crate::actions::ACTIONS;
@@ -100,7 +100,7 @@ fn column_of(class: Class) -> usize
 
 // An entry of the table.
 fn action_at(actions: &[u8; TABLE_SIZE], mode: u8, column: usize) -> u8
-    requires { ⌜ (mode < columns) × (column < columns) ⌝ }
+    requires { ⌜ (mode < modeCount) × (column < columns) ⌝ }
     ensures { λ r. ⌜ r ≡ getD (now (actions .entry)) (mode * columns + column) 0 ⌝ }
 {
     actions[mode as usize * COLUMNS + column]
