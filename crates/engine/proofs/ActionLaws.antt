@@ -9,7 +9,7 @@ use native.Mathlib.Omega.{arith}
 use Rattle.octets.proofs.Tables.{at}
 use Rattle.grammar.specs.Rfc733.{classNumber}
 use Rattle.grammar.proofs.Trees.{Class, Atom, Quoted, At, LessThan, GreaterThan, Comma, Semicolon, Colon, Stray}
-use Rattle.engine.specs.Actions.{Mode, atPlace, atStart, atFirstAtom, wanting, atAtom, atQuoted, atWords, behindAt, atNode, behindAddress, modeNumber, Act, refuses, begins, adds, passes, opens, opensNamed, turnsTyped, endsAtComma, closes, endsAndCloses, finishes, endsAndFinishes, actNumber, no, Action, entry, Row, rowOf, onClass, actionOf, columns, cells, modeCount, modes, actionTable}
+use Rattle.engine.specs.Actions.{Mode, atPlace, atStart, atFirstAtom, wanting, atAtom, atQuoted, atWords, behindAt, atNode, behindAddress, modeNumber, Act, refuses, begins, adds, passes, opens, opensNamed, turnsTyped, endsAtComma, closes, endsAndCloses, finishes, endsAndFinishes, actNumber, no, entry, Row, rowOf, onClass, actionOf, columns, cells, modeCount, modes, actionTable}
 
 pub mode-small : (m : Mode) → modeNumber m < modeCount
 mode-small atPlace = omega arith
@@ -109,20 +109,3 @@ act-at endsAndFinishes = refl
 
 pub act-is : (d e : Act) → actNumber d ≡ actNumber e → d ≡ e
 act-is d e p = sym (act-at d) ∙ ap actAt p ∙ act-at e
-
-act-small : (d : Act) → actNumber d < 12
-act-small refuses = omega arith
-act-small begins = omega arith
-act-small adds = omega arith
-act-small passes = omega arith
-act-small opens = omega arith
-act-small opensNamed = omega arith
-act-small turnsTyped = omega arith
-act-small endsAtComma = omega arith
-act-small closes = omega arith
-act-small endsAndCloses = omega arith
-act-small finishes = omega arith
-act-small endsAndFinishes = omega arith
-
-pub entry-small : (a : Action) → entry a < 256
-entry-small a = omega (arith, act-small (a .act), mode-small (a .next))
