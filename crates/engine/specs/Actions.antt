@@ -1,6 +1,6 @@
 -- Document 02, CR 9: the table of states and symbol kinds. A state is called a mode here, for the machine of the grammar's laws
 -- has states of its own; the kind of a symbol is its class. Nothing here needs to be believed: what is promised of the reader
--- not then mention the table.
+-- does not mention the table.
 use Prim.Native.Nat.{ℕ, _+_, _*_}
 use mathlib.Core.List.{List, [], _∷_, _++_}
 use Rattle.scanner.specs.declared.Class.{Class}
@@ -55,6 +55,7 @@ pub record Action : Type 0 where
   pub next : Mode
 
 infixl 20 _then_
+-- .. written so
 abbrev pub _then_ : Act → Mode → Action
 act then next = record { act = act; next = next }
 
