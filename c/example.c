@@ -1,13 +1,48 @@
-/* Prints the records of an address list, and the list written plainly.
- * usage: example [--by-table] [LIST]     --by-table: by the second reader, for a board with a small stack */
+/* Prints the records of an address list, and the list written plainly; or what one of its bytes is.
+ * usage: example [--by-table] [LIST]     --by-table: by the second reader, for a board with a small stack
+ *        example --touch PLACE LIST      what the byte at PLACE is and the records around it, from the last one to the
+ *                                        outermost; for a refused list what could have stood at the refused place */
 #include <stdio.h>
+#include <stdlib.h>
 #include <string.h>
 
 #include "rfc733.h"
 
 static unsigned two(const uint8_t *table, size_t at) { return table[at] * 256u + table[at + 1]; }
 
+static int refused(const uint64_t *told) {
+    printf("refused %u %u\n", (unsigned)told[0], (unsigned)told[1]);
+    return 1;
+}
+
+static int touch(const char *list, size_t place) {
+    static const char *const bytes[] = {"nothing", "white space", "comment", "word", "at", "mark"};
+    static const char *const things[] = {"word", "at", "<", ">", "@", ",", ";", ":", "end"};
+    uint64_t path[65], told[5];
+    rfc733_touch((const uint8_t *)list, strlen(list), 0, strlen(list), place, path, 65, told, 5);
+    if (told[0] != 0) {
+        refused(told);
+        if (told[4] == 0) return 1;
+        printf("could have stood there:");
+        for (size_t i = 0; i < 9; i++)
+            if (told[4] >> i & 1) printf(" %s", things[i]);
+        puts("");
+        return 1;
+    }
+    printf("%s\nrecords around it:", bytes[told[3]]);
+    for (size_t i = 0; i < told[2]; i++) printf(" %u", (unsigned)path[i]);
+    puts(told[2] == 0 ? " none" : "");
+    return 0;
+}
+
 int main(int argc, char **argv) {
+    if (argc > 1 && strcmp(argv[1], "--touch") == 0) {
+        if (argc != 4 || argv[2][0] == 0 || argv[2][strspn(argv[2], "0123456789")] != 0) {
+            fprintf(stderr, "usage: example --touch PLACE LIST\n");
+            return 2;
+        }
+        return touch(argv[3], strtoull(argv[2], NULL, 10));
+    }
     int by_table = argc > 1 && strcmp(argv[1], "--by-table") == 0;
     const char *list = argc > 1 + by_table ? argv[1 + by_table] : "Cooks: Childs at WGBH;, \"Al\"";
     const uint8_t *body = (const uint8_t *)list;
@@ -18,10 +53,7 @@ int main(int argc, char **argv) {
         rfc733_addresses_by_table(body, length, 0, length, table, sizeof table, told, 3);
     else
         rfc733_addresses(body, length, 0, length, table, sizeof table, told, 3);
-    if (told[0] != 0) {
-        printf("refused %u %u\n", (unsigned)told[0], (unsigned)told[1]);
-        return 1;
-    }
+    if (told[0] != 0) return refused(told);
     for (size_t i = 0; i < told[2]; i++) {
         const uint8_t *record = table + 12 * i;
         printf("address %u %u %u %u %u %u %u  %.*s\n", record[0], record[1], two(record, 2), two(record, 4),

@@ -1,13 +1,14 @@
 /* Reading mail headers in the form of RFC 733.
  *
  * Memory is lent as a pointer and a length; nothing is kept. A pointer may not be null, not even with the length 0.
- * The lent parts of one call may not overlap. `told` is an array of three: the answer's number, position and count;
- * of a shorter one the front is filled. A refusal changes no byte of a table or text.
+ * The lent parts of one call may not overlap. `told` is an array of three: the answer's number, position and count, and
+ * where said more numbers behind them; of a shorter one the front is filled. A refusal changes no byte of a table, text
+ * or path.
  *
  * Numbers: 0 accepted; 1 message over 32,768 bytes; 2 fault in a field name; 3 byte above 127; 4 header ends without CRLF;
  * 5 quoted-string not closed; 6 comment not closed; 7 stray control byte; 8 no list goes on with this symbol;
  * 9 body ends too soon; 10 level 65 opened; 11 too little room, the count says what is needed; 12 date of wrong form;
- * 13 positions out of order; 14 date of right form, impossible.
+ * 13 positions out of order, or a touched place outside the body; 14 date of right form, impossible.
  */
 #ifndef RFC733_H
 #define RFC733_H
@@ -42,6 +43,17 @@ void rfc733_addresses(const uint8_t *message, size_t message_length, size_t star
  * and table it gives the number, position, count and table bytes of rfc733_addresses, which is proved. */
 void rfc733_addresses_by_table(const uint8_t *message, size_t message_length, size_t start, size_t end,
                                uint8_t *table, size_t table_length, uint64_t *told, size_t told_length);
+
+/* What the byte at a place of the address list from start up to end is, and the records around it. Told, five numbers:
+ * number, position, count; what the byte is: 1 white space, 2 comment, 3 part of a word, 4 "at", 5 a bracket or mark, 0
+ * with a refusal; and with 8, 9 or 10, wherever the body is touched, what could have stood at the refused place, a sum:
+ * 1 word, 2 "at", 4 "<", 8 ">", 16 "@", 32 ",", 64 ";", 128 ":", 256 the end. A thing is in it exactly if some list of
+ * at most 64 levels goes on with it there, or, for the end, if what stands before is such a list; which is proved.
+ * The path: numbers, from 0, of the records of rfc733_addresses that cover the byte, from the last of them to the
+ * outermost; the count tells how many, at most 65, and of a shorter path the front is filled. More than 2,048 records
+ * are 11, after that a place outside the body is 13. */
+void rfc733_touch(const uint8_t *message, size_t message_length, size_t start, size_t end, size_t place,
+                  uint64_t *path, size_t path_length, uint64_t *told, size_t told_length);
 
 /* The date in the body of a message from start up to end: seconds from 1 January 1900, 00:00 GMT; 0 with a refusal. */
 void rfc733_date(const uint8_t *message, size_t message_length, size_t start, size_t end,

@@ -8,17 +8,21 @@ from collections import namedtuple
 
 Field = namedtuple("Field", "name_start name_end body_start body_end")
 Address = namedtuple("Address", "kind depth parent start end name_start name_end")
+Touched = namedtuple("Touched", "what path")
 
 _PATH = pathlib.Path(__file__).resolve().parent.parent / "target/lib/librfc733.so"
 _library = None
 
 
 class Refused(ValueError):
-    """A refusal: `number` and `place` are those of the table of answer numbers in the README."""
+    """A refusal: `number` and `place` are those of the table of answer numbers in the README.
 
-    def __init__(self, number, place):
-        super().__init__(f"refused {number} at {place}")
-        self.number, self.place = number, place
+    `expected`: what could have stood at the place, if `touch` was asked and the number is 8, 9 or 10; else empty.
+    """
+
+    def __init__(self, number, place, expected=()):
+        super().__init__(f"refused {number} at {place}" + (f", expected {' '.join(expected)}" if expected else ""))
+        self.number, self.place, self.expected = number, place, expected
 
 
 def _load():
@@ -103,6 +107,34 @@ def same_addresses(body, other):
         same_addresses(b"a@b", b"A@b")  # False
     """
     return plain(body) == plain(other)
+
+
+_BYTES = (None, "white space", "comment", "word", "at", "mark")
+_THINGS = ("word", "at", "<", ">", "@", ",", ";", ":", "end")
+_LONGEST_PATH = 65  # 64 levels, and an address within the last
+
+
+def touch(body, place):
+    """What the byte at a place of an address list is, and the addresses around it. Raises `Refused`.
+
+    what: "white space", "comment", "word", "at" or "mark"; a fold in a quoted-string or comment belongs to it, "@" is a
+    mark.
+    path: places in `addresses(body)`, from 0, of the addresses that cover the byte, from the innermost to the outermost.
+
+        touch(b"g: <a@b>;", 5)  # Touched(what='mark', path=[2, 1, 0])
+
+    For a list refused by 8, 9 or 10, wherever it is touched, `expected` of the `Refused` has each thing with which some
+    list goes on at the refused place: "word", "at", a mark, or "end" where what stands before it is a list by itself. A
+    list of more than 2,048 addresses is refused by 11, a place outside of an accepted one by 13.
+    """
+    told = (ctypes.c_uint64 * 5)()
+    path = (ctypes.c_uint64 * _LONGEST_PATH)()
+    inside = 0 <= place < len(body)
+    places = [ctypes.c_size_t(p) for p in (0, len(body), place if inside else len(body))]
+    _load().rfc733_touch(*_lent(body), *places, path, ctypes.c_size_t(_LONGEST_PATH), told, ctypes.c_size_t(5))
+    if told[0] != 0:
+        raise Refused(told[0], told[1], tuple(thing for i, thing in enumerate(_THINGS) if told[4] >> i & 1))
+    return Touched(_BYTES[told[3]], path[: told[2]])
 
 
 def date(body):

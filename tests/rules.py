@@ -2,7 +2,8 @@
 """Both address readers of the library against document 01's address rules, set down here as rules and tried one by one:
 every sequence of up to five symbols that no rule refuses before its last, and longer ones at random. A sequence is
 refused at its first symbol with which no list goes on, or is no list at its end, or has exactly one derivation; the
-records are that derivation's.
+records are that derivation's. For a refused one, touching it names each symbol with which some list goes on there, and
+the end where a list ends there (not asked of whole sequences of the greatest length, to save time).
 usage: tests/rules.py [SYMBOLS [WALKS [SEED]]]"""
 import functools
 import pathlib
@@ -31,6 +32,7 @@ RULES = {
 }
 NAMELESS = RULES["group"][0]
 KINDS = {"mailbox": 1, "angle": 2, "group": 3, "quoted": 4, "typed": 7}
+NAMES = {"atom": ["word"], "quoted": ["word"], "at": ["at", "@"]}
 
 
 class Reading:
@@ -101,7 +103,7 @@ def records(tree, places, depth=0, parent=0, found=None):
     return found
 
 
-seen, faults = {0: 0, 8: 0, 9: 0}, []
+seen, named, faults = {0: 0, 8: 0, 9: 0}, 0, []
 
 
 def answer(read, text):
@@ -121,33 +123,57 @@ def compare(symbols, wanted):
             faults.append(f"{text!r}: {read.__name__} gives {got}, the rules {wanted}")
 
 
-def whole(symbols, reading):
+def following(symbols, reading):
+    """The symbols with which some list goes on behind a sequence, and "end" if it is one itself."""
+    follow = {symbol for symbol in TEXTS if Reading(symbols + (symbol,)).goes_on("list", 0)}
+    return follow | {"end"} if reading.lists() else follow
+
+
+def compare_names(symbols, follow):
+    """What is named for a refused sequence, against what follows the part of it before the refused place."""
+    global named
+    named += 1
+    text, _ = spans(symbols)
+    wanted = {name for symbol in follow for name in NAMES.get(symbol, [symbol])}
+    try:
+        got = rfc733.touch(text, 0)
+    except rfc733.Refused as fault:
+        got = set(fault.expected)
+    if got != wanted:
+        faults.append(f"{text!r}: touch names {got}, the rules {wanted}")
+
+
+def whole(symbols, reading, follow=None):
     """A sequence that a list starts with: it is one, or ends too soon."""
     text, places = spans(symbols)
     lists = reading.lists()
     if len(lists) > 1:
         faults.append(f"{text!r}: {len(lists)} derivations")
     compare(symbols, records(lists[0], places) if lists else (9, len(text)))
+    if not lists and follow is not None:
+        compare_names(symbols, follow)
 
 
-def refused(symbols, tail):
+def refused(symbols, tail, follow):
     """A sequence whose last symbol no list goes on with, whatever follows."""
     place = spans(symbols)[1][-1][0]
-    compare(symbols, (8, place))
-    compare(symbols + tail, (8, place))
+    for longer in (symbols, symbols + tail):
+        compare(longer, (8, place))
+        compare_names(longer, follow)
 
 
 def every(symbols, most, rng):
     reading = Reading(symbols)
-    whole(symbols, reading)
     if len(symbols) == most:
-        return
+        return whole(symbols, reading)
+    follow = following(symbols, reading)
+    whole(symbols, reading, follow)
     for symbol in TEXTS:
         longer = symbols + (symbol,)
-        if Reading(longer).goes_on("list", 0):
+        if symbol in follow:
             every(longer, most, rng)
         else:
-            refused(longer, tuple(rng.choices(list(TEXTS), k=3)))
+            refused(longer, tuple(rng.choices(list(TEXTS), k=3)), follow)
 
 
 def walk(most, rng):
@@ -157,8 +183,9 @@ def walk(most, rng):
         if Reading(longer).goes_on("list", 0):
             symbols = longer
         elif rng.random() < 0.1:
-            return refused(longer, tuple(rng.choices(list(TEXTS), k=3)))
-    whole(symbols, Reading(symbols))
+            return refused(longer, tuple(rng.choices(list(TEXTS), k=3)), following(symbols, Reading(symbols)))
+    reading = Reading(symbols)
+    whole(symbols, reading, following(symbols, reading))
 
 
 most, walks, seed = (int(word) for word in (sys.argv[1:] + ["5", "1500", "733"][len(sys.argv) - 1 :]))
@@ -168,5 +195,5 @@ for _ in range(walks):
     walk(rng.randrange(6, 15), rng)
 for fault in faults[:20]:
     print(fault)
-print(f"seed {seed}; read by both: lists {seen[0]}, refused by 8 {seen[8]}, by 9 {seen[9]}")
-sys.exit(1 if faults or not all(seen.values()) else 0)
+print(f"seed {seed}; read by both: lists {seen[0]}, refused by 8 {seen[8]}, by 9 {seen[9]}; names compared: {named}")
+sys.exit(1 if faults or not named or not all(seen.values()) else 0)

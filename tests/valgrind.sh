@@ -1,6 +1,6 @@
 #!/usr/bin/env bash
-# The C example under valgrind, with either address reader: no fault of memory on lists that are accepted, refused, empty,
-# deep and long.
+# The C example under valgrind, with either address reader and touching a byte: no fault of memory on lists that are
+# accepted, refused, empty, deep and long.
 set -u
 cd "$(dirname "$0")/.." || exit 2
 if ! command -v valgrind >/dev/null 2>&1; then
@@ -47,6 +47,16 @@ check "65 levels" 1 "$(times '<' 65)$(times '>' 65)"
 check "long" 0 "$(times 'Al Neuman at Mad-Host, ' 1424)"
 check "more addresses than the table holds" 1 "$(times 'a@b,' 8192)"
 check "over 32,768 bytes" 1 "$(times ',' 32769)"
+run "touched" 0 --touch 4 'g:<a@b>,;'
+run "touched, no record" 0 --touch 0 '(x) "q"'
+run "touched at 64 levels" 0 --touch 65 "$(times '<' 64)\"q\"$(times '>' 64)"
+run "touched, refused" 1 --touch 0 'a at b c'
+run "touched, 65 levels" 1 --touch 0 "$(times '<' 65)"
+run "touched, open quote" 1 --touch 0 '"ab'
+run "touched, empty" 1 --touch 0 ''
+run "touched, far outside" 1 --touch 18446744073709551615 'a@b'
+run "touched, last of 2,048" 0 --touch 6142 "$(times '"",' 2048)"
+run "touched, more addresses than the table holds" 1 --touch 0 "$(times '"",' 2049)"
 
 echo "runs under valgrind: $seen"
 [ "$faults" -eq 0 ]

@@ -325,6 +325,131 @@ fn lone_comments(tally: &mut Tally) {
     }
 }
 
+/// Touches a body that is a whole message: what is told, and the path.
+fn touch(body: &[u8], place: usize) -> ([u64; 5], Vec<u64>) {
+    let mut path = vec![777; 70];
+    let told = reader::touch(body, 0, body.len(), place, &mut path);
+    let filled = path.iter().take_while(|number| **number != 777).count();
+    path.truncate(filled);
+    (told, path)
+}
+
+/// What could have stood where a body is refused.
+fn names_where_refused(tally: &mut Tally) {
+    let angles = |n: usize, rest: &str| ["<".repeat(n), rest.to_string()].concat();
+    let (word, at, less, more) = (1, 2, 4, 8);
+    let (sign, comma, semicolon, colon, end) = (16, 32, 64, 128, 256);
+    let cases: [(&str, u64, u64, u64); 18] = [
+        ("a at b c", 8, 7, comma + sign + at + end),
+        (":A:;;", 8, 3, word + less + colon),
+        (":A", 9, 2, word + at + sign + less + colon),
+        (&angles(63, ":A;"), 8, 65, word + at + sign + colon),
+        (&angles(63, ":\"A\":"), 10, 67, comma + semicolon + sign + at + word),
+        (&angles(65, ""), 10, 64, comma + more + word),
+        ("a at at", 8, 5, word),
+        (")", 8, 0, comma + colon + less + end + word),
+        ("x", 9, 1, word + at + sign + less + colon),
+        ("(c)\r\n ,(d) )", 8, 11, comma + colon + less + end + word),
+        ("\"q\" ;", 8, 4, word + at + sign + less + colon + comma + end),
+        ("<a@b", 9, 4, at + sign + comma + more),
+        ("<>x", 8, 2, comma + end),
+        (":<>>", 8, 3, comma + semicolon),
+        (":", 9, 1, word + less + colon + comma + semicolon),
+        (&angles(63, ":A:<"), 10, 66, word),
+        (&angles(64, "x<"), 10, 65, word + at + sign),
+        (&angles(64, "x@y<"), 8, 67, at + sign + comma + more),
+    ];
+    for (body, number, position, names) in cases {
+        for place in [0, 1, 99, usize::MAX] {
+            let wanted = ([number, position, 0, 0, names], vec![]);
+            tally.same(body, touch(body.as_bytes(), place), wanted);
+        }
+    }
+}
+
+/// What a byte is, and the records around it.
+fn touched_bytes(tally: &mut Tally) {
+    let (white, comment, word, at, mark) = (1, 2, 3, 4, 5);
+    let cases: [(&str, usize, u64, &[u64]); 33] = [
+        ("g:<a@b>,;", 4, mark, &[2, 1, 0]),
+        ("g:<a@b>,;", 7, mark, &[0]),
+        ("g:<a@b>,;", 0, word, &[0]),
+        ("g:<a@b>,;", 1, mark, &[0]),
+        ("g:<a@b>,;", 2, mark, &[1, 0]),
+        ("g:<a@b>,;", 5, word, &[2, 1, 0]),
+        ("g:<a@b>,;", 6, mark, &[1, 0]),
+        ("g:<a@b>,;", 8, mark, &[0]),
+        ("(x) \"q\"", 0, comment, &[]),
+        ("(x) \"q\"", 2, comment, &[]),
+        ("(x) \"q\"", 3, white, &[]),
+        ("(x) \"q\"", 4, word, &[0]),
+        ("(x) \"q\"", 6, word, &[0]),
+        ("x AT\r\n y", 1, white, &[0]),
+        ("x AT\r\n y", 2, at, &[0]),
+        ("x AT\r\n y", 3, at, &[0]),
+        ("x AT\r\n y", 4, white, &[0]),
+        ("x AT\r\n y", 5, white, &[0]),
+        ("x AT\r\n y", 6, white, &[0]),
+        ("\"at\"@b", 1, word, &[0]),
+        ("\"at\"@b", 4, mark, &[0]),
+        ("\"a\r\n b\"", 2, word, &[0]),
+        ("\"a\r\n b\"", 3, word, &[0]),
+        ("<(a\r\n b(\\)))>", 3, comment, &[0]),
+        ("<(a\r\n b(\\)))>", 9, comment, &[0]),
+        ("<(a\r\n b(\\)))>", 11, comment, &[0]),
+        ("<(a\r\n b(\\)))>", 12, mark, &[0]),
+        (":Include:\"(\\\"\"", 0, mark, &[0]),
+        (":Include:\"(\\\"\"", 3, word, &[0]),
+        (":Include:\"(\\\"\"", 8, mark, &[0]),
+        (":Include:\"(\\\"\"", 10, word, &[1, 0]),
+        (":Include:\"(\\\"\"", 12, word, &[1, 0]),
+        (",a@b", 0, mark, &[]),
+    ];
+    for (body, place, what, path) in cases {
+        let wanted = ([0, 0, path.len() as u64, what, 0], path.to_vec());
+        tally.same(&format!("{body} at {place}"), touch(body.as_bytes(), place), wanted);
+    }
+}
+
+/// Who answers first, and bodies in which nothing is touched.
+fn touched_in_vain(tally: &mut Tally) {
+    let many = |n: usize, place| touch("\"\",".repeat(n).as_bytes(), place);
+    let nothing = |told| (told, vec![]);
+    tally.same("own table", many(2_049, 1_000_000), nothing([11, 0, 2_049, 0, 0]));
+    tally.same("own table full", many(2_048, 6_142), ([0, 0, 1, 3, 0], vec![2_047]));
+    tally.same("own table full", many(2_048, 6_144), nothing([13, 0, 0, 0, 0]));
+    tally.same("at the end", touch(b"a@b", 3), nothing([13, 0, 0, 0, 0]));
+    tally.same("empty", touch(b"", 0), nothing([13, 0, 0, 0, 0]));
+    tally.same("open quote", touch(b"a b \"", 0), nothing([5, 4, 0, 0, 0]));
+    tally.same("open comment", touch(b") (", 0), nothing([6, 2, 0, 0, 0]));
+    tally.same("stray control byte", touch(b")\n", 0), nothing([7, 1, 0, 0, 0]));
+    tally.same("above 127", touch(b"a \x80", 0), nothing([3, 2, 0, 0, 0]));
+    tally.same("too long", touch(&[b' '; 32_769], 0), nothing([1, 32_768, 0, 0, 0]));
+}
+
+/// A body within a message, and paths of every length.
+fn touched_paths(tally: &mut Tally) {
+    let within = |start, end, place, length| {
+        let mut path = vec![777; length];
+        (reader::touch(b"<<\"q\">>", start, end, place, &mut path), path)
+    };
+    let word = |count| [0, 0, count, 3, 0];
+    tally.same("path exact", within(0, 7, 3, 3), (word(3), vec![2, 1, 0]));
+    tally.same("path shorter", within(0, 7, 3, 2), (word(3), vec![2, 1]));
+    tally.same("path of none", within(0, 7, 3, 0), (word(3), vec![]));
+    tally.same("path longer", within(0, 7, 3, 5), (word(3), vec![2, 1, 0, 777, 777]));
+    tally.same("part of a message", within(1, 6, 3, 3), (word(2), vec![1, 0, 777]));
+    tally.same("before the start", within(1, 6, 0, 1), ([13, 0, 0, 0, 0], vec![777]));
+    tally.same("at the end", within(1, 6, 6, 1), ([13, 0, 0, 0, 0], vec![777]));
+    let open_quoted = [9, 5, 0, 0, 1 + 2 + 4 + 8 + 16 + 32 + 128];
+    tally.same("refused part", within(1, 5, 3, 1), (open_quoted, vec![777]));
+    tally.same("out of order", within(2, 1, 1, 1), ([13, 0, 0, 0, 0], vec![777]));
+    tally.same("behind the message", within(0, 8, 1, 1), ([13, 0, 0, 0, 0], vec![777]));
+    let deep = ["<".repeat(64), "\"q\"".to_string(), ">".repeat(64)].concat();
+    let climb: Vec<u64> = (0..65).rev().collect();
+    tally.same("64 levels", touch(deep.as_bytes(), 65), (word(65), climb));
+}
+
 fn splitting(tally: &mut Tally) {
     let cases: [(&[u8], Told); 13] = [
         (b"", told(0, 0, 0)),
@@ -388,6 +513,10 @@ fn main() {
     other_addresses(&mut tally);
     comment_places(&mut tally);
     lone_comments(&mut tally);
+    names_where_refused(&mut tally);
+    touched_bytes(&mut tally);
+    touched_in_vain(&mut tally);
+    touched_paths(&mut tally);
     splitting(&mut tally);
     dates(&mut tally);
     println!("{} checks, {} failed", tally.run, tally.failed);

@@ -326,9 +326,10 @@ fn deep(rng: &mut Rng) -> Vec<u8> {
         add_opener(rng, &mut out, &mut closers, opener);
         opened += if opener == b":,A:" { 2 } else { 1 };
     }
-    let deepest: [&[u8]; 17] = [
+    let deepest: [&[u8]; 21] = [
         b"", b"x at y", b"\"q\"", b"x at y :", b"x :", b"x <", b"<>", b":;", b":A:\"q\"", b":A",
-        b"x:;", b"\"q\" <", b"\"q\" :", b"x", b",:A:<>", b"<<>>", b"x at y <",
+        b"x:;", b"\"q\" <", b"\"q\" :", b"x", b",:A:<>", b"<<>>", b"x at y <", b":A;", b":A <",
+        b":\"A\":", b":A:)",
     ];
     add(&mut out, rng.pick(&deepest));
     closers.reverse();
@@ -480,8 +481,21 @@ fn waves(rng: &mut Rng) -> Vec<u8> {
     if rng.once_in(8) { mutate(rng, whole) } else { whole }
 }
 
-/// Bodies up to and just past the longest message.
+/// Lists of about 2,048 addresses.
+fn many(rng: &mut Rng) -> Vec<u8> {
+    let units: [&[u8]; 5] = [b"\"\",", b"a@b,", b"<>,", b"x:;,", b" (c)\"\\\"\"\r\n ,"];
+    let mut out = rng.pick(&units).repeat(2_046 + rng.below(5));
+    if rng.once_in(3) {
+        out = [b"x:", &out[..], b";"].concat();
+    }
+    if rng.once_in(4) { mutate(rng, out) } else { out }
+}
+
+/// Bodies up to and just past the longest message, or of many addresses.
 fn long(rng: &mut Rng) -> Vec<u8> {
+    if rng.once_in(3) {
+        return many(rng);
+    }
     let units: [&[u8]; 20] = [
         b"\"\",", b"a@b,", b"<>,", b"x ", b"(", b",", b" ", b"\r\n ", b":A:", b"@b", b"a:;,", b"\\",
         b"(a)", b"\"\n\"", b":A:<>,", b"x y<a@b>,", b":,A:;;,", b"<a at b,\"q\">, ", b"1", b"((",
@@ -1076,4 +1090,33 @@ pub fn place(rng: &mut Rng, body: Vec<u8>) -> (Vec<u8>, usize, usize) {
             (message, one, two)
         }
     }
+}
+
+/// A place to touch: in the body, often at a byte that starts or ends
+/// something, right outside of it, or anywhere.
+pub fn touched(rng: &mut Rng, message: &[u8], start: usize, end: usize) -> usize {
+    let body = message.get(start..end).unwrap_or_default();
+    let telling = b"\r\n ()\"\\@<>,;:tT";
+    let byte = telling[rng.below(telling.len())];
+    let found = find(rng, body.len(), &|i| body[i] == byte);
+    match (rng.below(16), found) {
+        (0, _) => start.wrapping_sub(1),
+        (1, _) => end,
+        (2, _) => start,
+        (3, _) => end.wrapping_sub(1),
+        (4, _) => rng.next() as usize,
+        (5, _) => rng.below(message.len() + 3),
+        (6..=11, Some(i)) => start + i,
+        _ => start.wrapping_add(rng.below(body.len())),
+    }
+}
+
+/// The length of an array lent for a path; most paths are short.
+pub fn path_length(rng: &mut Rng) -> usize {
+    if rng.once_in(3) { rng.below(70) } else { rng.below(6) }
+}
+
+/// So many numbers of all sizes.
+pub fn numbers(rng: &mut Rng, length: usize) -> Vec<u64> {
+    (0..length).map(|_| rng.next() >> rng.below(64)).collect()
 }

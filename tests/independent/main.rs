@@ -39,6 +39,11 @@ extern "C" {
         text: *mut u8, text_len: usize,
         told: *mut u64, told_len: usize,
     );
+    fn rfc733_touch(
+        message: *const u8, message_len: usize, start: usize, end: usize, place: usize,
+        path: *mut u64, path_len: usize,
+        told: *mut u64, told_len: usize,
+    );
     fn rfc733_reply(
         reply: *const u8, reply_len: usize, from: *const u8, from_len: usize,
     ) -> u32;
@@ -104,6 +109,14 @@ mod proved {
         let (m, out) = (message.as_ptr(), told.as_mut_ptr());
         unsafe { rfc733_date(m, message.len(), start, end, out, 3, &mut value) };
         (answer(told), value)
+    }
+
+    /// Fills the lent path and the lent array of numbers told.
+    pub fn touch(
+        message: &[u8], start: usize, end: usize, place: usize, path: &mut [u64], told: &mut [u64],
+    ) {
+        let (m, p, t) = (message.as_ptr(), path.as_mut_ptr(), told.as_mut_ptr());
+        unsafe { rfc733_touch(m, message.len(), start, end, place, p, path.len(), t, told.len()) }
     }
 
     pub fn reply(reply: &[u8], from: &[u8]) -> u32 {
@@ -244,8 +257,27 @@ fn proved_plain(message: &[u8], start: usize, end: usize) -> Vec<u8> {
     text
 }
 
+/// Touches a few places and compares all that is told and both lent arrays,
+/// whole. `listed` is the list reader's number for the body.
+fn compare_touch(rng: &mut Rng, case: &Case, listed: u64, seen: &mut Touches) {
+    let (message, start, end) = (case.message, case.start, case.end);
+    for told_length in [5, rng.below(7)] {
+        let place = inputs::touched(rng, message, start, end);
+        let path_length = inputs::path_length(rng);
+        let lent = (inputs::numbers(rng, told_length), inputs::numbers(rng, path_length));
+        let (mut proved, mut wanted) = (lent.clone(), lent);
+        proved::touch(message, start, end, place, &mut proved.1, &mut proved.0);
+        let told = reader::touch(message, start, end, place, &mut wanted.1);
+        wanted.0.iter_mut().zip(told).for_each(|(slot, number)| *slot = number);
+        if proved != wanted {
+            differ(case, &format!("touch at {place}"), path_length, &proved, &wanted);
+        }
+        seen.count(told, listed, path_length);
+    }
+}
+
 /// Compares everything that reads a body; gives the list reader's number.
-fn compare_body(rng: &mut Rng, case: &Case) -> u64 {
+fn compare_body(rng: &mut Rng, case: &Case, seen: &mut Seen) -> u64 {
     let (message, start, end) = (case.message, case.start, case.end);
     agree(case, "scan", 0, proved::scan(message, start, end), reader::scan(message, start, end));
     agree(case, "date", 0, proved::date(message, start, end), reader::date(message, start, end));
@@ -265,11 +297,12 @@ fn compare_body(rng: &mut Rng, case: &Case) -> u64 {
     if told.number == 0 {
         round_trip(case);
     }
+    compare_touch(rng, case, told.number, &mut seen.touches);
     told.number
 }
 
 /// Compares the splitting of a header and each field it has.
-fn compare_header(rng: &mut Rng, case: &Case) -> u64 {
+fn compare_header(rng: &mut Rng, case: &Case, seen: &mut Seen) -> u64 {
     let message = case.message;
     let told = compare_filling(
         rng, case, 8,
@@ -285,7 +318,7 @@ fn compare_header(rng: &mut Rng, case: &Case) -> u64 {
         let at = |i: usize| usize::from(record[i]) * 256 + usize::from(record[i + 1]);
         compare_name(case, &message[at(0)..at(2)]);
         let field = Case { start: at(4), end: at(6), ..*case };
-        compare_body(rng, &field);
+        compare_body(rng, &field, seen);
     }
     0
 }
@@ -329,10 +362,68 @@ fn proved_kept(case: &Case) -> Kept {
     }
 }
 
+/// How often bytes were touched, by what was told.
+#[derive(Default)]
+struct Touches {
+    /// By what the byte is.
+    bytes: [u64; 6],
+    /// Refused with names, by the answer number.
+    refused: [u64; 15],
+    /// By what was named.
+    things: [u64; 9],
+    /// ":" named without "<", as at the 64th level it makes typed.
+    typing: u64,
+    /// Refused by 11 of the tool's own table; by 13 of the place.
+    many: u64,
+    outside: u64,
+    /// Paths of more than three records; paths longer than the array lent.
+    deep: u64,
+    cut: u64,
+}
+
+impl Touches {
+    fn count(&mut self, told: [u64; 5], listed: u64, path_length: usize) {
+        let [number, _, count, byte, names] = told;
+        let accepted = number == 0;
+        self.bytes[byte as usize] += 1;
+        self.refused[number as usize] += u64::from(names > 0);
+        for (i, times) in self.things.iter_mut().enumerate() {
+            *times += names >> i & 1;
+        }
+        self.typing += u64::from(names & (4 + 128) == 128);
+        self.many += u64::from(number == 11);
+        self.outside += u64::from(number == 13 && listed == 0);
+        self.deep += u64::from(accepted && count > 3);
+        self.cut += u64::from(accepted && count > path_length as u64);
+    }
+
+    /// Each tally with its name.
+    fn tallies(&self) -> Vec<(String, u64)> {
+        let mut all = vec![
+            ("touched, over 2,048 records".to_string(), self.many),
+            ("touched, place outside".to_string(), self.outside),
+            ("touched, path of over 3".to_string(), self.deep),
+            ("touched, path cut short".to_string(), self.cut),
+            ("named, \":\" without \"<\"".to_string(), self.typing),
+        ];
+        for (byte, times) in reader::BYTES.iter().zip(self.bytes).skip(1) {
+            all.push((format!("touched, {byte}"), times));
+        }
+        for number in [8, 9, 10] {
+            all.push((format!("named, refused {number}"), self.refused[number]));
+        }
+        for (thing, times) in reader::THINGS.iter().zip(self.things) {
+            all.push((format!("named, {thing}"), times));
+        }
+        all
+    }
+}
+
 /// How often the laws of equal addresses and the limit of levels were tried,
 /// and on what.
 #[derive(Default)]
 struct Seen {
+    touches: Touches,
     /// Exchanges of comments by the answer number of the body.
     exchanged: [u64; 15],
     /// Exchanges of a comment that lies in another.
@@ -374,6 +465,7 @@ impl Seen {
         for ((end, _), times) in reader::ENDS.iter().zip(self.ended) {
             all.push((format!("typed ones ended together, by {end}"), times));
         }
+        all.extend(self.touches.tallies());
         all
     }
 
@@ -408,7 +500,7 @@ fn check_comment(case: &Case, comment: &[u8]) {
 /// Exchanges a comment of the body, if it has one, and compares both
 /// messages by themselves and with each other.
 fn compare_exchange(rng: &mut Rng, case: &Case, seen: &mut Seen) -> u64 {
-    let number = compare_body(rng, case);
+    let number = compare_body(rng, case, seen);
     let spans = reader::comments(case.message, case.start, case.end);
     if spans.is_empty() {
         return number;
@@ -425,7 +517,7 @@ fn compare_exchange(rng: &mut Rng, case: &Case, seen: &mut Seen) -> u64 {
     let message = [&case.message[..from], &comment[..], &case.message[behind..]].concat();
     let end = case.end - (behind - from) + comment.len();
     let other = Case { message: &message, end, ..*case };
-    compare_body(rng, &other);
+    compare_body(rng, &other, seen);
     let (before, after) = (proved_kept(case), proved_kept(&other));
     if before != after {
         break_law(case, &other, "exchange of a comment, after and before", &after, &before);
@@ -444,7 +536,7 @@ fn compare_pair(rng: &mut Rng, seed: u64, seen: &mut Seen) -> u64 {
     let kind = Kind::Pair;
     let left = Case { seed, kind, message: &one.0, start: one.1, end: one.2 };
     let right = Case { seed, kind, message: &other.0, start: other.1, end: other.2 };
-    let numbers = (compare_body(rng, &left), compare_body(rng, &right));
+    let numbers = (compare_body(rng, &left, seen), compare_body(rng, &right, seen));
     let (first, last) = (proved_kept(&left), proved_kept(&right));
     let accepted = first.number == 0 && last.number == 0;
     let proved = accepted.then_some(first.text == last.text);
@@ -474,7 +566,7 @@ fn one_input(rng: &mut Rng, seed: u64, kind: Kind, seen: &mut Seen) -> u64 {
     let body = inputs::body(rng, kind);
     let whole = Case { seed, kind, message: &body, start: 0, end: body.len() };
     match kind {
-        Kind::Header => compare_header(rng, &whole),
+        Kind::Header => compare_header(rng, &whole, seen),
         Kind::Name => compare_name(&whole, &body),
         Kind::Reply => {
             let from = inputs::body(rng, Kind::Tokens);
@@ -487,7 +579,7 @@ fn one_input(rng: &mut Rng, seed: u64, kind: Kind, seen: &mut Seen) -> u64 {
             if kind == Kind::Exchange {
                 return compare_exchange(rng, &case, seen);
             }
-            let list = compare_body(rng, &case);
+            let list = compare_body(rng, &case, seen);
             if kind == Kind::Deep || kind == Kind::Waves {
                 seen.count_levels(&case, list);
             }

@@ -504,6 +504,11 @@ impl<'a> Machine<'a> {
         true
     }
 
+    /// Whether all symbols together are a list.
+    fn is_list(&mut self) -> bool {
+        self.settle(self.symbols.len()) && self.open.is_empty()
+    }
+
     fn take_comma(&mut self, i: usize) -> Result<(), u64> {
         if !self.settle(i) {
             return Err(8);
@@ -534,13 +539,19 @@ struct Reading {
     roots: Vec<usize>,
 }
 
-fn read(message: &[u8], start: usize, end: usize) -> Result<Reading, Fault> {
-    let symbols = symbols(message, start, end)?;
-    let mut machine = Machine::new(&symbols);
+/// The machine behind all symbols, or the first one refused.
+fn run(symbols: &[Symbol]) -> Result<Machine<'_>, Fault> {
+    let mut machine = Machine::new(symbols);
     for (i, symbol) in symbols.iter().enumerate() {
         machine.take(i).map_err(|number| (number, symbol.start))?;
     }
-    if !machine.settle(symbols.len()) || !machine.open.is_empty() {
+    Ok(machine)
+}
+
+fn read(message: &[u8], start: usize, end: usize) -> Result<Reading, Fault> {
+    let symbols = symbols(message, start, end)?;
+    let mut machine = run(&symbols)?;
+    if !machine.is_list() {
         return Err((9, end));
     }
     let (tree, roots) = (machine.tree, machine.roots);
@@ -629,6 +640,96 @@ pub fn addresses(message: &[u8], start: usize, end: usize, table: &mut [u8]) -> 
         push_record(&mut records, &reading, address);
     }
     hand_over(&records, ADDRESS_RECORD, table)
+}
+
+// ----------------------------------------------------------------- touch
+
+/// Records that the tool's own table holds.
+pub const OWN_TABLE: usize = 2_048;
+
+/// What a byte is, by its number; 0 where nothing is told.
+pub const BYTES: [&str; 6] = ["nothing", "white space", "comment", "word", "at", "mark"];
+
+/// What can be named, in the order of the numbers that the sum is made of.
+pub const THINGS: [&str; 9] = ["word", "at", "<", ">", "@", ",", ";", ":", "end"];
+
+/// Touches the byte at `place`: number, position, count of the records around
+/// it, what it is, and the sum of what could have stood at a refused place.
+pub fn touch(
+    message: &[u8],
+    start: usize,
+    end: usize,
+    place: usize,
+    path: &mut [u64],
+) -> [u64; 5] {
+    let reading = match read(message, start, end) {
+        Err((number, position)) => {
+            let symbols = symbols(message, start, end).unwrap_or_default();
+            let before = symbols.iter().take_while(|s| s.start < position).count();
+            let named = if (8..=10).contains(&number) { names(&symbols[..before]) } else { 0 };
+            return [number, position as u64, 0, 0, named];
+        }
+        Ok(reading) => reading,
+    };
+    let needed = reading.tree.len();
+    if needed > OWN_TABLE {
+        return [11, 0, needed as u64, 0, 0];
+    }
+    if place < start || place >= end {
+        return [13, 0, 0, 0, 0];
+    }
+    let around = around(&reading, place);
+    for (slot, number) in path.iter_mut().zip(&around) {
+        *slot = *number as u64;
+    }
+    let in_comment = comments(message, start, end).iter().any(|c| c.0 <= place && place < c.1);
+    [0, 0, around.len() as u64, what(&reading, place, in_comment), 0]
+}
+
+/// The records that cover the place, the last one first.
+fn around(reading: &Reading, place: usize) -> Vec<usize> {
+    let covers = |number: &usize| {
+        let address = &reading.tree[*number];
+        let (first, last) = (&reading.symbols[address.first], &reading.symbols[address.last]);
+        first.start <= place && place < last.end
+    };
+    (0..reading.tree.len()).rev().filter(covers).collect()
+}
+
+/// What the byte at a place of an accepted body is, a number of `BYTES`.
+fn what(reading: &Reading, place: usize, in_comment: bool) -> u64 {
+    match reading.symbols.iter().find(|s| s.start <= place && place < s.end) {
+        None if in_comment => 2,
+        None => 1,
+        Some(symbol) => match symbol.sort {
+            Sort::Atom | Sort::Quoted => 3,
+            Sort::At if symbol.meaning != b"@" => 4,
+            Sort::At | Sort::Mark(_) => 5,
+        },
+    }
+}
+
+/// The sum of what could follow the symbols: each of `THINGS` is put behind
+/// them and tried, a word as an atom and as a quoted-string.
+fn names(before: &[Symbol]) -> u64 {
+    let mut tried = before.to_vec();
+    let mut goes_on = |text: &str| {
+        let placed: Vec<Placed> = text.bytes().map(|byte| (0, byte)).collect();
+        tried.extend(cut(&placed).unwrap_or_default());
+        let taken = run(&tried).is_ok();
+        tried.truncate(before.len());
+        taken
+    };
+    let mut sum = 0;
+    for (i, thing) in THINGS.into_iter().enumerate() {
+        let named = match thing {
+            "word" => goes_on("a") || goes_on("\"q\""),
+            "end" => run(before).is_ok_and(|mut machine| machine.is_list()),
+            _ => goes_on(thing),
+        };
+        sum += u64::from(named) << i;
+    }
+    sum
 }
 
 // --------------------------------------------------------- plain writing

@@ -12,7 +12,7 @@ use Rattle.octets.specs.Numbers.{messageLimit, addressRecordSize}
 use Rattle.octets.specs.Stored.{numberFrom, numberAt, roomFor}
 use Rattle.octets.specs.declared.answers.Answer.the-variants.{Accepted, NoRoom}
 use Rattle.octets.proofs.RecordsBack.{joined, record-back, number-back}
-use Rattle.grammar.specs.Records.{AddressRecord, recordBy, count, records, recordBytes, tableBytes}
+use Rattle.grammar.specs.Records.{AddressRecord, noRecord, count, records, recordBytes, tableBytes, recordIn}
 use Rattle.grammar.specs.Rfc733.{Derivation}
 use Rattle.grammar.proofs.Order.{Lies, lies-at}
 use Rattle.grammar.proofs.Records.{length-records, length-recordBytes, parent-smaller}
@@ -20,29 +20,15 @@ use Rattle.addresses.specs.Outcome.{Outcome, derived, outcome}
 use Rattle.addresses.proofs.BodyRecords.{records-half, records-in-order}
 use Rattle.addresses.proofs.Judgements.{ListBody, Judged, refusedAt, listed, listed-outcome, judged}
 
--- the record of an address stands at a place of a table
-pub record Stands (table : List ℕ) (place : ℕ) (r : AddressRecord) : Type 0 where
-  pub kind : numberAt 1 table place ≡ r .kind
-  pub depth : numberAt 1 table (place + 1) ≡ r .depth
-  pub parent : numberAt 2 table (place + 2) ≡ r .parent
-  pub start : numberAt 2 table (place + 4) ≡ r .start
-  pub end : numberAt 2 table (place + 6) ≡ r .end
-  pub name-start : numberAt 2 table (place + 8) ≡ r .nameStart
-  pub name-end : numberAt 2 table (place + 10) ≡ r .nameEnd
-
--- what `getD` gives past the records
-abbrev pub noRecord : AddressRecord
-noRecord = recordBy 0 0 0 0 0 0 0
-
 -- the bytes of a table of records are joined
 table-joined : (rs : List AddressRecord) → tableBytes rs ≡ joined recordBytes rs
 table-joined [] = refl
 table-joined (r ∷ rs) = ap (λ (bytes : List ℕ). recordBytes r ++ bytes) (table-joined rs)
 
--- the record of each address stands at its place
-pub records-stand : {message : List ℕ} {start end : ℕ} {k : Derivation} → ListBody message start end k → (table : List ℕ) → count k * addressRecordSize ≤ length table
-    → (i : ℕ) → i < count k → Stands (sets table 0 (tableBytes (records k))) (i * addressRecordSize) (getD (records k) i noRecord)
-records-stand {message} {start} {end} {k} b table fits i l =
+-- the record of each address is read back
+pub record-read : {message : List ℕ} {start end : ℕ} {k : Derivation} → ListBody message start end k → (table : List ℕ) → count k * addressRecordSize ≤ length table
+    → (i : ℕ) → i < count k → recordIn (sets table 0 (tableBytes (records k))) i ≡ getD (records k) i noRecord
+record-read {message} {start} {end} {k} b table fits i l =
     let n : length (records k) ≡ count k = length-records k in
     let small : end ≤ messageLimit = omega (arith, b .inside, b .short) in
     let half : start + 2 * count k ≤ end = records-half b in
@@ -51,16 +37,17 @@ records-stand {message} {start} {end} {k} b table fits i l =
     let byte = record-back addressRecordSize recordBytes length-recordBytes noRecord (records k) table (omega arith) i (omega arith) 1 in
     let two = number-back addressRecordSize recordBytes length-recordBytes noRecord (records k) table (omega arith) i (omega arith) 2 in
     let e : i * addressRecordSize + 0 ≡ i * addressRecordSize = omega arith in
-    rw (table-joined (records k))
-    (record {
-      kind = ap (numberFrom 0) (rw e at (byte 0 (omega arith))) ∙ omega arith;
-      depth = ap (numberFrom 0) (byte 1 (omega arith)) ∙ omega arith;
-      parent = two 2 _ (omega arith) refl (omega arith);
-      start = two 4 _ (omega arith) refl (omega arith);
-      end = two 6 _ (omega arith) refl (omega arith);
-      name-start = two 8 _ (omega arith) refl (omega arith);
-      name-end = two 10 _ (omega arith) refl (omega arith);
-    })
+    let at = i * addressRecordSize in
+    let r = getD (records k) i noRecord in
+    let t = sets table 0 (joined recordBytes (records k)) in
+    let kind : numberAt 1 t at ≡ r .kind = ap (numberFrom 0) (rw e at (byte 0 (omega arith))) ∙ omega arith in
+    let depth : numberAt 1 t (at + 1) ≡ r .depth = ap (numberFrom 0) (byte 1 (omega arith)) ∙ omega arith in
+    let parent : numberAt 2 t (at + 2) ≡ r .parent = two 2 _ (omega arith) refl (omega arith) in
+    let from : numberAt 2 t (at + 4) ≡ r .start = two 4 _ (omega arith) refl (omega arith) in
+    let to : numberAt 2 t (at + 6) ≡ r .end = two 6 _ (omega arith) refl (omega arith) in
+    let name-from : numberAt 2 t (at + 8) ≡ r .nameStart = two 8 _ (omega arith) refl (omega arith) in
+    let name-to : numberAt 2 t (at + 10) ≡ r .nameEnd = two 10 _ (omega arith) refl (omega arith) in
+    rw (table-joined (records k), kind, depth, parent, from, to, name-from, name-to)
 
 -- ---- an accepted body
 

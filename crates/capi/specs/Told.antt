@@ -10,6 +10,8 @@ use Rattle.header.specs.declared.names.Known.the-variants.{Date, From, ReplyTo,
 use Rattle.dates.specs.Answers as date
 use Rattle.dates.specs.declared.DateAnswer.{DateAnswer}
 use Rattle.reply.specs.Reply.{leftForFrom}
+use Rattle.touch.specs.Touched as touch
+use Rattle.touch.specs.declared.Touched.{Touched}
 
 -- a lent array afterwards: the number, position and count at its front, as far as it reaches
 abbrev pub told : List ℕ → Answer → List ℕ
@@ -18,6 +20,10 @@ told lent answer = sets lent 0 (numberOf answer ∷ positionOf answer ∷ countO
 -- the same of a date's answer
 abbrev pub toldDate : List ℕ → DateAnswer → List ℕ
 toldDate lent answer = sets lent 0 (date.numberOf answer ∷ date.positionOf answer ∷ date.countOf answer ∷ [])
+
+-- of what is answered for a touched byte: what the byte is and what could have stood there, too
+abbrev pub toldTouched : List ℕ → Touched → List ℕ
+toldTouched lent answer = sets lent 0 (touch.numberOf answer ∷ touch.positionOf answer ∷ touch.countOf answer ∷ touch.categoryOf answer ∷ touch.namesOf answer ∷ [])
 
 -- the place of a known name in document 01's order, from 1; 0 for any other name
 abbrev pub knownNumber : Known → ℕ

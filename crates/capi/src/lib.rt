@@ -1,9 +1,8 @@
 // The libraries for C: lent memory is a pointer with a length, and answers are numbers. Each function refuses as the library does.
 //
-// `told` is an array of three: an answer's number, position and count. Of a shorter one the front is filled.
+// `told` is an array of three: an answer's number, position and count; of five for a touched byte. Of a shorter one the front is filled.
 ghost use mathlib.Core.Path.{_≡_};
 ghost use mathlib.Core.List.{_∷_, []};
-ghost use lib.ListN.{set};
 ghost use lib.Seq.{sets};
 ghost use Rattle.octets.specs.Choice.{pick};
 ghost use Rattle.scanner.specs.Answers.{bodyScanned};
@@ -12,26 +11,20 @@ ghost use Rattle.header.specs.Split.{splitAnswer, splitTable};
 ghost use Rattle.addresses.specs.Outcome.{outcome};
 ghost use Rattle.dates.specs.Answers.{dateAnswer, valueOf};
 ghost use Rattle.plain.specs.Written.{plainOutcome};
-ghost use Rattle.capi.specs.Told.{told, toldDate, knownNumber, replyNumber};
+ghost use Rattle.touch.specs.Touched.{touched};
+ghost use Rattle.capi.specs.Told.{told, toldDate, toldTouched, knownNumber, replyNumber};
 use header::names::Known;
 use octets::answers::Answer;
-
-// A number at a place of an array; past the end nothing is stored.
-fn put(array: &mut [u64], at: usize, n: u64)
-    ensures { λ _. ⌜ now (array .exit) ≡ set (now (array .entry)) at n ⌝ }
-{
-    if at < array.len() {
-        array[at] = n;
-    }
-}
+use octets::stored::store_number;
+use touch::Touched;
 
 // Three numbers at the front of an array.
 fn put_three(array: &mut [u64], number: u8, position: usize, count: usize)
     ensures { λ _. ⌜ now (array .exit) ≡ sets (now (array .entry)) 0 (number ∷ position ∷ count ∷ []) ⌝ }
 {
-    put(array, 0, number as u64);
-    put(array, 1, position as u64);
-    put(array, 2, count as u64);
+    store_number(array, 0, number as u64);
+    store_number(array, 1, position as u64);
+    store_number(array, 2, count as u64);
 }
 
 // The number, position and count of an answer.
@@ -41,6 +34,17 @@ fn tell(array: &mut [u64], answer: Answer)
     let number = octets::answers::number(answer);
     let position = octets::answers::position(answer);
     put_three(array, number, position, octets::answers::count(answer));
+}
+
+// The number, position and count of what is answered for a touched byte, then what the byte is and what could have stood there.
+fn tell_touched(array: &mut [u64], answer: Touched)
+    ensures { λ _. ⌜ now (array .exit) ≡ toldTouched (now (array .entry)) answer ⌝ }
+{
+    let number = touch::number(answer);
+    let position = touch::position(answer);
+    put_three(array, number, position, touch::count(answer));
+    store_number(array, 3, touch::category(answer) as u64);
+    store_number(array, 4, touch::names(answer) as u64);
 }
 
 // Split a message into fields: records of 8 bytes in the table.
@@ -101,6 +105,21 @@ pub extern "C" fn rfc733_addresses_by_table(
     ensures { λ _. ⌜ (now (table .exit) ≡ outcome (now (message .entry)) start end (now (table .entry)) .table) × (now (array .exit) ≡ told (now (array .entry)) (outcome (now (message .entry)) start end (now (table .entry)) .answer)) ⌝ }
 {
     tell(array, engine::read_addresses(message, start, end, table));
+}
+
+// Touch a place of the body of a message from start up to end: what the byte is, and the records around it in the path.
+#[no_mangle]
+pub extern "C" fn rfc733_touch(
+    message: &[u8],
+    start: usize,
+    end: usize,
+    place: usize,
+    path: &mut [u64],
+    array: &mut [u64],
+)
+    ensures { λ _. ⌜ (now (path .exit) ≡ touched (now (message .entry)) start end place (now (path .entry)) .path) × (now (array .exit) ≡ toldTouched (now (array .entry)) (touched (now (message .entry)) start end place (now (path .entry)) .answer)) ⌝ }
+{
+    tell_touched(array, touch::touch(message, start, end, place, path));
 }
 
 // Read the date in the body of a message from start up to end: seconds from 1 January 1900, 00:00 GMT, and 0 with a refusal.

@@ -69,7 +69,7 @@ closing-start {h = h} {a = a} c = record { here = h; address = a; same = refl; c
 closed-as : {lent table : List ℕ} {left : ℕ} {spot spot′ : Spot} → spot ≡ spot′ → Closed lent spot table left → Closed lent spot′ table left
 closed-as e c = rw e at c
 
-kind-at : {stack : List ℕ} (left : ℕ) {i number start kind first last : ℕ} → Entry stack i number start kind first last → i ≡ left - 1 → getD stack (placeOf (left - 1) 2) 0 ≡ kind
+pub kind-at : {stack : List ℕ} (left : ℕ) {i number start kind first last : ℕ} → Entry stack i number start kind first last → i ≡ left - 1 → getD stack (placeOf (left - 1) 2) 0 ≡ kind
 kind-at {stack} left e q = ap (λ n. getD stack (placeOf n 2) 0) (sym q) ∙ e .kind-is
 
 -- a typed address is the innermost level

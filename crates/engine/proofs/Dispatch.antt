@@ -20,18 +20,22 @@ use Rattle.engine.proofs.LevelLaws.{close-free}
 use Rattle.engine.proofs.MachineLaws.{Does, does, EndsAndFinishes, DoesAtEnd, does-at-end}
 use Rattle.engine.proofs.TurnLaws.{engineBy, passed, kind-below, begin-open, goes-begin, goes-add, goes-pass, ended-free, ended-comma, ended-close, list-close}
 
-entry-act : (a : Action) (n : ℕ) → n ≡ entry a → n / modeRoom ≡ actNumber (a .act)
+pub entry-act : (a : Action) (n : ℕ) → n ≡ entry a → n / modeRoom ≡ actNumber (a .act)
 entry-act a n e = let h = mode-small (a .next) in omega arith
 
 entry-next : (a : Action) (n : ℕ) → n ≡ entry a → n % modeRoom ≡ modeNumber (a .next)
 entry-next a n e = let h = mode-small (a .next) in omega arith
+
+-- what the machine does, by the act of the entry
+pub acts-as : {action : ℕ} (s : State) (c : Class) (t : Lexeme) → action ≡ entry (actionOf (modeOf s) c) → (d : Act) → action / modeRoom ≡ actNumber d → Does d (actionOf (modeOf s) c .next) levelLimit s c t
+acts-as {action} s c t i d q = rw (act-is (actionOf (modeOf s) c .act) d (sym (entry-act (actionOf (modeOf s) c) action i) ∙ q)) at (does levelLimit t s c)
 
 module _ {text lent stack table : List ℕ} {s : State} {t : Lexeme} {e : Engine} {action : ℕ} {c : Class} {from to : ℕ} (x : Turning text lent s t e action c from to stack table) where
   abbrev a : Action
   a = actionOf (modeOf s) c
 
   does-as : (d : Act) → action / modeRoom ≡ actNumber d → Does d (a .next) levelLimit s c t
-  does-as d q = rw (act-is (a .act) d (sym (entry-act a action (x .action-is)) ∙ q)) at (does levelLimit t s c)
+  does-as d q = acts-as s c t (x .action-is) d q
 
   next-is : action % modeRoom ≡ modeNumber (a .next)
   next-is = entry-next a action (x .action-is)
@@ -226,7 +230,7 @@ module _ {text lent stack table : List ℕ} {s : State} {e : Engine} {action : �
   abbrev z : Action
   z = rowOf (modeOf s) .end
 
-  ends-as : (d : Act) → action / modeRoom ≡ actNumber d → DoesAtEnd d s
+  pub ends-as : (d : Act) → action / modeRoom ≡ actNumber d → DoesAtEnd d s
   ends-as d q = rw (act-is (z .act) d (sym (entry-act z action (x .action-is)) ∙ q)) at (does-at-end s)
 
   pub end-refused : action / modeRoom ≡ actNumber refuses → Unfinished text s endsTooSoon (length text)
@@ -258,7 +262,7 @@ module _ {text lent stack table : List ℕ} {s : State} {e : Engine} {action : �
   last-end finishes f g y = absurd (g refl)
   last-end endsAndFinishes f g y = refl
 
-  ends-last : (action / modeRoom ≡ actNumber refuses → ⊥) → (action / modeRoom ≡ actNumber finishes → ⊥) → EndsAndFinishes s
+  pub ends-last : (action / modeRoom ≡ actNumber refuses → ⊥) → (action / modeRoom ≡ actNumber finishes → ⊥) → EndsAndFinishes s
   ends-last f g =
       let n = entry-act z action (x .action-is) in
       rw (last-end (z .act) (λ h. f (n ∙ h)) (λ h. g (n ∙ h)) (does-at-end s)) at (does-at-end s)

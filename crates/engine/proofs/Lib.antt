@@ -8,3 +8,4 @@ pub mod TurnLaws
 pub mod Dispatch
 pub mod CodeLaws
 pub mod LoopLaws
+pub mod ExpectingLaws

@@ -7,34 +7,58 @@ use lib.ListN.{length, getD}
 use lib.Seq.{sets}
 use Rattle.octets.specs.Numbers.{levelLimit}
 use Rattle.octets.specs.Text.{part}
+use Rattle.scanner.specs.Scanning.{scanBy}
+use Rattle.scanner.specs.Answers.{nextOf}
+use Rattle.scanner.specs.declared.Next.{Next}
 use Rattle.scanner.specs.declared.Next.the-variants.{Found}
 use Rattle.scanner.proofs.Meanings.{meaningAt}
 use Rattle.grammar.specs.Language.{unfinished}
 use Rattle.grammar.specs.Records.{tableBytes}
 use Rattle.grammar.specs.Rfc733.{classNumber}
-use Rattle.grammar.proofs.AnyMachine.{stopped, atEnd}
+use Rattle.grammar.proofs.AnyMachine.{ended, stopped, atEnd, standsBy}
 use Rattle.grammar.proofs.Trees.{Class, Atom}
-use Rattle.grammar.proofs.AddressMachine.{State, stepOn, run, judge}
+use Rattle.grammar.proofs.AddressMachine.{State, stepOn, step, run, judge}
 use Rattle.grammar.proofs.AddressMachine as machine
 use Rattle.grammar.proofs.Condition3.{asRows}
 use Rattle.grammar.proofs.Rows.{asRow}
 use Rattle.grammar.proofs.TreeRecords.{tree-records, tree-count}
 use Rattle.addresses.specs.Steps.{symbolsFrom, symbolsAhead, lexemeAt, Faultless}
-use Rattle.addresses.specs.Whole.{Body, IsRefused, WholeIs}
-use Rattle.addresses.proofs.NextLaws.{NextIs}
-use Rattle.engine.specs.Actions.{columns, modeCount, actionTable}
+use Rattle.addresses.specs.Whole.{Body, WholeIs}
+use Rattle.addresses.proofs.NextLaws.{NextIs, next-is}
+use Rattle.engine.specs.Actions.{modeNumber, columns, modeCount, entry, rowOf, actionOf, actionTable}
 use Rattle.engine.specs.Stands.{modeOf, stackSize, Stands}
 use Rattle.engine.specs.Turns.{Follows, GoesTo, StopsBy, Turning, Finishing, FinishedIs}
+use Rattle.engine.specs.Expecting.{stopOf, StopsAtEnd, StopsAtSymbol}
 use Rattle.engine.specs.declared.Engine.{Engine}
 use Rattle.engine.proofs.ActionLaws.{mode-small, entry-at, end-entry}
 use Rattle.grammar.specs.declared.Whole.{Whole}
 use Rattle.grammar.specs.declared.Whole.the-variants.{Listed, Refused}
+
+-- ---- the entries of the table
+
+module _ {text lent : List ℕ} {s : State} {e : Engine} {stack table : List ℕ} (x : Stands text lent s e stack table) where
+  pub mode-low : e .mode < modeCount
+  mode-low = omega (arith, x .mode-is, mode-small (modeOf s))
+
+  entry-on : {actions : List ℕ} {action : ℕ} (column : ℕ) → actions ≡ actionTable → action ≡ getD actions (e .mode * columns + column) 0 → action ≡ getD actionTable (modeNumber (modeOf s) * columns + column) 0
+  entry-on column q i = i ∙ ap (λ l. getD l (e .mode * columns + column) 0) q ∙ ap (λ n. getD actionTable (n * columns + column) 0) (x .mode-is)
+
+  -- at a symbol
+  pub entry-of : (c : Class) {actions : List ℕ} {action : ℕ} (column : ℕ) → actions ≡ actionTable → column ≡ classNumber c → action ≡ getD actions (e .mode * columns + column) 0 → action ≡ entry (actionOf (modeOf s) c)
+  entry-of c column q k i = entry-on column q i ∙ ap (λ n. getD actionTable (modeNumber (modeOf s) * columns + n) 0) k ∙ entry-at (modeOf s) c
+
+  -- at the end
+  pub end-of : {actions : List ℕ} {action : ℕ} → actions ≡ actionTable → action ≡ getD actions (e .mode * columns + 9) 0 → action ≡ entry (rowOf (modeOf s) .end)
+  end-of q i = entry-on 9 q i ∙ end-entry (modeOf s)
+
+-- ---- symbol by symbol
 
 -- the reader has come to a state of the machine
 pub record Reading (classes text lent : List ℕ) (from : ℕ) (e : Engine) (stack table : List ℕ) : Type 0 where
   pub state : State
   pub stands : Stands text lent state e stack table
   pub reads : run levelLimit machine.start (symbolsFrom classes text from) ≡ run levelLimit state (symbolsFrom classes text (e .at))
+  pub stood : stopOf classes text from ≡ standsBy step levelLimit state (symbolsFrom classes text (e .at))
   pub faultless : Faultless classes text (e .at)
 
 pub reading-start : (classes text lent stack : List ℕ) {at : ℕ} → length stack ≡ stackSize → Body classes text at
@@ -53,6 +77,7 @@ reading-start classes text lent stack n b =
         stored = refl;
       };
       reads = refl;
+      stood = refl;
       faultless = b .faultless;
     }
 
@@ -64,22 +89,16 @@ follows : {classes text : List ℕ} {at a b : ℕ} {c : Class} → NextIs classe
 follows {classes} {text} {a = a} {b = b} {c = c} x =
     record { start-is = refl; end-is = refl; from = x .ok .0; starts = x .ok .1 .starts; within = x .ok .1 .within; meaning = meaning-is classes text c a b }
 
+stands-as : {text lent : List ℕ} {s s′ : State} {e : Engine} {stack stack′ table : List ℕ} → s′ ≡ s → stack′ ≡ stack → Stands text lent s e stack table → Stands text lent s′ e stack′ table
+stands-as p q x = rw (p, q) x
+
 module _ {classes text lent : List ℕ} {from : ℕ} {e : Engine} {stack table : List ℕ} (r : Reading classes text lent from e stack table) where
-  pub reading-mode : e .mode < modeCount
-  reading-mode = omega (arith, r .stands .mode-is, mode-small (modeOf (r .state)))
+  pub reading-next : {next : Next} → next ≡ nextOf (scanBy classes text (e .at)) → NextIs classes text (e .at) next
+  reading-next {next} i = next-is classes text (e .at) next (r .faultless) i
 
-  -- ---- a symbol
-
-  -- the entry of the table
   pub reading-turning : {a b : ℕ} {c : Class} {actions : List ℕ} {action : ℕ} (column : ℕ) → NextIs classes text (e .at) (Found c a b) → actions ≡ actionTable → column ≡ classNumber c
       → action ≡ getD actions (e .mode * columns + column) 0 → Turning text lent (r .state) (lexemeAt classes text c a b) e action c a b stack table
-  reading-turning {c = c} {actions = actions} column x q k i =
-      record {
-        stands = r .stands;
-        follows = follows x;
-        action-is = i ∙ ap (λ l. getD l (e .mode * columns + column) 0) q
-            ∙ ap (λ n. getD actionTable n 0) (ap (λ n. e .mode * columns + n) k ∙ ap (λ n. n * columns + classNumber c) (r .stands .mode-is)) ∙ entry-at (modeOf (r .state)) c;
-      }
+  reading-turning {c = c} column x q k i = record { stands = r .stands; follows = follows x; action-is = entry-of (r .stands) c column q k i }
 
   -- one symbol on
   pub reading-on : {a b : ℕ} {c : Class} {e′ : Engine} {stack′ table′ : List ℕ} → NextIs classes text (e .at) (Found c a b) → GoesTo text lent (stepOn levelLimit (r .state) c (lexemeAt classes text c a b)) b e′ stack′ table′
@@ -89,31 +108,39 @@ module _ {classes text lent : List ℕ} {from : ℕ} {e : Engine} {stack table :
         state = g .state;
         stands = g .stands;
         reads = r .reads ∙ ap (run levelLimit (r .state)) (x .same) ∙ rw (g .steps, g .at-is) refl;
+        stood = r .stood ∙ ap (standsBy step levelLimit (r .state)) (x .same) ∙ rw (g .steps, g .at-is) refl;
         faultless = rw (g .at-is) (x .ok .1 .faultless);
       }
 
   -- the symbol is refused
-  pub reading-stops : {a b n : ℕ} {c : Class} {stack′ : List ℕ} → NextIs classes text (e .at) (Found c a b) → StopsBy (stepOn levelLimit (r .state) c (lexemeAt classes text c a b)) n stack stack′ → IsRefused classes text from n a
+  pub reading-stops : {a b n : ℕ} {c : Class} {stack′ : List ℕ} → NextIs classes text (e .at) (Found c a b) → StopsBy (stepOn levelLimit (r .state) c (lexemeAt classes text c a b)) n stack stack′ → StopsAtSymbol classes text lent from stack′ n a e
   reading-stops {a} {b} {n} {c} x g =
       let v : run levelLimit machine.start (symbolsFrom classes text from) ≡ stopped (g .why) (symbolsAhead classes text (Found c a b)) = r .reads ∙ ap (run levelLimit (r .state)) (x .same) ∙ rw (g .steps) refl in
-      record { why = g .why; rest = symbolsAhead classes text (Found c a b); verdict = ap asRows (ap judge v); number-is = g .number-is; place-is = refl }
-
-  -- ---- the end
-
-  pub reading-finishing : {actions : List ℕ} {action : ℕ} → actions ≡ actionTable → action ≡ getD actions (e .mode * columns + 9) 0 → Finishing text lent (r .state) e action stack table
-  reading-finishing q i =
       record {
-        stands = r .stands;
-        action-is = i ∙ ap (λ l. getD l (e .mode * columns + 9) 0) q ∙ ap (λ n. getD actionTable (n * columns + 9) 0) (r .stands .mode-is) ∙ end-entry (modeOf (r .state));
+        table = table;
+        stands = stands-as (r .stood ∙ ap (standsBy step levelLimit (r .state)) (x .same) ∙ rw (g .steps) refl) (g .kept) (r .stands);
+        refused = record { why = g .why; rest = symbolsAhead classes text (Found c a b); verdict = ap asRows (ap judge v); number-is = g .number-is; place-is = refl };
       }
 
-  pub reading-finished : (after : List ℕ) → symbolsFrom classes text (e .at) ≡ [] → (w : Whole) → FinishedIs text lent (r .state) after w → WholeIs classes text from lent after w
-  reading-finished after x (Listed n) f =
+  -- no symbol is left
+  pub reading-ends : symbolsFrom classes text (e .at) ≡ [] → StopsAtEnd classes text lent from stack table e
+  reading-ends x =
+      let q : stopOf classes text from ≡ r .state = r .stood ∙ ap (standsBy step levelLimit (r .state)) x in
+      record { stands = stands-as q refl (r .stands); reads = r .reads ∙ ap (run levelLimit (r .state)) x ∙ ap ended (sym q) }
+
+-- ---- the end
+
+module _ {classes text lent : List ℕ} {from : ℕ} {e : Engine} {stack table : List ℕ} (x : StopsAtEnd classes text lent from stack table e) where
+  pub ended-finishing : {actions : List ℕ} {action : ℕ} → actions ≡ actionTable → action ≡ getD actions (e .mode * columns + 9) 0 → Finishing text lent (stopOf classes text from) e action stack table
+  ended-finishing q i = record { stands = x .stands; action-is = end-of (x .stands) q i }
+
+  pub ended-whole : (after : List ℕ) (w : Whole) → FinishedIs text lent (stopOf classes text from) after w → WholeIs classes text from lent after w
+  ended-whole after (Listed n) f =
       record {
         derivation = asRow (f .tree);
-        verdict = ap asRows (ap judge (r .reads ∙ ap (run levelLimit (r .state)) x) ∙ ap atEnd (f .is));
+        verdict = ap asRows (ap judge (x .reads) ∙ ap atEnd (f .is));
         count-is = omega (arith, f .count-is, tree-count (f .tree));
         stored = f .stored ∙ ap (λ rs. sets lent 0 (tableBytes rs)) (sym (tree-records (f .tree)));
       }
-  reading-finished after x (Refused n p) f =
-      record { why = unfinished; rest = []; verdict = ap asRows (ap judge (r .reads ∙ ap (run levelLimit (r .state)) x) ∙ ap atEnd (f .is)); number-is = f .number-is; place-is = f .place-is }
+  ended-whole after (Refused n p) f =
+      record { why = unfinished; rest = []; verdict = ap asRows (ap judge (x .reads) ∙ ap atEnd (f .is)); number-is = f .number-is; place-is = f .place-is }

@@ -137,7 +137,7 @@ module _ {text lent stack table : List ℕ} {e : Engine} {c : Class} {t : Lexeme
 
 -- the level that is opened
 module _ (h : Here) (o : Option Phrase) (t : Lexeme) where
-  level-depth : (angle : Bool) → levelsAt (levelIf angle h o t) ≡ suc (levelsHere h)
+  pub level-depth : (angle : Bool) → levelsAt (levelIf angle h o t) ≡ suc (levelsHere h)
   level-depth true = refl
   level-depth false = refl
 

@@ -1,5 +1,7 @@
--- The second address reader: what it has to do with the first; its table; and what its numbers and its array stand for.
+-- The second address reader: what it has to do with the first; its table; what its numbers and its array stand for; and what
+-- could stand where it stops.
 pub mod Same
 pub mod Actions
 pub mod Stands
 pub mod Turns
+pub mod Expecting

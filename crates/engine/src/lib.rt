@@ -1,4 +1,5 @@
 // The second address reader: driven by a table of modes and classes, with its own stack of at most 64 levels in an array.
+// It says, too, what could stand where it stops.
 //
 // No function here calls itself, directly or through others.
 ghost use mathlib.Core.Path.{_≡_};
@@ -7,11 +8,15 @@ ghost use lib.ListN.{length, getD, set};
 ghost use Rattle.octets.specs.Numbers.{messageLimit, levelLimit};
 ghost use Rattle.grammar.specs.Rfc733.{classNumber};
 ghost use Rattle.addresses.specs.Whole.{Body, WholeIs, TwiceIs, TextIs};
+ghost use Rattle.addresses.specs.Steps.{symbolsFrom};
 ghost use Rattle.addresses.specs.Outcome.{outcome};
 ghost use Rattle.addresses.specs.Condition3.{Condition3};
+ghost use Rattle.expected.specs.Things.{sumOf};
+ghost use Rattle.expected.specs.Named.{named, expectedIn};
 ghost use Rattle.engine.specs.Actions.{actionTable, columns, modeCount};
-ghost use Rattle.engine.specs.Stands.{levelSize, placeOf};
+ghost use Rattle.engine.specs.Stands.{levelSize, stackSize, placeOf};
 ghost use Rattle.engine.specs.Turns.{isAngle, kindIf, loneKind, SomeHere, ParentIs, SomeLevel, PutLevelIs, SomeClosing, CloseTypedIs, SomeEnded, CompleteIs, Fits, OpenLevelIs, SomeAtClose, CloseLevelIs, SomeTyped, MakeTypedIs, PassIs, SomeEnding, EndsIs, SomeTurning, TurnIs, SomeFinishing, FinishIs};
+ghost use Rattle.engine.specs.Expecting.{RunIs, UnderTypedIs, ClosesIs, SomeStands, SomeCould, CouldIs, SomeCouldEnd, CouldEndIs, IfCouldIs, IfCouldEndIs, ExpectedIs, expectedBy};
 use crate::actions::ACTIONS;
 use crate::actions::ADDS;
 use crate::actions::BEGINS;
@@ -27,6 +32,15 @@ use crate::actions::QUOTED;
 use crate::actions::REFUSES;
 use crate::actions::TABLE_SIZE;
 use crate::actions::TURNS_TYPED;
+use crate::things::AT;
+use crate::things::AT_SIGN;
+use crate::things::BODY_END;
+use crate::things::COLON;
+use crate::things::COMMA;
+use crate::things::GREATER_THAN;
+use crate::things::LESS_THAN;
+use crate::things::SEMICOLON;
+use crate::things::WORD;
 use grammar::AddressRecord;
 use grammar::Span;
 use grammar::Whole;
@@ -46,6 +60,7 @@ use scanner::Class;
 use scanner::Next;
 
 mod actions;
+mod things;
 
 // Where each number of a level stands in the array: the number of its record,
 const NUMBER: usize = 0;
@@ -79,6 +94,12 @@ struct Engine {
 enum Turned {
     On(Engine),
     Stop(u8),
+}
+
+// Where the reader stops: at the end of the text, or at a symbol that it refuses with this number at this place.
+enum Stopped {
+    AtEnd(Engine),
+    AtSymbol(u8, usize, Engine),
 }
 
 // The column of a class.
@@ -439,6 +460,38 @@ fn finish(
     Whole::Refused(ENDS_TOO_SOON, text.len())
 }
 
+// The symbols from a position of a text on, one turn each, up to where the reader stops.
+fn run(
+    classes: &[u8; 256],
+    actions: &[u8; TABLE_SIZE],
+    text: &[u8],
+    stack: &mut [u32; STACK_SIZE],
+    table: &mut [u8],
+    at: usize,
+) -> Stopped
+    requires { ⌜ Body (now classes) (now text) at × (now actions ≡ actionTable) × (length (now stack) ≡ stackSize) ⌝ }
+    ensures { λ r. ⌜ RunIs (now (classes .entry)) (now (text .entry)) (now (table .entry)) at (now (stack .exit)) (now (table .exit)) r ⌝ }
+{
+    let mut engine = Engine {
+        mode: 0,
+        depth: 0,
+        free: 0,
+        start: at,
+        name: at,
+        at,
+    };
+    loop {
+        let Next::Found(class, start, end) = scanner::next_by(classes, text, engine.at) else {
+            return Stopped::AtEnd(engine);
+        };
+        let action = action_at(actions, engine.mode, column_of(class));
+        match turn(text, stack, table, engine, action, class, start, end) {
+            Turned::Stop(number) => return Stopped::AtSymbol(number, start, engine),
+            Turned::On(after) => engine = after,
+        }
+    }
+}
+
 // The list from a position of a text on to its end.
 fn read_whole(
     classes: &[u8; 256],
@@ -451,23 +504,11 @@ fn read_whole(
     ensures { λ r. ⌜ WholeIs (now (classes .entry)) (now (text .entry)) at (now (table .entry)) (now (table .exit)) r ⌝ }
 {
     let mut stack: [u32; STACK_SIZE] = [0; STACK_SIZE];
-    let mut engine = Engine {
-        mode: 0,
-        depth: 0,
-        free: 0,
-        start: at,
-        name: at,
-        at,
-    };
-    loop {
-        let mode = engine.mode;
-        let Next::Found(class, start, end) = scanner::next_by(classes, text, engine.at) else {
-            return finish(text, &stack, table, engine, action_at(actions, mode, END));
-        };
-        let action = action_at(actions, mode, column_of(class));
-        match turn(text, &mut stack, table, engine, action, class, start, end) {
-            Turned::Stop(number) => return Whole::Refused(number, start),
-            Turned::On(after) => engine = after,
+    match run(classes, actions, text, &mut stack, table, at) {
+        Stopped::AtSymbol(number, place, _) => Whole::Refused(number, place),
+        Stopped::AtEnd(engine) => {
+            let action = action_at(actions, engine.mode, END);
+            finish(text, &stack, table, engine, action)
         }
     }
 }
@@ -531,4 +572,170 @@ pub fn read_addresses(message: &[u8], start: usize, end: usize, table: &mut [u8]
     let classes = &CLASSES;
     let actions = &ACTIONS;
     read_text(classes, actions, &message[..end], table, start)
+}
+
+// The levels that stay open where an address ends: all but the typed ones right around it.
+fn under_typed(stack: &[u32; STACK_SIZE], depth: usize) -> usize
+    requires { ⌜ SomeHere (now stack) depth ⌝ }
+    ensures { λ r. ⌜ UnderTypedIs (now (stack .entry)) depth r ⌝ }
+{
+    let mut left = depth;
+    loop {
+        if left == 0 {
+            return 0;
+        }
+        let level = left - 1;
+        if number_of(stack, level, KIND) < FIRST_TYPED {
+            return left;
+        }
+        left = level;
+    }
+}
+
+// Whether a mark of this kind closes the innermost of so many levels.
+fn closes_at(stack: &[u32; STACK_SIZE], depth: usize, kind: u32) -> bool
+    requires { ⌜ depth ≤ levelLimit ⌝ }
+    ensures { λ r. ⌜ ClosesIs (now (stack .entry)) depth kind r ⌝ }
+{
+    if depth == 0 {
+        return false;
+    }
+    number_of(stack, depth - 1, KIND) == kind
+}
+
+// Whether a symbol of a class could stand next, by its entry of the table.
+fn could(stack: &[u32; STACK_SIZE], engine: Engine, action: u8, class: Class) -> bool
+    requires { ⌜ SomeCould (now stack) engine action class ⌝ }
+    ensures { λ r. ⌜ CouldIs (now (stack .entry)) engine action class r ⌝ }
+{
+    let act = action / MODE_ROOM;
+    let more_levels = engine.depth < LEVEL_LIMIT;
+    if act == REFUSES {
+        return false;
+    }
+    if act == OPENS {
+        return more_levels;
+    }
+    if act == OPENS_NAMED {
+        return more_levels;
+    }
+    if act == CLOSES {
+        return closes_at(stack, engine.depth, enclosure(class));
+    }
+    if act == ENDS_AND_CLOSES {
+        return closes_at(stack, under_typed(stack, engine.depth), enclosure(class));
+    }
+    true
+}
+
+// Whether the text could end here, by the entry of the table.
+fn could_end(stack: &[u32; STACK_SIZE], engine: Engine, action: u8) -> bool
+    requires { ⌜ SomeCouldEnd (now stack) engine action ⌝ }
+    ensures { λ r. ⌜ CouldEndIs (now (stack .entry)) engine action r ⌝ }
+{
+    let act = action / MODE_ROOM;
+    if act == REFUSES {
+        return false;
+    }
+    if act == FINISHES {
+        return engine.depth == 0;
+    }
+    under_typed(stack, engine.depth) == 0
+}
+
+// A number, if a symbol of a class could stand next; else 0.
+fn if_could(
+    stack: &[u32; STACK_SIZE],
+    actions: &[u8; TABLE_SIZE],
+    engine: Engine,
+    class: Class,
+    n: usize,
+) -> usize
+    requires { ⌜ SomeStands (now stack) engine × (now actions ≡ actionTable) ⌝ }
+    ensures { λ r. ⌜ (r ≤ n) × IfCouldIs (now (stack .entry)) engine class n r ⌝ }
+{
+    let action = action_at(actions, engine.mode, column_of(class));
+    if could(stack, engine, action, class) {
+        return n;
+    }
+    0
+}
+
+// A number, if the text could end here; else 0.
+fn if_could_end(
+    stack: &[u32; STACK_SIZE],
+    actions: &[u8; TABLE_SIZE],
+    engine: Engine,
+    n: usize,
+) -> usize
+    requires { ⌜ SomeStands (now stack) engine × (now actions ≡ actionTable) ⌝ }
+    ensures { λ r. ⌜ (r ≤ n) × IfCouldEndIs (now (stack .entry)) engine n r ⌝ }
+{
+    if could_end(stack, engine, action_at(actions, engine.mode, END)) {
+        return n;
+    }
+    0
+}
+
+// What could stand next, summed.
+fn expected_here(stack: &[u32; STACK_SIZE], actions: &[u8; TABLE_SIZE], engine: Engine) -> usize
+    requires { ⌜ SomeStands (now stack) engine × (now actions ≡ actionTable) ⌝ }
+    ensures { λ r. ⌜ ExpectedIs (now (stack .entry)) engine r ⌝ }
+{
+    if_could(stack, actions, engine, Class::Atom, WORD)
+        + if_could(stack, actions, engine, Class::At, AT)
+        + if_could(stack, actions, engine, Class::LessThan, LESS_THAN)
+        + if_could(stack, actions, engine, Class::GreaterThan, GREATER_THAN)
+        + if_could(stack, actions, engine, Class::At, AT_SIGN)
+        + if_could(stack, actions, engine, Class::Comma, COMMA)
+        + if_could(stack, actions, engine, Class::Semicolon, SEMICOLON)
+        + if_could(stack, actions, engine, Class::Colon, COLON)
+        + if_could_end(stack, actions, engine, BODY_END)
+}
+
+// What could stand where the reader stops in a text without fault, summed. It writes no records.
+fn expected_at_stop(
+    classes: &[u8; 256],
+    actions: &[u8; TABLE_SIZE],
+    text: &[u8],
+    at: usize,
+) -> usize
+    requires { ⌜ Body (now classes) (now text) at × (now actions ≡ actionTable) ⌝ }
+    ensures { λ r. ⌜ r ≡ sumOf (named levelLimit (symbolsFrom (now (classes .entry)) (now (text .entry)) at)) ⌝ }
+{
+    let mut stack: [u32; STACK_SIZE] = [0; STACK_SIZE];
+    let mut none: [u8; 1] = [0; 1];
+    match run(classes, actions, text, &mut stack, &mut none[..0], at) {
+        Stopped::AtEnd(engine) => expected_here(&stack, actions, engine),
+        Stopped::AtSymbol(_, _, engine) => expected_here(&stack, actions, engine),
+    }
+}
+
+// What could stand where the reader stops in a text from a position on, summed; 0 where there is a fault.
+fn expected_in(classes: &[u8; 256], actions: &[u8; TABLE_SIZE], text: &[u8], at: usize) -> usize
+    requires { ⌜ (at ≤ length (now text)) × (length (now text) ≤ messageLimit) × (now actions ≡ actionTable) ⌝ }
+    ensures { λ r. ⌜ r ≡ expectedBy (now (classes .entry)) (now (text .entry)) at ⌝ }
+{
+    match scanner::fault_by(classes, text, at) {
+        Answer::Refused(_, _) => 0,
+        _ => expected_at_stop(classes, actions, text, at),
+    }
+}
+
+// What could stand where the reader stops in the body of a message from start up to end, summed; 0 where it does not read it.
+pub fn expected(message: &[u8], start: usize, end: usize) -> usize
+    ensures { λ r. ⌜ r ≡ expectedIn (now (message .entry)) start end ⌝ }
+{
+    if MESSAGE_LIMIT < message.len() {
+        return 0;
+    }
+    if end < start {
+        return 0;
+    }
+    if message.len() < end {
+        return 0;
+    }
+    let classes = &CLASSES;
+    let actions = &ACTIONS;
+    expected_in(classes, actions, &message[..end], start)
 }

@@ -3,8 +3,8 @@
 use Prim.Native.Nat.{ℕ, max, _≤_}
 use native.Mathlib.Omega.{arith}
 use native.Mathlib.Decide.{decLe}
-use mathlib.Core.Path.{_≡_, refl, ap, _∙_}
-use mathlib.Core.List.{List, [], _∷_, _++_, append-assoc}
+use mathlib.Core.Path.{_≡_, refl, sym, ap, _∙_}
+use mathlib.Core.List.{List, [], _∷_, _++_, append-assoc, append-nil}
 use mathlib.Core.Option.{Option, none, some}
 use Rattle.scanner.specs.Symbols.{Symbol}
 use Rattle.grammar.specs.Language.{AtMost, MoreThan, upTo, GoesOn, FirstRefused, Refusal, unfit, unfinished, tooDeep, Verdict, accepted, refused, Right}
@@ -38,6 +38,15 @@ abbrev pub verdictBy : {C S T : Type 0} → (S → Option T) → Result C S → 
 verdictBy finish (ended s) = atEnd (finish s)
 verdictBy finish (stopped why xs) = refused why xs
 
+-- the state in which a run stops, or ends
+abbrev pub standsAfter : {S : Type 0} → Step S → (S → S) → S → S
+standsAfter (go s) more here = more s
+standsAfter (stop why) more here = here
+
+abbrev pub standsBy : {C S : Type 0} → (ℕ → S → Symbol C → Step S) → ℕ → S → List (Symbol C) → S
+standsBy step n s [] = s
+standsBy step n s (x ∷ xs) = standsAfter (step n s x) (λ s′. standsBy step n s′ xs) s
+
 -- more levels change nothing but the refusal of a level
 abbrev pub Steady : {S : Type 0} → ℕ → (ℕ → Step S) → Step S → Type 0
 Steady n f (go s) = (m : ℕ) → n ≤ m → f m ≡ go s
@@ -56,7 +65,7 @@ not-too-deep n (stop tooDeep) h e =
     omega arith
 
 module _ {C S T : Type 0} (Derives : T → List (Symbol C) → Type 0) (levels : T → ℕ) (step : ℕ → S → Symbol C → Step S) (finish : S → Option T) (start : S) where
-  abbrev run : ℕ → S → List (Symbol C) → Result C S
+  abbrev pub run : ℕ → S → List (Symbol C) → Result C S
   run n s xs = runBy step n s xs
 
   abbrev read : ℕ → List (Symbol C) → Verdict C T
@@ -70,7 +79,7 @@ module _ {C S T : Type 0} (Derives : T → List (Symbol C) → Type 0) (levels :
     pub steady : (n : ℕ) (s : S) (x : Symbol C) → Steady n (λ m. step m s x) (step n s x)
 
   -- with at least `n` levels these symbols lead from one state to another
-  abbrev Leads : ℕ → S → List (Symbol C) → S → Type 0
+  abbrev pub Leads : ℕ → S → List (Symbol C) → S → Type 0
   Leads n s p s′ = (m : ℕ) → n ≤ m → (zs : List (Symbol C)) → run m s (p ++ zs) ≡ run m s′ zs
 
   record Stuck (n : ℕ) (s : S) (xs : List (Symbol C)) (why : Refusal) (rest : List (Symbol C)) : Type 0 where
@@ -192,3 +201,61 @@ module _ {C S T : Type 0} (Derives : T → List (Symbol C) → Type 0) (levels :
         let a : read (max (levels t) (levels u)) xs ≡ accepted t = M .complete (max (levels t) (levels u)) t xs d (omega arith) in
         let b : read (max (levels t) (levels u)) xs ≡ accepted u = M .complete (max (levels t) (levels u)) u xs e (omega arith) in
         cc
+
+    -- ---- what could stand behind symbols that the machine has taken
+
+    -- a symbol that the machine takes goes on ..
+    pub taken-goes-on : (n : ℕ) (p : List (Symbol C)) (s s′ : S) (x : Symbol C) → Leads n start p s → step n s x ≡ go s′ → GoesOn Derives levels (AtMost n) (upTo p x)
+    taken-goes-on n p s s′ x f e = goes-on n (upTo p x) s′ (leads-on n p s s′ x (f n (omega arith)) e)
+
+    -- .. and one at which it stops does not
+    pub stopped-goes-off : (n : ℕ) (p : List (Symbol C)) (s : S) (x : Symbol C) (why : Refusal) → Leads n start p s → step n s x ≡ stop why → GoesOn Derives levels (AtMost n) (upTo p x) → ⊥
+    stopped-goes-off n p s x why f e = goes-off n n p s x why (omega arith) f e
+
+    -- symbols with which a list goes on lead to a state
+    led-by : (n : ℕ) (p : List (Symbol C)) (r : Result C S) → Comes n start p r → GoesOn Derives levels (AtMost n) p → (s : S) × Leads n start p s
+    led-by n p (ended s) c g = (s, c)
+    led-by n p (stopped why rest) c g = absurd (refused-whole Derives levels n (first-of n p why rest c) g)
+
+    pub led : (n : ℕ) (p : List (Symbol C)) (x : Symbol C) → GoesOn Derives levels (AtMost n) (upTo p x) → (s : S) × Leads n start p s
+    led n p x g =
+        led-by n p (run n start p) (comes n start p)
+        record { more = x ∷ g .more; derivation = g .derivation; derived = rw (append-assoc p (x ∷ []) (g .more)) at (g .derived); counted = g .counted }
+
+    -- the verdict on the symbols that lead to a state
+    read-led : (n : ℕ) (p : List (Symbol C)) (s : S) → Leads n start p s → read n p ≡ atEnd (finish s)
+    read-led n p s f = ap (read n) (sym (append-nil p)) ∙ ap (verdictBy finish) (f n (omega arith) [])
+
+    -- the end may stand there exactly if the state is the end of a derivation
+    pub ended-derives : (n : ℕ) (p : List (Symbol C)) (s : S) (t : T) → Leads n start p s → finish s ≡ some t → Derives t p × (levels t ≤ n)
+    ended-derives n p s t f e = M .sound n t p (read-led n p s f ∙ ap atEnd e)
+
+    pub unended-derives : (n : ℕ) (p : List (Symbol C)) (s : S) (t : T) → Leads n start p s → finish s ≡ none → Derives t p → levels t ≤ n → ⊥
+    unended-derives n p s t f e d v =
+        let a : read n p ≡ accepted t = M .complete n t p d v in
+        let b : read n p ≡ refused unfinished [] = read-led n p s f ∙ ap atEnd e in
+        let z : _≡_ {A = ℕ} 0 1 = cc in
+        omega arith
+
+    -- the state in which a run stops, or ends
+    pub record Stood (n : ℕ) (s : S) (xs rest : List (Symbol C)) : Type 0 where
+      pub before : List (Symbol C)
+      pub splits : xs ≡ before ++ rest
+      pub leads : Leads n s before (standsBy step n s xs)
+
+    stood-step : (n : ℕ) (s : S) (x : Symbol C) (xs rest : List (Symbol C)) (why : Refusal) (st : Step S) → step n s x ≡ st → Steady n (λ m. step m s x) st
+        → verdictBy finish (after st (λ s′. run n s′ xs) (x ∷ xs)) ≡ refused why rest
+        → ((s′ : S) → verdictBy finish (run n s′ xs) ≡ refused why rest → Stood n s′ xs rest) → Stood n s (x ∷ xs) rest
+    stood-step n s x xs rest why (go s′) q e v f =
+        let a = f s′ v in
+        record { before = x ∷ a .before; splits = ap (λ l. x ∷ l) (a .splits); leads = λ m h zs. rw (e m h, q) (a .leads m h zs) }
+    stood-step n s x xs rest why (stop w) q e v f = record { before = []; splits = cc; leads = λ m h zs. rw q refl }
+
+    stood-end : (n : ℕ) (s : S) (why : Refusal) (rest : List (Symbol C)) (o : Option T) → atEnd o ≡ refused why rest → Stood n s [] rest
+    stood-end n s why rest none v = record { before = []; splits = cc; leads = λ m h zs. refl }
+    stood-end n s why rest (some t) v = let z : _≡_ {A = ℕ} 0 1 = cc in absurd (omega arith)
+
+    -- a refused run stands before the refused place
+    pub stood : (n : ℕ) (s : S) (xs rest : List (Symbol C)) (why : Refusal) → verdictBy finish (run n s xs) ≡ refused why rest → Stood n s xs rest
+    stood n s [] rest why v = stood-end n s why rest (finish s) v
+    stood n s (x ∷ xs) rest why v = stood-step n s x xs rest why (step n s x) refl (M .steady n s x) v (λ s′. stood n s′ xs rest why)

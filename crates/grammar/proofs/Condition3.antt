@@ -29,11 +29,11 @@ answer limit xs = asRows (read limit xs)
 
 -- ---- what is right of trees is right of derivations
 
-goes-on-row : (Levels : ℕ → Type 0) (xs : List Sym) → GoesOn DerivedTree listLevels Levels xs → GoesOn DerivedList levels Levels xs
+pub goes-on-row : (Levels : ℕ → Type 0) (xs : List Sym) → GoesOn DerivedTree listLevels Levels xs → GoesOn DerivedList levels Levels xs
 goes-on-row Levels xs g =
     record { more = g .more; derivation = asRow (g .derivation); derived = row-derived (g .derived); counted = rw row-levels (g .counted) }
 
-goes-on-tree : (Levels : ℕ → Type 0) (xs : List Sym) → GoesOn DerivedList levels Levels xs → GoesOn DerivedTree listLevels Levels xs
+pub goes-on-tree : (Levels : ℕ → Type 0) (xs : List Sym) → GoesOn DerivedList levels Levels xs → GoesOn DerivedTree listLevels Levels xs
 goes-on-tree Levels xs g =
     let (l, e, d) = tree-derived (g .derived) in
     record { more = g .more; derivation = l; derived = d; counted = rw row-levels at (rw e at (g .counted)) }

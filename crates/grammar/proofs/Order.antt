@@ -82,7 +82,7 @@ word-lies : (w : Word) (from to : ℕ) (xs : List Sym) → InOrder from to (word
 word-lies (atomWord t) from to xs h = (h .0, omega (arith, h .1), h .2)
 word-lies (quotedWord t) from to xs h = (h .0, omega (arith, h .1), h .2)
 
-phrase-lies : (p : Phrase) (from to : ℕ) (xs : List Sym) → InOrder from to (phraseThen p xs)
+pub phrase-lies : (p : Phrase) (from to : ℕ) (xs : List Sym) → InOrder from to (phraseThen p xs)
     → (from ≤ phraseStart p) × (phraseStart p < phraseEnd p) × InOrder (phraseEnd p) to xs
 phrase-lies (one w) from to xs h = word-lies w from to xs h
 phrase-lies (more p w) from to xs h =
@@ -90,7 +90,7 @@ phrase-lies (more p w) from to xs h =
     let g = word-lies w (phraseEnd p) to xs (f .2) in
     (f .0, omega (arith, f .1, g .0, g .1), g .2)
 
-nodes-lies : (m : Nodes) (from to : ℕ) (xs : List Sym) → InOrder from to (nodesThen m xs) → (from + 2 ≤ nodesEnd m) × InOrder (nodesEnd m) to xs
+pub nodes-lies : (m : Nodes) (from to : ℕ) (xs : List Sym) → InOrder from to (nodesThen m xs) → (from + 2 ≤ nodesEnd m) × InOrder (nodesEnd m) to xs
 nodes-lies (first t w) from to xs h =
     let g = word-lies w (t .end) to xs (h .2) in
     (omega (arith, h .0, h .1, g .0, g .1), g .2)
@@ -100,7 +100,7 @@ nodes-lies (next m t w) from to xs h =
     (omega (arith, f .0, f .1 .0, f .1 .1, g .0, g .1), g .2)
 
 -- a name, and the mark behind it
-name-lies : (o : Option Phrase) (from to : ℕ) (x : Sym) (xs : List Sym) → InOrder from to (nameThen o (x ∷ xs))
+pub name-lies : (o : Option Phrase) (from to : ℕ) (x : Sym) (xs : List Sym) → InOrder from to (nameThen o (x ∷ xs))
     → (from ≤ nameStart o (x .lexeme)) × (nameStart o (x .lexeme) ≤ nameEnd o (x .lexeme)) × (nameEnd o (x .lexeme) ≤ x .lexeme .start)
     × (x .lexeme .start + leastBytes (x .class) ≤ x .lexeme .end) × InOrder (x .lexeme .end) to xs
 name-lies none from to x xs h = (h .0, omega arith, omega arith, h .1, h .2)

@@ -1,14 +1,15 @@
 -- Records stored in a table: the numbers of one, one behind others, and one in front of those that lie in its address. Assumes nothing.
 use mathlib.Core.Path.{_≡_, refl, sym, ap, _∙_}
 use mathlib.Core.List.{List, _∷_}
-use Prim.Native.Nat.{ℕ, suc, _+_, _*_}
+use Prim.Native.Nat.{ℕ, suc, _+_, _*_, _≤_}
 use native.Mathlib.Omega.{arith}
 use lib.ListN.{length, set, length-append}
 use lib.Seq.{sets}
 use Rattle.octets.specs.Numbers.{addressRecordSize}
-use Rattle.octets.specs.Stored.{bytesOf}
+use Rattle.octets.specs.Stored.{bytesOf, numberAt}
 use Rattle.octets.proofs.Parts.{sets-append, sets-behind-first}
-use Rattle.grammar.specs.Records.{AddressRecord, recordBy, recordBytes, tableBytes}
+use Rattle.octets.proofs.StoredLaws.{number-out}
+use Rattle.grammar.specs.Records.{AddressRecord, recordBy, noRecord, recordBytes, tableBytes, recordFrom}
 use Rattle.grammar.proofs.Records.{length-tableBytes, tableBytes-append}
 use Rattle.grammar.proofs.Trees.{Place, empty, comma, AddressList, idle, full, Address, mailbox, angle, group, quoted, typed}
 use Rattle.grammar.proofs.TreeRecords.{placeCount, listCount, addressCount, placeRecords, listRecords, insideRecords, addressRecords}
@@ -27,6 +28,12 @@ record-stored t at kind depth parent start end nameStart nameEnd e₁ e₂ e₃ 
     let n₁₀ : at + 10 ≡ suc (suc (suc (suc (suc (suc (suc (suc (suc (suc at))))))))) = omega arith in
     e₇ ∙ rw (e₆, e₅, e₄, e₃, e₂, e₁, n₁₀, n₈, n₆, n₄, n₂, n₁)
 
+-- past the end of a table stand zeros
+pub record-out : (t : List ℕ) (at : ℕ) → length t ≤ at → recordFrom t at ≡ noRecord
+record-out t at h =
+    let out : (width k : ℕ) → numberAt width t (at + k) ≡ 0 = λ width k. number-out width t (at + k) (omega arith) in
+    rw (number-out 1 t at h, out 1 1, out 2 2, out 2 4, out 2 6, out 2 8, out 2 10)
+
 -- ---- as many records as addresses
 
 mutual
@@ -34,11 +41,11 @@ mutual
   place-length empty d p i = refl
   place-length (comma l t) d p i = list-length l d p i
 
-  list-length : (l : AddressList) (d p i : ℕ) → length (listRecords l d p i) ≡ listCount l
+  pub list-length : (l : AddressList) (d p i : ℕ) → length (listRecords l d p i) ≡ listCount l
   list-length (idle r) d p i = place-length r d p i
   list-length (full r a) d p i = simp length-append (omega (arith, place-length r d p i, inside-length a (suc d) (suc (i + placeCount r))))
 
-  inside-length : (a : Address) (d i : ℕ) → suc (length (insideRecords a d i)) ≡ addressCount a
+  pub inside-length : (a : Address) (d i : ℕ) → suc (length (insideRecords a d i)) ≡ addressCount a
   inside-length (mailbox p m) d i = refl
   inside-length (angle o t l u) d i = omega (arith, list-length l d i i)
   inside-length (group o t l u) d i = omega (arith, list-length l d i i)

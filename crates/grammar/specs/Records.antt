@@ -1,9 +1,9 @@
 -- Document 01, "Addresses": the records of a derivation, over any grammar that makes records, and their bytes.
-use Prim.Native.Nat.{ℕ, zero, suc, _+_}
+use Prim.Native.Nat.{ℕ, zero, suc, _+_, _*_}
 use mathlib.Core.List.{List, [], _∷_, _++_}
 use mathlib.Core.Option.{Option, none, some}
-use Rattle.octets.specs.Numbers.{numberWidth}
-use Rattle.octets.specs.Stored.{bytesOf}
+use Rattle.octets.specs.Numbers.{addressRecordSize, numberWidth}
+use Rattle.octets.specs.Stored.{bytesOf, numberAt}
 use Rattle.scanner.specs.Symbols.{Symbol}
 use Rattle.grammar.specs.Grammar.{Makes, Row, nil, leaf, branch, yield}
 use Rattle.grammar.specs.Language.{positionOf}
@@ -22,6 +22,10 @@ pub record AddressRecord : Type 0 where
 abbrev pub recordBy : ℕ → ℕ → ℕ → ℕ → ℕ → ℕ → ℕ → AddressRecord
 recordBy kind depth parent start end nameStart nameEnd =
     record { kind = kind; depth = depth; parent = parent; start = start; end = end; nameStart = nameStart; nameEnd = nameEnd }
+
+-- .. of zeros: what is read past the records
+abbrev pub noRecord : AddressRecord
+noRecord = recordBy 0 0 0 0 0 0 0
 
 -- ---- of symbols
 
@@ -104,3 +108,12 @@ recordBytes r =
 abbrev pub tableBytes : List AddressRecord → List ℕ
 tableBytes [] = []
 tableBytes (r ∷ rs) = recordBytes r ++ tableBytes rs
+
+-- the record in the bytes of a table from a place on; past its end stand zeros
+abbrev pub recordFrom : List ℕ → ℕ → AddressRecord
+recordFrom table at =
+    recordBy (numberAt 1 table at) (numberAt 1 table (at + 1)) (numberAt 2 table (at + 2)) (numberAt 2 table (at + 4)) (numberAt 2 table (at + 6)) (numberAt 2 table (at + 8)) (numberAt 2 table (at + 10))
+
+-- the record with a number in a table
+abbrev pub recordIn : List ℕ → ℕ → AddressRecord
+recordIn table number = recordFrom table (number * addressRecordSize)

@@ -11,7 +11,7 @@ use lib.Dec.{ltb}
 use lib.ListN.{length, getD}
 use lib.Seq.{sets}
 use lib.IntN.{ℤ}
-use Rattle.octets.specs.Numbers.{addressRecordSize, tooLittleRoom}
+use Rattle.octets.specs.Numbers.{addressRecordSize, tableRecords, tooLittleRoom}
 use Rattle.octets.specs.Octets.{lineFeedByte}
 use Rattle.octets.specs.Text.{bytes}
 use Rattle.octets.specs.Writing.{WroteBy}
@@ -22,33 +22,24 @@ use Rattle.header.specs.Names.{holdsAddresses}
 use Rattle.header.specs.declared.names.Known.{Known}
 use Rattle.header.specs.declared.names.Known.the-variants as known
 use Rattle.header.proofs.names.Known.{the-type}
-use Rattle.grammar.specs.Records.{AddressRecord, count, records, tableBytes}
+use Rattle.grammar.specs.Records.{noRecord, count, records, tableBytes, recordIn}
 use Rattle.grammar.specs.Rfc733.{Derivation}
 use Rattle.grammar.proofs.Records.{length-records}
 use Rattle.addresses.specs.Outcome.{Outcome, derived, outcomeBy, outcome}
 use Rattle.addresses.proofs.Judgements.{ListBody, Judged, refusedAt, listed as list-body, listed-outcome, judged}
-use Rattle.addresses.proofs.RecordsRead.{Stands, noRecord, records-stand}
+use Rattle.addresses.proofs.RecordsRead.{record-read}
 use Rattle.dates.specs.declared.DateAnswer.{DateAnswer}
 use Rattle.dates.specs.declared.DateAnswer.the-variants as date
 use Rattle.listing.specs.Lines.{signed, addressLine, refusedLine}
-use Rattle.listing.specs.Listing.{tableRecords, each, listed, unlessRefused, addressBody, dateText, otherBody, body}
-use Rattle.listing.specs.Putting.{tabulate, addressIn}
+use Rattle.listing.specs.Listing.{each, listed, unlessRefused, addressBody, dateText, otherBody, body}
+use Rattle.listing.specs.Putting.{tabulate}
 use Rattle.listing.proofs.TableLaws.{tabulated}
-
--- a record that stands in a table is the one in it
-address-is : (table : List ℕ) (i : ℕ) (r : AddressRecord) → Stands table (i * addressRecordSize) r → addressIn table i ≡ r
-address-is table i r s =
-    let at = i * addressRecordSize in
-    let six : at + 4 + 2 ≡ at + 6 = omega arith in
-    let eight : at + 4 + 4 ≡ at + 8 = omega arith in
-    let ten : at + 4 + 6 ≡ at + 10 = omega arith in
-    rw (six, eight, ten, s .kind, s .depth, s .parent, s .start, s .end, s .name-start, s .name-end)
 
 module _ (message : List ℕ) (start end : ℕ) (table : List ℕ) (size : 24576 ≡ length table) where
   -- what the reader's answer says of what is printed
   abbrev pub Printed : Answer → List ℕ → Type 0
   Printed (Accepted many) after =
-      (many ≤ tableRecords) × ((rest : List ℕ) → each addressLine (tabulate (addressIn after) many 0) rest ≡ addressBody message start end rest)
+      (many ≤ tableRecords) × ((rest : List ℕ) → each addressLine (tabulate (recordIn after) many 0) rest ≡ addressBody message start end rest)
   Printed (Refused number position) after = (rest : List ℕ) → refusedLine number position rest ≡ addressBody message start end rest
   Printed (NoRoom needed) after = (rest : List ℕ) → refusedLine tooLittleRoom 0 rest ≡ addressBody message start end rest
 
@@ -62,12 +53,12 @@ module _ (message : List ℕ) (start end : ℕ) (table : List ℕ) (size : 24576
   room-is = rw (← size)
 
   -- the records in the table are those of the list
-  records-in : (k : Derivation) → ListBody message start end k → count k ≤ tableRecords → tabulate (addressIn (sets table 0 (tableBytes (records k)))) (count k) 0 ≡ records k
+  records-in : (k : Derivation) → ListBody message start end k → count k ≤ tableRecords → tabulate (recordIn (sets table 0 (tableBytes (records k)))) (count k) 0 ≡ records k
   records-in k b h =
       let n : count k ≡ length (records k) = sym (length-records k) in
-      ap (λ m. tabulate (addressIn (sets table 0 (tableBytes (records k)))) m 0) n
-      ∙ tabulated (addressIn (sets table 0 (tableBytes (records k)))) (records k) noRecord 0
-      (λ i l. let z : 0 + i ≡ i = omega arith in rw z (address-is _ i _ (records-stand b table (omega (arith, size)) i (omega arith))))
+      ap (λ m. tabulate (recordIn (sets table 0 (tableBytes (records k)))) m 0) n
+      ∙ tabulated (recordIn (sets table 0 (tableBytes (records k)))) (records k) noRecord 0
+      (λ i l. let z : 0 + i ≡ i = omega arith in rw z (record-read b table (omega (arith, size)) i (omega arith)))
 
   -- what is printed of a list
   of-list : (k : Derivation) → ListBody message start end k → (rest : List ℕ) (o : Outcome) → listed rest k ≡ o → text-of o ≡ addressBody message start end rest

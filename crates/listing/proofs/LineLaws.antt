@@ -2,14 +2,16 @@
 use mathlib.Core.Path.{_≡_}
 use mathlib.Core.List.{List, [], _∷_, _++_}
 use Prim.Native.Nat.{ℕ, _+_, _*_}
+use native.Mathlib.Omega.{arith}
 use Rattle.octets.specs.Numbers.{fieldRecordSize, addressRecordSize}
 use Rattle.octets.specs.Octets.{lineFeedByte}
 use Rattle.octets.specs.Stored.{numberAt}
 use Rattle.octets.specs.Text.{bytes}
 use Rattle.octets.specs.Writing.{WroteBy}
 use Rattle.octets.proofs.Writes.{wrote-both}
+use Rattle.grammar.specs.Records.{recordIn}
 use Rattle.listing.specs.Lines.{spaced, fieldLine, addressLine, refusedLine}
-use Rattle.listing.specs.Putting.{number, four, fieldIn, addressIn}
+use Rattle.listing.specs.Putting.{number, four, fieldIn}
 
 -- the end of a line
 abbrev ending : List ℕ → List ℕ
@@ -56,11 +58,15 @@ module _ {store : List ℕ → ℕ → List ℕ → List ℕ} where
   pub address-line : (table : List ℕ) (i : ℕ) {x y z : ℕ} {o p q r s t u : List ℕ} {n a b c d e f : ℕ}
       → x ≡ numberAt 1 table (i * addressRecordSize) → y ≡ numberAt 1 table (i * addressRecordSize + 1) → z ≡ numberAt 2 table (i * addressRecordSize + 2)
       → WroteBy store (word (bytes "address")) o n p a → WroteBy store (number x) p a q b → WroteBy store (number y) q b r c → WroteBy store (number z) r c s d
-      → WroteBy store (four table (i * addressRecordSize + 4)) s d t e → WroteBy store ending t e u f → WroteBy store (addressLine (addressIn table i)) o n u f
+      → WroteBy store (four table (i * addressRecordSize + 4)) s d t e → WroteBy store ending t e u f → WroteBy store (addressLine (recordIn table i)) o n u f
   unfolding spaced
   address-line table i g h k w x y z v e =
       let at = i * addressRecordSize in
-      wrote-both {f = word (bytes "address")}
+      let six : at + 4 + 2 ≡ at + 6 = omega arith in
+      let eight : at + 4 + 4 ≡ at + 8 = omega arith in
+      let ten : at + 4 + 6 ≡ at + 10 = omega arith in
+      rw (← six, ← eight, ← ten)
+      (wrote-both {f = word (bytes "address")}
       {g = λ rest. number (numberAt 1 table at) (number (numberAt 1 table (at + 1)) (number (numberAt 2 table (at + 2)) (number (numberAt 2 table (at + 4)) (number (numberAt 2 table (at + 4 + 2)) (number (numberAt 2 table (at + 4 + 4)) (number (numberAt 2 table (at + 4 + 6)) (ending rest)))))))}
       w
       (wrote-both {f = number (numberAt 1 table at)} {g = λ rest. number (numberAt 1 table (at + 1)) (number (numberAt 2 table (at + 2)) (number (numberAt 2 table (at + 4)) (number (numberAt 2 table (at + 4 + 2)) (number (numberAt 2 table (at + 4 + 4)) (number (numberAt 2 table (at + 4 + 6)) (ending rest))))))}
@@ -69,4 +75,4 @@ module _ {store : List ℕ → ℕ → List ℕ → List ℕ} where
       (wrote-number h y)
       (wrote-both {f = number (numberAt 2 table (at + 2))} {g = λ rest. number (numberAt 2 table (at + 4)) (number (numberAt 2 table (at + 4 + 2)) (number (numberAt 2 table (at + 4 + 4)) (number (numberAt 2 table (at + 4 + 6)) (ending rest))))}
       (wrote-number k z)
-      (wrote-both {f = λ rest. number (numberAt 2 table (at + 4)) (number (numberAt 2 table (at + 4 + 2)) (number (numberAt 2 table (at + 4 + 4)) (number (numberAt 2 table (at + 4 + 6)) rest)))} {g = ending} v e))))
+      (wrote-both {f = λ rest. number (numberAt 2 table (at + 4)) (number (numberAt 2 table (at + 4 + 2)) (number (numberAt 2 table (at + 4 + 4)) (number (numberAt 2 table (at + 4 + 6)) rest)))} {g = ending} v e)))))

@@ -5,7 +5,7 @@ use Prim.Native.Nat.{ℕ, _+_, _*_, _/_, _≤_, _<_}
 use native.Mathlib.Omega.{arith}
 use lib.ListN.{length, getD, drop}
 use lib.Seq.{sets}
-use Rattle.octets.specs.Numbers.{fieldRecordSize}
+use Rattle.octets.specs.Numbers.{fieldRecordSize, tableRecords}
 use Rattle.octets.specs.Writing.{WroteBy, inWindow}
 use Rattle.octets.proofs.Writes.{nothing-more, window-all}
 use Rattle.octets.specs.declared.answers.Answer.{Answer}
@@ -14,7 +14,6 @@ use Rattle.header.specs.Fields.{Field, fieldsOf, headerOf}
 use Rattle.header.specs.Split.{answerFor, splitAnswer, splitTable}
 use Rattle.header.proofs.FieldLaws.{noField, fields-ordered}
 use Rattle.header.proofs.ReadBack.{Stands, accept}
-use Rattle.listing.specs.Listing.{tableRecords}
 use Rattle.listing.specs.Putting.{tabulate, fieldIn, Named, Holds, Fits}
 use Rattle.listing.proofs.TableLaws.{tabulated}
 

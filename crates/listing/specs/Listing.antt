@@ -3,7 +3,7 @@ use Prim.Native.Nat.{ℕ}
 use mathlib.Core.List.{List, [], _∷_}
 use lib.Dec.{ltb}
 use Rattle.octets.specs.Choice.{pick}
-use Rattle.octets.specs.Numbers.{tooLittleRoom}
+use Rattle.octets.specs.Numbers.{tableRecords, tooLittleRoom}
 use Rattle.octets.specs.Text.{part}
 use Rattle.octets.specs.declared.answers.Answer.{Answer}
 use Rattle.octets.specs.declared.answers.Answer.the-variants.{Accepted, Refused, NoRoom}
@@ -19,10 +19,6 @@ use Rattle.dates.specs.Answers.{dateAnswer}
 use Rattle.dates.specs.declared.DateAnswer.{DateAnswer}
 use Rattle.dates.specs.declared.DateAnswer.the-variants as date
 use Rattle.listing.specs.Lines.{fieldLine, addressLine, dateLine, refusedLine}
-
--- the program's tables hold 2,048 records each
-abbrev pub tableRecords : ℕ
-tableRecords = 2048
 
 -- the texts of things, one behind the other
 unfoldable pub each : {A : Type 0} → (A → List ℕ → List ℕ) → List A → List ℕ → List ℕ

@@ -3,15 +3,13 @@ use mathlib.Core.Path.{_≡_}
 use Prim.Native.Nat.{ℕ, zero, suc, _+_, _*_, _≤_, _<_}
 use mathlib.Core.List.{List, [], _∷_}
 use lib.ListN.{length}
-use Rattle.octets.specs.Numbers.{fieldRecordSize, addressRecordSize}
+use Rattle.octets.specs.Numbers.{fieldRecordSize, tableRecords}
 use Rattle.octets.specs.Octets.{spaceByte}
 use Rattle.octets.specs.Stored.{numberAt}
 use Rattle.octets.specs.declared.answers.Answer.{Answer}
 use Rattle.octets.specs.declared.answers.Answer.the-variants.{Accepted, Refused, NoRoom}
 use Rattle.header.specs.Fields.{Field, fieldOf, fieldsOf, headerOf}
-use Rattle.grammar.specs.Records.{AddressRecord}
 use Rattle.listing.specs.Lines.{decimal}
-use Rattle.listing.specs.Listing.{tableRecords}
 
 -- ---- bounds of what is put
 
@@ -52,20 +50,6 @@ abbrev pub fieldIn : List ℕ → ℕ → Field
 fieldIn table i =
     let at = i * fieldRecordSize in
     fieldOf (numberAt 2 table at) (numberAt 2 table (at + 2)) (numberAt 2 table (at + 4)) (numberAt 2 table (at + 6))
-
--- the address of a record of a table
-abbrev pub addressIn : List ℕ → ℕ → AddressRecord
-addressIn table i =
-    let at = i * addressRecordSize in
-    record {
-      kind = numberAt 1 table at;
-      depth = numberAt 1 table (at + 1);
-      parent = numberAt 2 table (at + 2);
-      start = numberAt 2 table (at + 4);
-      end = numberAt 2 table (at + 4 + 2);
-      nameStart = numberAt 2 table (at + 4 + 4);
-      nameEnd = numberAt 2 table (at + 4 + 6);
-    }
 
 -- ---- what a table of fields holds
 

@@ -6,12 +6,14 @@ ghost use mathlib.Core.List.{[], _∷_, _++_};
 ghost use Prim.Native.Nat.{_+_, _*_, _≤_, _<_};
 ghost use lib.ListN.{length, drop};
 ghost use lib.Seq.{sets};
+ghost use Rattle.octets.specs.Numbers.{tableRecords};
 ghost use Rattle.octets.specs.Text.{part};
+ghost use Rattle.grammar.specs.Records.{recordIn};
 ghost use Rattle.octets.specs.Writing.{countLimit, WroteBy, inWindow};
 ghost use Rattle.header.specs.Names.{knownOf};
 ghost use Rattle.listing.specs.Lines.{decimal, signed as signedText, addressLine, refusedLine};
-ghost use Rattle.listing.specs.Listing.{tableRecords, each, addressBody, dateText, body as bodyText, fieldText, headerText, listing};
-ghost use Rattle.listing.specs.Putting.{lineLimit, bodyLimit, fieldLimit, listingLimit, tabulate, number as numberText, four, fieldIn, addressIn, Named, AllNamed, Fits};
+ghost use Rattle.listing.specs.Listing.{each, addressBody, dateText, body as bodyText, fieldText, headerText, listing};
+ghost use Rattle.listing.specs.Putting.{lineLimit, bodyLimit, fieldLimit, listingLimit, tabulate, number as numberText, four, fieldIn, Named, AllNamed, Fits};
 ghost use Rattle.dates.specs.Answers.{dateAnswer};
 use addresses::read_addresses;
 use dates::DateAnswer;
@@ -130,7 +132,7 @@ fn put_refused(number: u8, position: usize, from: usize, out: &mut [u8], n: usiz
 // The line of an address record of a table.
 fn put_address(table: &[u8], i: usize, from: usize, out: &mut [u8], n: usize) -> usize
     requires { ⌜ (i < tableRecords) × (n + lineLimit ≤ countLimit) ⌝ }
-    ensures { λ r. ⌜ WroteBy (inWindow from) (addressLine (addressIn (now (table .entry)) i)) (now (out .entry)) n (now (out .exit)) r × (r ≤ n + lineLimit) ⌝ }
+    ensures { λ r. ⌜ WroteBy (inWindow from) (addressLine (recordIn (now (table .entry)) i)) (now (out .entry)) n (now (out .exit)) r × (r ≤ n + lineLimit) ⌝ }
 {
     let at = i * ADDRESS_RECORD_SIZE;
     let a = put_bytes(b"address", from, out, n);
@@ -144,7 +146,7 @@ fn put_address(table: &[u8], i: usize, from: usize, out: &mut [u8], n: usize) ->
 // The lines of the first address records of a table.
 fn put_addresses(table: &[u8], many: usize, from: usize, out: &mut [u8], n: usize) -> usize
     requires { ⌜ (many ≤ tableRecords) × (n + bodyLimit ≤ countLimit) ⌝ }
-    ensures { λ r. ⌜ WroteBy (inWindow from) (each addressLine (tabulate (addressIn (now (table .entry))) many 0)) (now (out .entry)) n (now (out .exit)) r × (r ≤ n + bodyLimit) ⌝ }
+    ensures { λ r. ⌜ WroteBy (inWindow from) (each addressLine (tabulate (recordIn (now (table .entry))) many 0)) (now (out .entry)) n (now (out .exit)) r × (r ≤ n + bodyLimit) ⌝ }
 {
     let mut i: usize = 0;
     let mut m = n;

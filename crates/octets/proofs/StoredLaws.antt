@@ -7,7 +7,7 @@ use native.Mathlib.Numerals.{add-one}
 use native.Mathlib.Omega.{arith}
 use mathlib.Core.Logic.{_↔_}
 use lib.Dec.{lit<}
-use lib.ListN.{length, getD, take, drop, set, length-append}
+use lib.ListN.{length, getD, take, drop, set, length-append, List·getD-eq-default}
 use lib.Seq.{sets, length-sets, drop-cons, sets-eq, take-at, drop-at, take-append-le, length-take-le}
 use Rattle.octets.proofs.Parts.{part-sets}
 use Rattle.octets.specs.Stored.{bytesOf, bytesAt, numberFrom, numberAt}
@@ -54,3 +54,8 @@ number-stored width table at x h k =
     let n : length (bytesOf width x) ≡ width = length-bytesOf width x in
     let b : bytesAt width (sets table at (bytesOf width x)) at ≡ bytesOf width x = rw n at (bytes-stored (bytesOf width x) table at (rw n h)) in
     rw b (number-bytesOf width x k)
+
+-- past the end of a table stand zeros
+pub number-out : (width : ℕ) (table : List ℕ) (at : ℕ) → length table ≤ at → numberAt width table at ≡ 0
+number-out zero table at h = refl
+number-out (suc width) table at h = rw (List·getD-eq-default {A = ℕ} table 0 {n = at} h) (number-out width table (at + 1) (omega arith))

@@ -17,6 +17,10 @@ fieldRecordSize = 8
 abbrev pub addressRecordSize : ℕ
 addressRecordSize = 12
 
+-- the records that a table holds which the program or a tool keeps itself
+abbrev pub tableRecords : ℕ
+tableRecords = 2048
+
 -- the bytes of a position, and of any other number of a record but kind and depth
 abbrev pub numberWidth : ℕ
 numberWidth = 2

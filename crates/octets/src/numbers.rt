@@ -8,6 +8,8 @@ pub const LEVEL_LIMIT: usize = 64;
 pub const FIELD_RECORD_SIZE: usize = 8;
 // The bytes of an address record.
 pub const ADDRESS_RECORD_SIZE: usize = 12;
+// The records of a table that the program or a tool keeps itself.
+pub const TABLE_RECORDS: usize = 2048;
 
 pub const ACCEPTED: u8 = 0;
 

@@ -1,4 +1,4 @@
-// Numbers stored in two bytes, high byte first.
+// Numbers stored in two bytes, high byte first, and numbers stored in an array.
 ghost use mathlib.Core.Path.{_≡_};
 ghost use lib.ListN.{set};
 ghost use lib.Seq.{sets};
@@ -22,6 +22,15 @@ pub fn store_two(table: &mut [u8], at: usize, x: usize)
     }
     store_byte(table, at, (x / 256 % 256) as u8);
     store_byte(table, at + 1, (x % 256) as u8);
+}
+
+// Store a number at a place of an array; past the end nothing is stored.
+pub fn store_number(array: &mut [u64], at: usize, n: u64)
+    ensures { λ _. ⌜ now (array .exit) ≡ set (now (array .entry)) at n ⌝ }
+{
+    if at < array.len() {
+        array[at] = n;
+    }
 }
 
 // The byte at a place; past the end stands 0.

@@ -1,20 +1,23 @@
 -- The checks before a body is looked at, number 1 and then number 13, and the first fault of scanning. Assumes nothing.
-use mathlib.Core.Path.{_≡_, refl}
+use mathlib.Core.Path.{_≡_, refl, _∙_}
+use mathlib.Core.Bool.{Bool, true, false}
 use mathlib.Core.List.{List, [], _∷_}
 use Prim.Native.Nat.{ℕ, _≤_, _<_}
+use native.Mathlib.Decide.{decLt}
 use native.Mathlib.Omega.{arith}
 use borrow.Author.Tests.{lt-ltb, le-ltb}
 use lib.Dec.{ltb}
-use lib.ListN.{length}
+use lib.ListN.{length, take}
 use types.Run.{OneOf, miss}
 use denote.Enum.Declared.{tagOf}
+use Rattle.octets.specs.Choice.{pick, either}
 use Rattle.octets.specs.Numbers.{messageLimit, messageTooLong, bodyOutOfOrder}
 use Rattle.octets.specs.declared.answers.Answer.{Answer}
 use Rattle.octets.specs.declared.answers.Answer.the-variants.{Accepted, Refused}
 use Rattle.octets.proofs.answers.Answer.{the-type}
 use Rattle.octets.proofs.ChoiceLaws.{either-true}
-use Rattle.scanner.specs.Scanning.{Scanned, ended, next, faultAt}
-use Rattle.scanner.specs.Answers.{bodyChecked, unlessFault, faultOf}
+use Rattle.scanner.specs.Scanning.{Scanned, ended, next, faultAt, scan}
+use Rattle.scanner.specs.Answers.{bodyChecked, unlessFault, faultOf, bodyScanned}
 
 module _ {A : Type 0} (refused : ℕ → ℕ → A) (message : List ℕ) (start end : ℕ) (otherwise : A) where
   pub too-long : messageLimit < length message → bodyChecked refused message start end otherwise ≡ refused messageTooLong messageLimit
@@ -46,9 +49,60 @@ module _ {A : Type 0} (refused : ℕ → ℕ → A) where
   unless-none (next x rest) otherwise e = unless-none rest otherwise e
   unless-none (faultAt n p) otherwise e = absurd (let z : _≡_ {A = ℕ} 0 1 = cc in omega arith)
 
+-- any but Refused
+abbrev pub NotRefused : Answer → Type 0
+NotRefused r = OneOf (0 ∷ 2 ∷ []) (tagOf the-type r)
+
+not-refused : {r : Answer} {number p : ℕ} → NotRefused r → r ≡ Refused number p → ⊥
+not-refused o e = miss (0 ∷ 2 ∷ []) 1 tt (rw e at o)
+
 -- a scan gives the first fault or none
-pub fault-or-none : (s : Scanned) (r : Answer) → r ≡ faultOf s → OneOf (0 ∷ 2 ∷ []) (tagOf the-type r) → faultOf s ≡ Accepted 0
+pub fault-or-none : (s : Scanned) (r : Answer) → r ≡ faultOf s → NotRefused r → faultOf s ≡ Accepted 0
 unfolding unlessFault
 fault-or-none ended r e o = refl
 fault-or-none (next x rest) r e o = fault-or-none rest r e o
-fault-or-none (faultAt n p) r e o = absurd (miss (0 ∷ 2 ∷ []) 1 tt (rw e at o))
+fault-or-none (faultAt n p) r e o = absurd (not-refused o e)
+
+-- ---- a body that `scan_body` has looked at
+
+-- it passes the checks and has no fault
+pub record Clean (message : List ℕ) (start end : ℕ) : Type 0 where
+  pub short : length message ≤ messageLimit
+  pub ordered : start ≤ end
+  pub inside : end ≤ length message
+  pub faultless : faultOf (scan (take end message) start) ≡ Accepted 0
+
+module _ (message : List ℕ) (start end : ℕ) where
+  -- it is not refused ..
+  pub clean : (r : Answer) → r ≡ bodyScanned message start end → NotRefused r → Clean message start end
+  clean r e o =
+      elim (decLt messageLimit (length message)) [
+        | yes h ↦ absurd (not-refused o (e ∙ too-long Refused message start end _ h))
+        | no h ↦ elim (decLt end start) [
+          | yes k ↦ absurd (not-refused o (e ∙ out-of-order Refused message start end _ (omega arith) k))
+          | no k ↦ elim (decLt (length message) end) [
+            | yes l ↦ absurd (not-refused o (e ∙ past-the-end Refused message start end _ (omega arith) l))
+            | no l ↦ record {
+              short = omega arith;
+              ordered = omega arith;
+              inside = omega arith;
+              faultless = fault-or-none _ r (e ∙ in-order Refused message start end _ (omega arith) (omega arith) (omega arith)) o;
+            }
+          ]
+        ]
+      ]
+
+  module _ {A : Type 0} (refused : ℕ → ℕ → A) (otherwise : A) where
+    -- .. so something else is answered
+    pub when-clean : Clean message start end → bodyChecked refused message start end (unlessFault refused (scan (take end message) start) otherwise) ≡ otherwise
+    when-clean x = in-order refused message start end _ (x .short) (x .ordered) (x .inside) ∙ unless-none refused (scan (take end message) start) otherwise (x .faultless)
+
+    by-tests : (a b : Bool) {number p : ℕ} (s : Scanned) → Refused number p ≡ pick a (Refused messageTooLong messageLimit) (pick b (Refused bodyOutOfOrder 0) (faultOf s))
+        → pick a (refused messageTooLong messageLimit) (pick b (refused bodyOutOfOrder 0) (unlessFault refused s otherwise)) ≡ refused number p
+    by-tests true b {number} {p} s e = let i : number ≡ messageTooLong = cc in let j : p ≡ messageLimit = cc in rw (i, j)
+    by-tests false true {number} {p} s e = let i : number ≡ bodyOutOfOrder = cc in let j : p ≡ 0 = cc in rw (i, j)
+    by-tests false false s e = unless-refused refused s otherwise e
+
+    -- it is refused, and so with the same number and position
+    pub when-refused : {number p : ℕ} → Refused number p ≡ bodyScanned message start end → bodyChecked refused message start end (unlessFault refused (scan (take end message) start) otherwise) ≡ refused number p
+    when-refused e = by-tests (ltb messageLimit (length message)) (either (ltb end start) (ltb (length message) end)) (scan (take end message) start) e

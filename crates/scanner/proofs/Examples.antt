@@ -24,7 +24,7 @@ pub data Right : List Row → Type 0 where
   none : Right []
   and : {r : Row} {rows : List Row} → scan (r .text) 0 ≡ r .scans → Right rows → Right (r ∷ rows)
 
-pub crlf : List ℕ
+unfoldable pub crlf : List ℕ
 crlf = 13 ∷ 10 ∷ []
 
 -- RFC 733's own: a comment in a comment, and "at" between comments

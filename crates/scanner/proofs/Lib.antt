@@ -8,3 +8,5 @@ pub mod Spans
 pub mod BodyChecks
 pub mod Examples
 pub mod FaultLaws
+pub mod CategoryLaws
+pub mod CategoryExamples

@@ -4,4 +4,5 @@ pub mod Kinds
 pub mod Characters
 pub mod Scanning
 pub mod Answers
+pub mod Categories
 pub mod Steps

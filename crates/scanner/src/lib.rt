@@ -7,9 +7,10 @@ ghost use mathlib.Core.List.{[]};
 ghost use lib.ListN.{length};
 ghost use Rattle.scanner.specs.Kinds.{kindOf};
 ghost use Rattle.scanner.specs.Characters.{foldAt, charactersAt};
-ghost use Rattle.scanner.specs.Scanning.{inQuoted, atomClass, scanFrom, scanBy};
+ghost use Rattle.scanner.specs.Scanning.{outside, inQuoted, atomClass, scanFrom, scanBy};
 ghost use Rattle.scanner.specs.Answers.{nextOf, nextInBody, faultOf, bodyScanned};
-ghost use Rattle.scanner.specs.Steps.{StepIs, AtomEnds, CommentIs, FaultsFrom};
+ghost use Rattle.scanner.specs.Categories.{ofSymbol, between, categoryOf, categoryAt};
+ghost use Rattle.scanner.specs.Steps.{StepIs, AtomEnds, CommentIs, FaultsFrom, Faultless};
 ghost use Rattle.octets.specs.Text.{part};
 use octets::answers::Answer;
 use octets::classes::CLASSES;
@@ -39,6 +40,16 @@ pub enum Next {
     Found(Class, usize, usize),
     Ended,
     Fault(u8, usize),
+}
+
+// What a byte of a body is: white space, comment, part of a word, "at", a bracket or mark, or nothing of these.
+pub enum Category {
+    White,
+    Comment,
+    Word,
+    At,
+    Mark,
+    Nothing,
 }
 
 // What the scanner tells apart in a byte.
@@ -314,4 +325,95 @@ pub fn scan_body(message: &[u8], start: usize, end: usize) -> Answer
     }
     let classes = &CLASSES;
     fault_by(classes, &message[..end], start)
+}
+
+// What each byte of the symbol is that stands from start to end.
+fn symbol_category(text: &[u8], class: Class, start: usize, end: usize) -> Category
+    requires { ⌜ (start ≤ end) × (end ≤ length (now text)) ⌝ }
+    ensures { λ r. ⌜ r ≡ ofSymbol class (part (now (text .entry)) start end) ⌝ }
+{
+    match class {
+        Class::Atom | Class::Quoted => Category::Word,
+        Class::At => {
+            let word = &text[start..end];
+            if octets::letters::same_letters(word, b"at") {
+                Category::At
+            } else {
+                Category::Mark
+            }
+        }
+        Class::Stray => Category::Nothing,
+        _ => Category::Mark,
+    }
+}
+
+// What the byte at a place is that lies between symbols, from the position behind the symbol before it on.
+fn between_by(classes: &[u8; 256], text: &[u8], at: usize, place: usize) -> Category
+    requires { ⌜ (at ≤ place) × Faultless (now classes) (now text) at ⌝ }
+    ensures { λ r. ⌜ r ≡ between (now (classes .entry)) place (charactersAt (now (text .entry)) at) outside ⌝ }
+{
+    let mut p = at;
+    loop {
+        let Step::Byte(kind, here, q) = character(classes, text, p) else {
+            return Category::Nothing;
+        };
+        match kind {
+            Kind::White => {
+                if place < q {
+                    return Category::White;
+                }
+                p = q;
+            }
+            Kind::Open => match comment_end(classes, text, here, q) {
+                Comment::Past(behind) => {
+                    if place < behind {
+                        return Category::Comment;
+                    }
+                    p = behind;
+                }
+                Comment::Open(_, _) => return Category::Nothing,
+            },
+            _ => return Category::Nothing,
+        }
+    }
+}
+
+// What the byte at a place of a text is that has no fault from a position on, by a table of classes that is handed on.
+fn category_by(classes: &[u8; 256], text: &[u8], at: usize, place: usize) -> Category
+    requires { ⌜ (at ≤ place) × Faultless (now classes) (now text) at ⌝ }
+    ensures { λ r. ⌜ r ≡ categoryOf (now (classes .entry)) (now (text .entry)) place at (scanBy (now (classes .entry)) (now (text .entry)) at) ⌝ }
+{
+    let mut p = at;
+    loop {
+        match next_by(classes, text, p) {
+            Next::Found(class, start, end) => {
+                if place < start {
+                    return between_by(classes, text, p, place);
+                }
+                if place < end {
+                    return symbol_category(text, class, start, end);
+                }
+                p = end;
+            }
+            Next::Ended => return between_by(classes, text, p, place),
+            Next::Fault(_, _) => return Category::Nothing,
+        }
+    }
+}
+
+// What the byte at a place of a message is, in the body from start up to end.
+pub fn category_at(message: &[u8], start: usize, end: usize, place: usize) -> Category
+    ensures { λ r. ⌜ r ≡ categoryAt (now (message .entry)) start end place ⌝ }
+{
+    if let Answer::Refused(_, _) = scan_body(message, start, end) {
+        return Category::Nothing;
+    }
+    if place < start {
+        return Category::Nothing;
+    }
+    if end <= place {
+        return Category::Nothing;
+    }
+    let classes = &CLASSES;
+    category_by(classes, &message[..end], start, place)
 }

@@ -8,7 +8,8 @@ use Rattle.octets.specs.Writing.{inWindow}
 use Rattle.octets.proofs.Writes.{LeftBy, left-all, left-as, left-after, left-none}
 use Rattle.listing.specs.Lines.{addressLine}
 use Rattle.listing.specs.Listing.{each}
-use Rattle.listing.specs.Putting.{lineLimit, tabulate, addressIn}
+use Rattle.listing.specs.Putting.{lineLimit, tabulate}
+use Rattle.grammar.specs.Records.{recordIn}
 use Rattle.listing.proofs.TableLaws.{each-all, each-next, each-none}
 use Rattle.listing.proofs.put_addresses.Statement.{statement}
 use Rattle.listing.proofs.put_addresses.Tie as tie
@@ -16,7 +17,7 @@ use Rattle.listing.proofs.put_addresses.Tie as tie
 abbrev Inv-loop : tie.InvT-loop
 Inv-loop table many from out₀ n i₀ m₀ out i m =
     (i ≤ many) × (m ≤ n + i * lineLimit) × (length out ≡ length out₀)
-    × LeftBy (inWindow from) out₀ n (each addressLine (tabulate (addressIn table) many 0)) out m (each addressLine (tabulate (addressIn table) (many - i) i))
+    × LeftBy (inWindow from) out₀ n (each addressLine (tabulate (recordIn table) many 0)) out m (each addressLine (tabulate (recordIn table) (many - i) i))
 
 abbrev μ-loop : tie.MeasureT-loop
 μ-loop table many from out₀ n i₀ m₀ out i m = many - i
@@ -24,7 +25,7 @@ abbrev μ-loop : tie.MeasureT-loop
 loop-holds : tie.Need-loop-holds Inv-loop μ-loop
 loop-holds c =
     let a = c .before .before .args in
-    (omega arith, omega arith, refl, left-as (left-all _ _ _) (λ rest. each-all addressLine (addressIn (a .table .now)) (a .many) 0 rest))
+    (omega arith, omega arith, refl, left-as (left-all _ _ _) (λ rest. each-all addressLine (recordIn (a .table .now)) (a .many) 0 rest))
 
 put-address-requires : tie.Need-put-address-requires Inv-loop μ-loop
 put-address-requires c κs = let l = c .before .before .loop in (omega arith, omega (arith, l .inv .0, l .inv .1))
@@ -43,7 +44,7 @@ loop-again c =
       omega arith,
       omega (arith, l .inv .1, w .ensures .1),
       w .kept .1 .1 .1 .0 ∙ l .inv .2,
-      left-after (l .inv .3) (λ rest. each-next addressLine (addressIn (a .table .now)) (a .many) (l .i) rest (omega arith)) (w .ensures .0),
+      left-after (l .inv .3) (λ rest. each-next addressLine (recordIn (a .table .now)) (a .many) (l .i) rest (omega arith)) (w .ensures .0),
     )
 
 same-length : tie.Need-same-length Inv-loop μ-loop
@@ -53,7 +54,7 @@ returns : tie.Need-returns Inv-loop μ-loop
 returns c =
     let a = c .before .before .before .before .args in
     let l = c .before .loop in
-    (left-none (l .inv .3) (λ rest. each-none addressLine (addressIn (a .table .now)) (a .many) (l .i) rest (omega arith)), omega (arith, l .inv .0, l .inv .1))
+    (left-none (l .inv .3) (λ rest. each-none addressLine (recordIn (a .table .now)) (a .many) (l .i) rest (omega arith)), omega (arith, l .inv .0, l .inv .1))
 
 pub put-addresses-spec : {M : Type 1} → statement M
 put-addresses-spec =

@@ -1,9 +1,9 @@
--- `capi::put` meets its contract. Assumes nothing.
+-- `octets::stored::store_number` meets its contract. Assumes nothing.
 use mathlib.Core.Path.{sym}
 use lib.Seq.{set-out}
 use borrow.Author.Needs.{needs}
-use Rattle.capi.proofs.put.Statement.{statement}
-use Rattle.capi.proofs.put.Tie as tie
+use Rattle.octets.proofs.stored.store_number.Statement.{statement}
+use Rattle.octets.proofs.stored.store_number.Tie as tie
 
 mul-array : tie.Need-mul-array
 mul-array c = search needs
@@ -20,5 +20,5 @@ returns c = search needs
 returns-2 : tie.Need-returns-2
 returns-2 c = sym (set-out _ _ _ (c .if1 .left))
 
-pub put-spec : {M : Type 1} → statement M
-put-spec = tie.close (tie.spec mul-array slice-write-array same-length returns returns-2)
+pub store-number-spec : {M : Type 1} → statement M
+store-number-spec = tie.close (tie.spec mul-array slice-write-array same-length returns returns-2)

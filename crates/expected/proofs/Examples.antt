@@ -1,0 +1,52 @@
+-- What is named for some refused bodies, by evaluation of the definitions; worked out from document 02, CR 3. Assumes nothing.
+use Prim.Native.Nat.{ℕ, _+_}
+use mathlib.Core.Path.{_≡_, refl}
+use mathlib.Core.List.{List, [], _∷_, _++_}
+use lib.ListN.{length, replicate}
+use Rattle.octets.specs.Classes.{classOf, classTable}
+use Rattle.octets.specs.Letters.{lower, same}
+use Rattle.octets.specs.Text.{bytes}
+use Rattle.scanner.specs.Kinds.{kindOf}
+use Rattle.scanner.specs.Characters.{charactersFrom}
+use Rattle.scanner.specs.Scanning.{scanFrom, symbolsOf}
+use Rattle.scanner.specs.Answers.{unlessFault}
+use Rattle.expected.specs.Named.{expectedIn}
+
+-- a body, read as a message of its own, and what is named for it
+data Row : Type 0 where
+  row : List ℕ → ℕ → Row
+
+abbrev AllHold : List Row → Type 0
+AllHold [] = Unit {0}
+AllHold (row body names ∷ rows) = (expectedIn body 0 (length body) ≡ names) × AllHold rows
+
+-- so many "<", and then a text
+abbrev behind : ℕ → List ℕ → List ℕ
+behind many text = replicate many 60 ++ text
+
+-- word 1, "at" 2, "<" 4, ">" 8, "@" 16, "," 32, ";" 64, ":" 128, the end 256
+abbrev rows : List Row
+rows =
+    -- behind a node nothing but "at", a comma or the end
+    row (bytes "a at b c") (2 + 16 + 32 + 256)
+    -- a typed address wants an address
+    ∷ row (bytes ":A:;;") (1 + 4 + 128)
+    -- the atom may be a typed one, or begin a name
+    ∷ row (bytes ":A") (1 + 2 + 4 + 16 + 128)
+    ∷ row (bytes "x") (1 + 2 + 4 + 16 + 128)
+    -- at 64 levels the colon of a typed address opens nothing, and "<" would open level 65
+    ∷ row (behind 63 (bytes ":A;")) (1 + 2 + 16 + 128)
+    -- .. and behind a quoted-string the colon would open it
+    ∷ row (behind 63 (bytes ":\"A\":")) (1 + 2 + 16 + 32 + 64)
+    ∷ row (behind 65 []) (1 + 8 + 32)
+    -- behind "at" nothing but a word
+    ∷ row (bytes "a at at") 1
+    -- where a list begins
+    ∷ row (bytes ")") (1 + 4 + 32 + 128 + 256)
+    -- a fault of scanning: nothing
+    ∷ row (bytes "a (") 0
+    ∷ []
+
+rows-hold : AllHold rows
+unfolding scanFrom symbolsOf charactersFrom kindOf classOf classTable lower same unlessFault
+rows-hold = (refl, (refl, (refl, (refl, (refl, (refl, (refl, (refl, (refl, (refl, tt))))))))))

@@ -1,0 +1,3 @@
+pub mod ClassAlone
+pub mod NameLaws
+pub mod Examples

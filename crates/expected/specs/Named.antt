@@ -1,0 +1,58 @@
+-- What is named, as a function: the machine which the crate `grammar` proves right says it of the state in which it stands.
+-- Nothing here needs to be believed: `Things` says the same without it.
+use Prim.Native.Nat.{ℕ}
+use mathlib.Core.Bool.{Bool, true, false}
+use mathlib.Core.List.{List, []}
+use mathlib.Core.Option.{Option, none, some}
+use lib.ListN.{take}
+use Rattle.octets.specs.Choice.{either}
+use Rattle.octets.specs.Numbers.{levelLimit}
+use Rattle.scanner.specs.Symbols.{Symbol, Lexeme}
+use Rattle.scanner.specs.Scanning.{scan, symbolsOf}
+use Rattle.scanner.specs.Answers.{bodyChecked, unlessFault}
+use Rattle.scanner.specs.declared.Class.{Class}
+use Rattle.scanner.specs.declared.Class.the-variants.{Atom, Quoted, At, LessThan, GreaterThan, Comma, Semicolon, Colon}
+use Rattle.grammar.proofs.AnyMachine.{Step, go, stop, standsBy}
+use Rattle.grammar.proofs.AddressMachine.{State, stepOn, step, finish}
+use Rattle.grammar.proofs.AddressMachine as machine
+use Rattle.expected.specs.Things.{Thing, word, at, atSign, lessThan, greaterThan, comma, semicolon, colon, bodyEnd, sumOf}
+
+-- a step goes on
+abbrev pub goes : {S : Type 0} → Step S → Bool
+goes (go s) = true
+goes (stop why) = false
+
+-- there is such a thing
+abbrev pub isSome : {A : Type 0} → Option A → Bool
+isSome none = false
+isSome (some a) = true
+
+-- where a symbol stands and what it means does not matter here
+abbrev pub anywhere : Lexeme
+anywhere = record { start = 0; end = 0; meaning = [] }
+
+-- a state takes a symbol of a class
+abbrev pub takes : ℕ → State → Class → Bool
+takes limit s c = goes (stepOn limit s c anywhere)
+
+-- what a state goes on with, or ends with
+abbrev pub namedAt : ℕ → State → Thing → Bool
+namedAt limit s word = either (takes limit s Atom) (takes limit s Quoted)
+namedAt limit s at = takes limit s At
+namedAt limit s atSign = takes limit s At
+namedAt limit s lessThan = takes limit s LessThan
+namedAt limit s greaterThan = takes limit s GreaterThan
+namedAt limit s comma = takes limit s Comma
+namedAt limit s semicolon = takes limit s Semicolon
+namedAt limit s colon = takes limit s Colon
+namedAt limit s bodyEnd = isSome (finish s)
+
+-- what is named for these symbols: the machine stands before the refused one, or at the end
+abbrev pub named : ℕ → List (Symbol Class) → Thing → Bool
+named limit symbols = namedAt limit (standsBy step limit machine.start symbols)
+
+-- the sum for the body of a message from `start` up to `end`: what could stand where reading stops; 0 where it is not read
+abbrev pub expectedIn : List ℕ → ℕ → ℕ → ℕ
+expectedIn message start end =
+    let scanned = scan (take end message) start in
+    bodyChecked (λ number p. 0) message start end (unlessFault (λ number p. 0) scanned (sumOf (named levelLimit (symbolsOf scanned))))

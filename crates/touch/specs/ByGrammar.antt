@@ -1,0 +1,41 @@
+-- Document 02, CR 3, over the grammar and apart from any reader: of an answer of the tool, and the lent path afterwards.
+use Prim.Native.Nat.{ℕ, _≤_}
+use mathlib.Core.Path.{_≡_}
+use mathlib.Core.Bool.{Bool}
+use mathlib.Core.List.{List, _++_}
+use lib.ListN.{length, take}
+use Rattle.octets.specs.Numbers.{messageLimit, levelLimit}
+use Rattle.octets.specs.declared.answers.Answer.the-variants.{Accepted}
+use Rattle.scanner.specs.Symbols.{Symbol}
+use Rattle.scanner.specs.Scanning.{scan}
+use Rattle.scanner.specs.Answers.{faultOf}
+use Rattle.scanner.specs.declared.Class.{Class}
+use Rattle.grammar.specs.Language.{Refusal, refused, number, positionOf}
+use Rattle.grammar.specs.Rfc733.{Derivation, RightVerdict}
+use Rattle.addresses.specs.Outcome.{bodySymbols}
+use Rattle.addresses.specs.Condition3.{IsList}
+use Rattle.expected.specs.Things.{Thing, Exactly, sumOf}
+use Rattle.touch.specs.Touched.{ofList}
+use Rattle.touch.specs.declared.Touched.{Touched}
+use Rattle.touch.specs.declared.Touched.the-variants.{Expected}
+
+-- refused with 8, 9 or 10 at the place where a right verdict refuses it, behind the symbols `before`: things are named, each of
+-- them exactly if some list of at most 64 levels goes on, or ends, with it there
+pub record NamedThere (before rest : List (Symbol Class)) (why : Refusal) (end : ℕ) (r : Touched) : Type 0 where
+  pub named : Thing → Bool
+  pub answer : r ≡ Expected (number why) (positionOf end rest) (sumOf named)
+  pub exactly : Exactly levelLimit before named
+
+-- what is said of the symbols of a body
+pub record Told (message : List ℕ) (start end place : ℕ) (path : List ℕ) (symbols : List (Symbol Class)) (r : Touched) (after : List ℕ) : Type 0 where
+  -- a list: the byte, its records and its path, from its one derivation
+  pub list : (k : Derivation) → IsList symbols k → (r ≡ ofList message start end place path k .answer) × (after ≡ ofList message start end place path k .path)
+  -- no list: what could have stood at the very place that condition 3 gives
+  pub no-list : (why : Refusal) (before rest : List (Symbol Class)) → RightVerdict symbols (refused why rest) → symbols ≡ before ++ rest
+      → NamedThere before rest why end r × (after ≡ path)
+
+-- of a body that scans without fault, with its positions in order, in a message within the limit
+abbrev pub ByGrammar : List ℕ → ℕ → ℕ → ℕ → List ℕ → Touched → List ℕ → Type 0
+ByGrammar message start end place path r after =
+    length message ≤ messageLimit → start ≤ end → end ≤ length message → faultOf (scan (take end message) start) ≡ Accepted 0
+    → Told message start end place path (bodySymbols message start end) r after
