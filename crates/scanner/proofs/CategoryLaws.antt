@@ -1,8 +1,8 @@
 -- What a byte is: by the symbol in which it lies, and between symbols by what scanning passes. Assumes nothing.
-use mathlib.Core.Path.{_≡_, refl, _∙_}
+use mathlib.Core.Path.{_≡_, refl, sym, _∙_}
 use mathlib.Core.List.{List, [], _∷_}
-use Prim.Native.Nat.{ℕ, _≤_, _<_}
-use native.Mathlib.Decide.{decLt}
+use Prim.Native.Nat.{ℕ, _+_, _-_, _≤_, _<_}
+use native.Mathlib.Numerals.{add-one}
 use native.Mathlib.Omega.{arith}
 use borrow.Author.Tests.{lt-ltb, le-ltb, lt-leb, le-leb}
 use lib.Dec.{leb}
@@ -17,7 +17,11 @@ use Rattle.scanner.specs.Characters.{charactersAt}
 use Rattle.scanner.specs.Scanning.{Scanned, ended, faultAt, State, outside, inComment, move, scanBy, scan}
 use Rattle.scanner.specs.Answers.{unlessFault, faultOf, bodyScanned}
 use Rattle.scanner.specs.Categories.{ofSymbol, takenIn, behind, between, categoryOf, ofRefused, categoryAt}
-use Rattle.scanner.specs.Steps.{FirstCharacter, Commented, CommentEnds}
+use Rattle.scanner.specs.Steps.{FirstCharacter}
+use Rattle.scanner.specs.Gaps.{stateOf, GapCategoryIs, PassedIs}
+use Rattle.scanner.specs.declared.Gap.{Gap}
+use Rattle.scanner.specs.declared.Gap.the-variants.{Outside, Comment, Taking}
+use Rattle.scanner.specs.declared.Passed.the-variants.{To, Over}
 use Rattle.scanner.specs.declared.Class.{Class}
 use Rattle.scanner.specs.declared.Class.the-variants.{Atom, Quoted, At, LessThan, GreaterThan, Comma, Semicolon, Colon, Stray}
 use Rattle.scanner.specs.declared.Kind.{Kind}
@@ -26,7 +30,8 @@ use Rattle.scanner.specs.declared.Category.{Category}
 use Rattle.scanner.specs.declared.Category.the-variants as category
 use Rattle.scanner.proofs.Class.{the-type}
 use Rattle.scanner.proofs.Meanings.{meaningAt}
-use Rattle.scanner.proofs.MoveLaws.{tag, moves-on, tells, commented-one, commented-then}
+use Rattle.scanner.proofs.Gap as gap-declared
+use Rattle.scanner.proofs.MoveLaws.{tag, Text, Taken, taken, comment-text, closed-inner}
 use Rattle.scanner.proofs.Unfolding.{SymbolAt}
 use Rattle.scanner.proofs.BodyChecks.{Clean, when-clean, when-refused}
 
@@ -84,21 +89,106 @@ leads-nowhere Backslash b p rest o = (refl, refl)
 leads-nowhere (Mark class) b p rest o = (refl, refl)
 leads-nowhere Above b p rest o = (refl, refl)
 
--- the text ends
-pub between-over : (classes text : List ℕ) (at place : ℕ) (state : State) → charactersAt text at ≡ [] → between classes place (charactersAt text at) state ≡ category.Nothing
+-- ---- one character on
+
+-- to a place behind it, its move leads on ..
+moves-on : {classes text : List ℕ} {at : ℕ} {kind : Kind} {p q : ℕ} → FirstCharacter classes text at kind p q → (state : State) (place : ℕ) → q ≤ place
+    → between classes place (charactersAt text at) state ≡ behind (move state kind (getD text p 0) p) (λ state′. between classes place (charactersAt text q) state′)
 unfolding between
-between-over classes text at place state e = rw e
+moves-on {p = p} x state place h = rw (x .characters, between, lt-ltb p place (omega (arith, x .behind)), ← (x .kind-is))
 
-module _ {classes text : List ℕ} {at : ℕ} where
-  -- a symbol or a fault begins
-  pub between-none : {p q : ℕ} {kind : Kind} → FirstCharacter classes text at kind p q → (place : ℕ) → NoGap kind → between classes place (charactersAt text at) outside ≡ category.Nothing
-  between-none {p} {q} {kind} x place o =
-      let n = leads-nowhere kind (getD text p 0) p (λ state. between classes place (charactersAt text q) state) o in
-      elim (decLt place q) [ yes h ↦ tells x outside place h ∙ n .0 | no h ↦ moves-on x outside _ refl place (omega arith) ∙ n .1 ]
+-- .. and at a place up to it, it tells itself
+tells : {classes text : List ℕ} {at : ℕ} {kind : Kind} {p q : ℕ} → FirstCharacter classes text at kind p q → (state : State) (place : ℕ) → place < q
+    → between classes place (charactersAt text at) state ≡ takenIn state kind
+unfolding between
+tells {p = p} x state place h = rw (x .characters, between, le-ltb p place (omega (arith, x .behind)), ← (x .kind-is))
 
-  -- a whole comment
-  pub comment-passed : {p q r : ℕ} → FirstCharacter classes text at Open p q → CommentEnds classes text q p r → Commented classes text at outside r outside
-  comment-passed {p} x w = commented-then (commented-one x outside (inComment 0 p) refl refl (λ rest. refl)) w
+-- the text ends
+over : (classes text : List ℕ) (at place : ℕ) (state : State) → charactersAt text at ≡ [] → between classes place (charactersAt text at) state ≡ category.Nothing
+unfolding between
+over classes text at place state e = rw e
+
+-- ---- a walk between symbols
+
+-- from outside at a position scanning has come to another, still between symbols, and the place lies behind it
+pub record Walked (classes text : List ℕ) (place at p : ℕ) (gap : Gap) : Type 0 where
+  pub outermost : ℕ
+  pub same : between classes place (charactersAt text at) outside ≡ between classes place (charactersAt text p) (stateOf gap outermost)
+
+pub walked-none : (classes text : List ℕ) (place at : ℕ) → Walked classes text place at at Outside
+walked-none classes text place at = record { outermost = 0; same = refl }
+
+module _ {classes text : List ℕ} {place at p : ℕ} {gap : Gap} (w : Walked classes text place at p gap) where
+  pub walk-over : charactersAt text p ≡ [] → category.Nothing ≡ between classes place (charactersAt text at) outside
+  walk-over e = sym (w .same ∙ over classes text p place (stateOf gap (w .outermost)) e)
+
+  pub walk-tells : {kind : Kind} {here q : ℕ} {r : Category} → FirstCharacter classes text p kind here q → place < q → GapCategoryIs gap kind r → r ≡ between classes place (charactersAt text at) outside
+  walk-tells x h e = e (w .outermost) ∙ sym (w .same ∙ tells x (stateOf gap (w .outermost)) place h)
+
+  pub walk-ends : {kind : Kind} {here q : ℕ} → FirstCharacter classes text p kind here q → q ≤ place → PassedIs gap kind Over → category.Nothing ≡ between classes place (charactersAt text at) outside
+  walk-ends {here = here} x h e = sym (w .same ∙ moves-on x (stateOf gap (w .outermost)) place h ∙ e (w .outermost) (getD text here 0) here _)
+
+  pub walk-on : {kind : Kind} {here q : ℕ} {next : Gap} → FirstCharacter classes text p kind here q → q ≤ place → PassedIs gap kind (To next) → Walked classes text place at q next
+  walk-on {here = here} x h e =
+      let l = e (w .outermost) (getD text here 0) here in
+      record { outermost = l .outermost; same = w .same ∙ moves-on x (stateOf gap (w .outermost)) place h ∙ l .same _ }
+
+-- ---- where each character leads
+
+-- outside: white space, a comment, or no longer between symbols
+pub white-passed : PassedIs Outside White (To Outside)
+white-passed start b p = record { outermost = start; same = λ rest. refl }
+
+pub open-passed : PassedIs Outside Open (To (Comment 0))
+open-passed start b p = record { outermost = p; same = λ rest. refl }
+
+pub none-passed : (kind : Kind) → NoGap kind → PassedIs Outside kind Over
+none-passed kind o start b p rest = leads-nowhere kind b p rest o .1
+
+-- in a comment
+pub deeper : (depth : ℕ) → PassedIs (Comment depth) Open (To (Comment (depth + 1)))
+deeper depth start b p = record { outermost = start; same = λ rest. rw add-one }
+
+pub closes-all : (depth : ℕ) → depth ≡ 0 → PassedIs (Comment depth) Close (To Outside)
+closes-all depth e start b p = record { outermost = start; same = λ rest. rw e }
+
+pub closes-one : (depth : ℕ) → (depth ≡ 0 → ⊥) → PassedIs (Comment depth) Close (To (Comment (depth - 1)))
+closes-one depth n start b p = record { outermost = start; same = λ rest. rw (closed-inner depth start n) }
+
+pub takes-next : (depth : ℕ) → PassedIs (Comment depth) Backslash (To (Taking depth))
+takes-next depth start b p = record { outermost = start; same = λ rest. refl }
+
+pub text-passed : (depth : ℕ) (kind : Kind) → Text kind → PassedIs (Comment depth) kind (To (Comment depth))
+text-passed depth kind o start b p = record { outermost = start; same = λ rest. rw (comment-text kind depth start b p o) }
+
+pub taken-passed : (depth : ℕ) (kind : Kind) → Taken kind → PassedIs (Taking depth) kind (To (Comment depth))
+taken-passed depth kind o start b p = record { outermost = start; same = λ rest. rw (taken kind (inComment depth start) p o) }
+
+pub above-passed : (depth : ℕ) → PassedIs (Taking depth) Above Over
+above-passed depth start b p rest = refl
+
+-- a CR or a byte above 127 is a fault there
+pub fault-passed : (depth : ℕ) (kind : Kind) → OneOf (2 ∷ 9 ∷ []) (tag kind) → PassedIs (Comment depth) kind Over
+fault-passed depth White o start b p rest = absurd (miss (2 ∷ 9 ∷ []) 0 tt o)
+fault-passed depth Control o start b p rest = absurd (miss (2 ∷ 9 ∷ []) 1 tt o)
+fault-passed depth Return o start b p rest = refl
+fault-passed depth Plain o start b p rest = absurd (miss (2 ∷ 9 ∷ []) 3 tt o)
+fault-passed depth Open o start b p rest = absurd (miss (2 ∷ 9 ∷ []) 4 tt o)
+fault-passed depth Close o start b p rest = absurd (miss (2 ∷ 9 ∷ []) 5 tt o)
+fault-passed depth Quote o start b p rest = absurd (miss (2 ∷ 9 ∷ []) 6 tt o)
+fault-passed depth Backslash o start b p rest = absurd (miss (2 ∷ 9 ∷ []) 7 tt o)
+fault-passed depth (Mark class) o start b p rest = absurd (miss (2 ∷ 9 ∷ []) 8 tt o)
+fault-passed depth Above o start b p rest = refl
+
+-- what it is outside, where it is no white space and opens no comment
+pub none-told : (kind : Kind) → NoGap kind → GapCategoryIs Outside kind category.Nothing
+none-told kind o start = sym (leads-nowhere kind 0 0 (λ state. category.Nothing) o .0)
+
+-- .. and in a comment
+pub comment-told : (gap : Gap) (kind : Kind) → OneOf (1 ∷ 2 ∷ []) (tagOf gap-declared.the-type gap) → GapCategoryIs gap kind category.Comment
+comment-told Outside kind o start = absurd (miss (1 ∷ 2 ∷ []) 0 tt o)
+comment-told (Comment depth) kind o start = refl
+comment-told (Taking depth) kind o start = refl
 
 -- where there is no fault, none is scanned
 pub no-fault : (s : Scanned) {number p : ℕ} → faultOf s ≡ Accepted 0 → s ≡ faultAt number p → ⊥

@@ -2,10 +2,8 @@
 use mathlib.Core.Path.{_≡_, refl, sym, ap, _∙_}
 use mathlib.Core.List.{List, [], _∷_, _++_}
 use Prim.Native.Nat.{ℕ, zero, suc, _+_, _-_, _≤_, _<_}
-use native.Mathlib.Decide.{decLt}
 use native.Mathlib.Numerals.{add-one}
 use native.Mathlib.Omega.{arith}
-use borrow.Author.Tests.{lt-ltb, le-ltb}
 use lib.ListN.{length, getD, take, drop, length-drop}
 use lib.Seq.{take-suc, getD-drop}
 use types.Run.{OneOf, miss}
@@ -17,14 +15,11 @@ use Rattle.scanner.specs.Symbols.{Symbol}
 use Rattle.scanner.specs.Characters.{Character, character, charactersAt}
 use Rattle.scanner.specs.Scanning.{Scanned, next, faultAt, State, outside, inAtom, inQuoted, takingInQuoted, inComment, takingInComment, Move, go, halt, symbol, atom, single, move, moveInAtom, closed, atEnd, then, scanFrom, scanBy}
 use Rattle.scanner.specs.Scanning as scanning
-use Rattle.scanner.specs.Categories.{takenIn, behind, between}
-use Rattle.scanner.specs.Steps.{FirstCharacter, AtomEnds, Commented, CommentEnds}
+use Rattle.scanner.specs.Steps.{FirstCharacter, AtomEnds}
 use Rattle.scanner.specs.declared.Class.{Class}
 use Rattle.scanner.specs.declared.Class.the-variants.{Stray}
 use Rattle.scanner.specs.declared.Kind.{Kind}
 use Rattle.scanner.specs.declared.Kind.the-variants.{White, Control, Return, Plain, Open, Close, Quote, Backslash, Mark, Above}
-use Rattle.scanner.specs.declared.Category.{Category}
-use Rattle.scanner.specs.declared.Category.the-variants as category
 use Rattle.scanner.proofs.Kind.{the-type}
 
 -- a kind's place in its declaration
@@ -41,18 +36,6 @@ pub moves : {classes text : List ℕ} {at : ℕ} {kind : Kind} {p q : ℕ} → F
     → scanFrom classes (charactersAt text at) state ≡ then m (λ state′. scanFrom classes (charactersAt text q) state′)
 unfolding scanFrom
 moves x state m e = rw (x .characters, ← (x .kind-is), e)
-
--- between symbols: to a place behind it, its move leads on ..
-pub moves-on : {classes text : List ℕ} {at : ℕ} {kind : Kind} {p q : ℕ} → FirstCharacter classes text at kind p q → (state : State) (m : Move) → move state kind (getD text p 0) p ≡ m → (place : ℕ) → q ≤ place
-    → between classes place (charactersAt text at) state ≡ behind m (λ state′. between classes place (charactersAt text q) state′)
-unfolding between
-moves-on {p = p} x state m e place h = rw (x .characters, between, lt-ltb p place (omega (arith, x .behind)), ← (x .kind-is), e)
-
--- .. and at a place up to it, it tells itself
-pub tells : {classes text : List ℕ} {at : ℕ} {kind : Kind} {p q : ℕ} → FirstCharacter classes text at kind p q → (state : State) (place : ℕ) → place < q
-    → between classes place (charactersAt text at) state ≡ takenIn state kind
-unfolding between
-tells {p = p} x state place h = rw (x .characters, between, le-ltb p place (omega (arith, x .behind)), ← (x .kind-is))
 
 -- ---- the kinds that an arm of the code stands for
 
@@ -222,38 +205,11 @@ module _ {classes text : List ℕ} {start at p : ℕ} (w : Quoting classes text 
 
 -- ---- a comment
 
--- no character is passed
-pub commented-none : {classes text : List ℕ} {at : ℕ} {state : State} → at ≤ length text → Commented classes text at state at state
-commented-none h = record { same = refl; from = omega arith; within = h; inside = λ place l k. absurd (omega arith); beyond = λ place l. refl }
-
--- one character is passed that is comment and leads to a state between symbols
-pub commented-one : {classes text : List ℕ} {at p q : ℕ} {kind : Kind} → FirstCharacter classes text at kind p q → (state state′ : State) → move state kind (getD text p 0) p ≡ go [] state′
-    → takenIn state kind ≡ category.Comment → ((rest : State → Category) → behind (go [] state′) rest ≡ rest state′) → Commented classes text at state q state′
-commented-one x state state′ e c b =
-    record {
-      same = moves x state (go [] state′) e;
-      from = omega (arith, x .from, x .behind);
-      within = x .within;
-      inside = λ place l h. tells x state place h ∙ c;
-      beyond = λ place h. moves-on x state (go [] state′) e place h ∙ b _;
-    }
-
--- some characters, and then others
-pub commented-then : {classes text : List ℕ} {at p q : ℕ} {state state′ state″ : State} → Commented classes text at state p state′ → Commented classes text p state′ q state″ → Commented classes text at state q state″
-commented-then {p = p} v w =
-    record {
-      same = v .same ∙ w .same;
-      from = omega (arith, v .from, w .from);
-      within = w .within;
-      inside = λ place l h. elim (decLt place p) [ yes k ↦ v .inside place l k | no k ↦ v .beyond place (omega arith) ∙ w .inside place (omega arith) h ];
-      beyond = λ place h. v .beyond place (omega (arith, w .from)) ∙ w .beyond place h;
-    }
-
 -- from its outermost "(" scanning has come to a position inside it, `depth` comments lying around the one that is open there
-abbrev pub Commenting : List ℕ → List ℕ → ℕ → ℕ → ℕ → ℕ → Type 0
-Commenting classes text start at depth p = Commented classes text at (inComment 0 start) p (inComment depth start)
+pub record Commenting (classes text : List ℕ) (start at depth p : ℕ) : Type 0 where
+  pub same : scanFrom classes (charactersAt text at) (inComment 0 start) ≡ scanFrom classes (charactersAt text p) (inComment depth start)
 
-closed-inner : (depth start : ℕ) → (depth ≡ 0 → ⊥) → closed depth start ≡ inComment (depth - 1) start
+pub closed-inner : (depth start : ℕ) → (depth ≡ 0 → ⊥) → closed depth start ≡ inComment (depth - 1) start
 closed-inner zero start n = absurd (n refl)
 closed-inner (suc depth) start n = let e : depth ≡ suc depth - 1 = omega arith in ap (λ (d : ℕ). inComment d start) e
 
@@ -264,19 +220,19 @@ module _ {classes text : List ℕ} {start at depth p : ℕ} (w : Commenting clas
 
   -- text as it is
   pub comment-on : {q r : ℕ} {kind : Kind} → FirstCharacter classes text p kind q r → Text kind → Commenting classes text start at depth r
-  comment-on {q} {kind = kind} x o = commented-then w (commented-one x (inComment depth start) (inComment depth start) (comment-text kind depth start (getD text q 0) q o) refl (λ rest. refl))
+  comment-on {q} {kind = kind} x o = record { same = comment-moves x (go [] (inComment depth start)) (comment-text kind depth start (getD text q 0) q o) }
 
   -- a comment in it opens
   pub comment-opens : {q r : ℕ} → FirstCharacter classes text p Open q r → Commenting classes text start at (depth + 1) r
-  comment-opens x = commented-then w (commented-one x (inComment depth start) (inComment (depth + 1) start) (rw add-one) refl (λ rest. refl))
+  comment-opens x = record { same = comment-moves x (go [] (inComment (suc depth) start)) refl ∙ rw add-one }
 
   -- a comment in it closes
   pub comment-closes : {q r : ℕ} → FirstCharacter classes text p Close q r → (depth ≡ 0 → ⊥) → Commenting classes text start at (depth - 1) r
-  comment-closes x n = commented-then w (commented-one x (inComment depth start) (inComment (depth - 1) start) (ap (go []) (closed-inner depth start n)) refl (λ rest. refl))
+  comment-closes x n = record { same = comment-moves x (go [] (closed depth start)) refl ∙ rw (closed-inner depth start n) }
 
   -- it closes itself, and scanning goes on outside
-  pub comment-over : {q r : ℕ} → FirstCharacter classes text p Close q r → depth ≡ 0 → CommentEnds classes text at start r
-  comment-over x e = commented-then w (commented-one x (inComment depth start) outside (rw e) refl (λ rest. refl))
+  pub comment-over : {q r : ℕ} → FirstCharacter classes text p Close q r → depth ≡ 0 → scanFrom classes (charactersAt text at) (inComment 0 start) ≡ scanBy classes text r
+  comment-over x e = comment-moves x (go [] (closed depth start)) refl ∙ rw e
 
   -- a backslash, and what comes of the character behind it
   pub comment-taking : {q r s u : ℕ} {kind : Kind} → FirstCharacter classes text p Backslash q r → FirstCharacter classes text r kind s u → (m : Move)
@@ -286,8 +242,7 @@ module _ {classes text : List ℕ} {start at depth p : ℕ} (w : Commenting clas
 
   pub comment-taken : {q r s u : ℕ} {kind : Kind} → FirstCharacter classes text p Backslash q r → FirstCharacter classes text r kind s u → Taken kind → Commenting classes text start at depth u
   comment-taken {s = s} {kind = kind} x y o =
-      commented-then (commented-then w (commented-one x (inComment depth start) (takingInComment depth start) refl refl (λ rest. refl)))
-      (commented-one y (takingInComment depth start) (inComment depth start) (taken kind (inComment depth start) s o) refl (λ rest. refl))
+      record { same = comment-taking x y (go [] (inComment depth start)) (taken kind (inComment depth start) s o) }
 
 -- ---- symbols and faults of one character, outside
 

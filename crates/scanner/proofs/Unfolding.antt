@@ -26,7 +26,7 @@ use Rattle.scanner.specs.declared.Next.the-variants.{Found, Ended, Fault
 use Rattle.scanner.specs.declared.Kind.{Kind}
 use Rattle.scanner.specs.declared.Kind.the-variants.{White, Control, Return, Plain, Open, Close, Quote, Backslash, Mark, Above}
 use Rattle.scanner.proofs.CharacterLaws.{View, over, one, view}
-use Rattle.scanner.proofs.MoveLaws.{tag, part-one, NotPlain, Data, Text, Taken, at-end, moves, atom-on, atom-begins, atom-ends, atom-last, Quoting, quoted-moves, quoted-on, quoted-taking, quoted-taken, Commenting, commented-none, comment-moves, comment-on, comment-opens, comment-closes, comment-over, comment-taking, comment-taken, mark-next, stray-next, control-next}
+use Rattle.scanner.proofs.MoveLaws.{tag, part-one, NotPlain, Data, Text, Taken, at-end, moves, atom-on, atom-begins, atom-ends, atom-last, Quoting, quoted-moves, quoted-on, quoted-taking, quoted-taken, Commenting, comment-moves, comment-on, comment-opens, comment-closes, comment-over, comment-taking, comment-taken, mark-next, stray-next, control-next}
 use Rattle.scanner.proofs.Meanings.{dataFrom, dataAt, meaningAt, data-on, data-backslash, data-taken, data-quote}
 
 module _ (classes text : List ℕ) where
@@ -144,50 +144,54 @@ module _ (classes text : List ℕ) where
     leaves : (end : ℕ) → CommentEnds classes text at start end → Leaves start at
     faulty : (number p : ℕ) → scanFrom classes (charactersAt text at) (inComment 0 start) ≡ faultAt number p → Leaves start at
 
-  leaving : (start at depth p : ℕ) {q r : ℕ} → Commenting classes text start at depth p → FirstCharacter classes text p Close q r → ((depth′ : ℕ) → Commenting classes text start at depth′ r → Leaves start at) → Leaves start at
+  record Within (start at depth p : ℕ) : Type 0 where
+    commenting : Commenting classes text start at depth p
+    from : at ≤ p
+
+  leaving : (start at depth p : ℕ) {q r : ℕ} → Within start at depth p → FirstCharacter classes text p Close q r → ((depth′ : ℕ) → Within start at depth′ r → Leaves start at) → Leaves start at
   leaving start at depth p {r = r} w x f =
       elim (decLt 0 depth) [
-        | yes h ↦ f (depth - 1) (comment-closes w x (λ e. absurd (omega arith)))
-        | no n ↦ leaves r (comment-over w x (omega arith))
+        | yes h ↦ f (depth - 1) record { commenting = comment-closes (w .commenting) x (λ e. absurd (omega arith)); from = omega (arith, w .from, x .from, x .behind) }
+        | no n ↦ leaves r record { same = comment-over (w .commenting) x (omega arith); from = omega (arith, w .from, x .from, x .behind); within = x .within }
       ]
 
-  escaped-by : (start at depth p : ℕ) {q r s u : ℕ} (kind : Kind) → Commenting classes text start at depth p → FirstCharacter classes text p Backslash q r → FirstCharacter classes text r kind s u
-      → (Commenting classes text start at depth u → Leaves start at) → Leaves start at
-  escaped-by start at depth p White w x y f = f (comment-taken w x y (hit (0 ∷ 1 ∷ 2 ∷ 3 ∷ 4 ∷ 5 ∷ 6 ∷ 7 ∷ 8 ∷ []) 0 tt))
-  escaped-by start at depth p Control w x y f = f (comment-taken w x y (hit (0 ∷ 1 ∷ 2 ∷ 3 ∷ 4 ∷ 5 ∷ 6 ∷ 7 ∷ 8 ∷ []) 1 tt))
-  escaped-by start at depth p Return w x y f = f (comment-taken w x y (hit (0 ∷ 1 ∷ 2 ∷ 3 ∷ 4 ∷ 5 ∷ 6 ∷ 7 ∷ 8 ∷ []) 2 tt))
-  escaped-by start at depth p Plain w x y f = f (comment-taken w x y (hit (0 ∷ 1 ∷ 2 ∷ 3 ∷ 4 ∷ 5 ∷ 6 ∷ 7 ∷ 8 ∷ []) 3 tt))
-  escaped-by start at depth p Open w x y f = f (comment-taken w x y (hit (0 ∷ 1 ∷ 2 ∷ 3 ∷ 4 ∷ 5 ∷ 6 ∷ 7 ∷ 8 ∷ []) 4 tt))
-  escaped-by start at depth p Close w x y f = f (comment-taken w x y (hit (0 ∷ 1 ∷ 2 ∷ 3 ∷ 4 ∷ 5 ∷ 6 ∷ 7 ∷ 8 ∷ []) 5 tt))
-  escaped-by start at depth p Quote w x y f = f (comment-taken w x y (hit (0 ∷ 1 ∷ 2 ∷ 3 ∷ 4 ∷ 5 ∷ 6 ∷ 7 ∷ 8 ∷ []) 6 tt))
-  escaped-by start at depth p Backslash w x y f = f (comment-taken w x y (hit (0 ∷ 1 ∷ 2 ∷ 3 ∷ 4 ∷ 5 ∷ 6 ∷ 7 ∷ 8 ∷ []) 7 tt))
-  escaped-by start at depth p (Mark class) w x y f = f (comment-taken w x y (hit (0 ∷ 1 ∷ 2 ∷ 3 ∷ 4 ∷ 5 ∷ 6 ∷ 7 ∷ 8 ∷ []) 8 tt))
-  escaped-by start at depth p Above w x y f = faulty byteAbove127 _ (comment-taking w x y (halt [] byteAbove127 _) refl)
+  escaped-by : (start at depth p : ℕ) {q r s u : ℕ} (kind : Kind) → Within start at depth p → FirstCharacter classes text p Backslash q r → FirstCharacter classes text r kind s u
+      → (Within start at depth u → Leaves start at) → Leaves start at
+  escaped-by start at depth p White w x y f = f record { commenting = comment-taken (w .commenting) x y (hit (0 ∷ 1 ∷ 2 ∷ 3 ∷ 4 ∷ 5 ∷ 6 ∷ 7 ∷ 8 ∷ []) 0 tt); from = omega (arith, w .from, x .from, x .behind, y .from, y .behind) }
+  escaped-by start at depth p Control w x y f = f record { commenting = comment-taken (w .commenting) x y (hit (0 ∷ 1 ∷ 2 ∷ 3 ∷ 4 ∷ 5 ∷ 6 ∷ 7 ∷ 8 ∷ []) 1 tt); from = omega (arith, w .from, x .from, x .behind, y .from, y .behind) }
+  escaped-by start at depth p Return w x y f = f record { commenting = comment-taken (w .commenting) x y (hit (0 ∷ 1 ∷ 2 ∷ 3 ∷ 4 ∷ 5 ∷ 6 ∷ 7 ∷ 8 ∷ []) 2 tt); from = omega (arith, w .from, x .from, x .behind, y .from, y .behind) }
+  escaped-by start at depth p Plain w x y f = f record { commenting = comment-taken (w .commenting) x y (hit (0 ∷ 1 ∷ 2 ∷ 3 ∷ 4 ∷ 5 ∷ 6 ∷ 7 ∷ 8 ∷ []) 3 tt); from = omega (arith, w .from, x .from, x .behind, y .from, y .behind) }
+  escaped-by start at depth p Open w x y f = f record { commenting = comment-taken (w .commenting) x y (hit (0 ∷ 1 ∷ 2 ∷ 3 ∷ 4 ∷ 5 ∷ 6 ∷ 7 ∷ 8 ∷ []) 4 tt); from = omega (arith, w .from, x .from, x .behind, y .from, y .behind) }
+  escaped-by start at depth p Close w x y f = f record { commenting = comment-taken (w .commenting) x y (hit (0 ∷ 1 ∷ 2 ∷ 3 ∷ 4 ∷ 5 ∷ 6 ∷ 7 ∷ 8 ∷ []) 5 tt); from = omega (arith, w .from, x .from, x .behind, y .from, y .behind) }
+  escaped-by start at depth p Quote w x y f = f record { commenting = comment-taken (w .commenting) x y (hit (0 ∷ 1 ∷ 2 ∷ 3 ∷ 4 ∷ 5 ∷ 6 ∷ 7 ∷ 8 ∷ []) 6 tt); from = omega (arith, w .from, x .from, x .behind, y .from, y .behind) }
+  escaped-by start at depth p Backslash w x y f = f record { commenting = comment-taken (w .commenting) x y (hit (0 ∷ 1 ∷ 2 ∷ 3 ∷ 4 ∷ 5 ∷ 6 ∷ 7 ∷ 8 ∷ []) 7 tt); from = omega (arith, w .from, x .from, x .behind, y .from, y .behind) }
+  escaped-by start at depth p (Mark class) w x y f = f record { commenting = comment-taken (w .commenting) x y (hit (0 ∷ 1 ∷ 2 ∷ 3 ∷ 4 ∷ 5 ∷ 6 ∷ 7 ∷ 8 ∷ []) 8 tt); from = omega (arith, w .from, x .from, x .behind, y .from, y .behind) }
+  escaped-by start at depth p Above w x y f = faulty byteAbove127 _ (comment-taking (w .commenting) x y (halt [] byteAbove127 _) refl)
 
-  escaped-view : (start at depth p : ℕ) {q r : ℕ} → Commenting classes text start at depth p → FirstCharacter classes text p Backslash q r → View classes text r
-      → ((u depth′ : ℕ) → p < u → u ≤ length text → Commenting classes text start at depth′ u → Leaves start at) → Leaves start at
+  escaped-view : (start at depth p : ℕ) {q r : ℕ} → Within start at depth p → FirstCharacter classes text p Backslash q r → View classes text r
+      → ((u depth′ : ℕ) → p < u → u ≤ length text → Within start at depth′ u → Leaves start at) → Leaves start at
   escaped-view start at depth p {r = r} w x (over e) f =
-      faulty commentNotClosed start (comment-moves w x (go [] (takingInComment depth start)) refl ∙ at-end classes text r _ e)
+      faulty commentNotClosed start (comment-moves (w .commenting) x (go [] (takingInComment depth start)) refl ∙ at-end classes text r _ e)
   escaped-view start at depth p w x (one {kind} {q = u} y) f = escaped-by start at depth p kind w x y (λ z. f u depth (omega (arith, x .from, x .behind, y .from, y .behind)) (y .within) z)
 
-  comment-by : (start at depth p : ℕ) {q r : ℕ} (kind : Kind) → Commenting classes text start at depth p → FirstCharacter classes text p kind q r → View classes text r
-      → ((u depth′ : ℕ) → p < u → u ≤ length text → Commenting classes text start at depth′ u → Leaves start at) → Leaves start at
-  comment-by start at depth p {r = r} White w x v f = f r depth (omega (arith, x .from, x .behind)) (x .within) (comment-on w x (hit (0 ∷ 1 ∷ 3 ∷ 6 ∷ 8 ∷ []) 0 tt))
-  comment-by start at depth p {r = r} Control w x v f = f r depth (omega (arith, x .from, x .behind)) (x .within) (comment-on w x (hit (0 ∷ 1 ∷ 3 ∷ 6 ∷ 8 ∷ []) 1 tt))
-  comment-by start at depth p {r = r} Return w x v f = faulty strayControl _ (comment-moves w x (halt [] strayControl _) refl)
-  comment-by start at depth p {r = r} Plain w x v f = f r depth (omega (arith, x .from, x .behind)) (x .within) (comment-on w x (hit (0 ∷ 1 ∷ 3 ∷ 6 ∷ 8 ∷ []) 3 tt))
-  comment-by start at depth p {r = r} Open w x v f = f r (depth + 1) (omega (arith, x .from, x .behind)) (x .within) (comment-opens w x)
+  comment-by : (start at depth p : ℕ) {q r : ℕ} (kind : Kind) → Within start at depth p → FirstCharacter classes text p kind q r → View classes text r
+      → ((u depth′ : ℕ) → p < u → u ≤ length text → Within start at depth′ u → Leaves start at) → Leaves start at
+  comment-by start at depth p {r = r} White w x v f = f r depth (omega (arith, x .from, x .behind)) (x .within) record { commenting = comment-on (w .commenting) x (hit (0 ∷ 1 ∷ 3 ∷ 6 ∷ 8 ∷ []) 0 tt); from = omega (arith, w .from, x .from, x .behind) }
+  comment-by start at depth p {r = r} Control w x v f = f r depth (omega (arith, x .from, x .behind)) (x .within) record { commenting = comment-on (w .commenting) x (hit (0 ∷ 1 ∷ 3 ∷ 6 ∷ 8 ∷ []) 1 tt); from = omega (arith, w .from, x .from, x .behind) }
+  comment-by start at depth p {r = r} Return w x v f = faulty strayControl _ (comment-moves (w .commenting) x (halt [] strayControl _) refl)
+  comment-by start at depth p {r = r} Plain w x v f = f r depth (omega (arith, x .from, x .behind)) (x .within) record { commenting = comment-on (w .commenting) x (hit (0 ∷ 1 ∷ 3 ∷ 6 ∷ 8 ∷ []) 3 tt); from = omega (arith, w .from, x .from, x .behind) }
+  comment-by start at depth p {r = r} Open w x v f = f r (depth + 1) (omega (arith, x .from, x .behind)) (x .within) record { commenting = comment-opens (w .commenting) x; from = omega (arith, w .from, x .from, x .behind) }
   comment-by start at depth p {r = r} Close w x v f = leaving start at depth p w x (λ d z. f r d (omega (arith, x .from, x .behind)) (x .within) z)
-  comment-by start at depth p {r = r} Quote w x v f = f r depth (omega (arith, x .from, x .behind)) (x .within) (comment-on w x (hit (0 ∷ 1 ∷ 3 ∷ 6 ∷ 8 ∷ []) 6 tt))
+  comment-by start at depth p {r = r} Quote w x v f = f r depth (omega (arith, x .from, x .behind)) (x .within) record { commenting = comment-on (w .commenting) x (hit (0 ∷ 1 ∷ 3 ∷ 6 ∷ 8 ∷ []) 6 tt); from = omega (arith, w .from, x .from, x .behind) }
   comment-by start at depth p {r = r} Backslash w x v f = escaped-view start at depth p w x v f
-  comment-by start at depth p {r = r} (Mark class) w x v f = f r depth (omega (arith, x .from, x .behind)) (x .within) (comment-on w x (hit (0 ∷ 1 ∷ 3 ∷ 6 ∷ 8 ∷ []) 8 tt))
-  comment-by start at depth p {r = r} Above w x v f = faulty byteAbove127 _ (comment-moves w x (halt [] byteAbove127 _) refl)
+  comment-by start at depth p {r = r} (Mark class) w x v f = f r depth (omega (arith, x .from, x .behind)) (x .within) record { commenting = comment-on (w .commenting) x (hit (0 ∷ 1 ∷ 3 ∷ 6 ∷ 8 ∷ []) 8 tt); from = omega (arith, w .from, x .from, x .behind) }
+  comment-by start at depth p {r = r} Above w x v f = faulty byteAbove127 _ (comment-moves (w .commenting) x (halt [] byteAbove127 _) refl)
 
-  comment-view : (start at depth p : ℕ) → Commenting classes text start at depth p → View classes text p → ((u depth′ : ℕ) → p < u → u ≤ length text → Commenting classes text start at depth′ u → Leaves start at) → Leaves start at
-  comment-view start at depth p w (over e) f = faulty commentNotClosed start (w .same ∙ at-end classes text p _ e)
+  comment-view : (start at depth p : ℕ) → Within start at depth p → View classes text p → ((u depth′ : ℕ) → p < u → u ≤ length text → Within start at depth′ u → Leaves start at) → Leaves start at
+  comment-view start at depth p w (over e) f = faulty commentNotClosed start (w .commenting .same ∙ at-end classes text p _ e)
   comment-view start at depth p w (one {kind} {q = r} x) f = comment-by start at depth p kind w x (view classes text r) f
 
-  comment-run : (n start at depth p : ℕ) → length text ≤ p + n → Commenting classes text start at depth p → Leaves start at
+  comment-run : (n start at depth p : ℕ) → length text ≤ p + n → Within start at depth p → Leaves start at
   comment-run zero start at depth p m w = comment-view start at depth p w (view classes text p) (λ u d a b z. absurd (omega arith))
   comment-run (suc n) start at depth p m w = comment-view start at depth p w (view classes text p) (λ u d a b z. comment-run n start at d u (omega arith) z)
 
@@ -324,7 +328,7 @@ module _ (classes text : List ℕ) where
   outside-by at Return s x f = a-fault (control-next x (hit (1 ∷ 2 ∷ []) 2 tt))
   outside-by at {p = p} {q = q} Plain s x f = in-atom x (atom-run classes text (length text) p q (omega arith) (omega (arith, x .behind)) (x .within))
   outside-by at {p = p} {q = q} Open s x f =
-      in-comment x (comment-run classes text (length text) p q 0 q (omega arith) (commented-none (x .within))) f
+      in-comment x (comment-run classes text (length text) p q 0 q (omega arith) record { commenting = record { same = refl }; from = omega arith }) f
   outside-by at Close s x f = one-byte x tt (stray-next x (hit (5 ∷ 7 ∷ []) 5 tt))
   outside-by at {p = p} {q = q} Quote s x f =
       in-quoted x (quoted-run classes text (length text) p q q (omega arith) record { quoting = record { meaning = []; same = refl }; data-so-far = refl; from = omega arith })

@@ -6,3 +6,4 @@ pub mod Scanning
 pub mod Answers
 pub mod Categories
 pub mod Steps
+pub mod Gaps

@@ -1,17 +1,14 @@
 -- What the functions below the entry points answer. Nothing here needs to be believed.
 use mathlib.Core.Path.{_≡_}
-use Prim.Native.Nat.{ℕ, _+_, _≤_, _<_}
+use Prim.Native.Nat.{ℕ, _+_, _≤_}
 use mathlib.Core.Bool.{Bool}
 use mathlib.Core.List.{List, [], _∷_}
 use lib.ListN.{length, getD}
 use Rattle.octets.specs.Text.{part}
-use Rattle.octets.specs.declared.answers.Answer.the-variants.{Accepted}
 use Rattle.scanner.specs.Kinds.{characterKind}
 use Rattle.scanner.specs.Characters.{character, charactersAt}
-use Rattle.scanner.specs.Scanning.{State, outside, inAtom, inComment, atom, next, faultAt, scanFrom, scanBy}
+use Rattle.scanner.specs.Scanning.{inAtom, inComment, atom, next, faultAt, scanFrom, scanBy}
 use Rattle.scanner.specs.Answers.{faultOf}
-use Rattle.scanner.specs.Categories.{between}
-use Rattle.scanner.specs.declared.Category.the-variants as category
 use Rattle.scanner.specs.declared.Kind.{Kind}
 use Rattle.scanner.specs.declared.Kind.the-variants.{White}
 use Rattle.scanner.specs.declared.Step.{Step}
@@ -40,17 +37,11 @@ pub record AtomEnds (classes text : List ℕ) (start at end : ℕ) : Type 0 wher
   pub from : at ≤ end
   pub within : end ≤ length text
 
--- scanning comes without a symbol from a state at a position to another at a later one, and all that it passes is comment
-pub record Commented (classes text : List ℕ) (at : ℕ) (state : State) (q : ℕ) (state′ : State) : Type 0 where
-  pub same : scanFrom classes (charactersAt text at) state ≡ scanFrom classes (charactersAt text q) state′
+-- behind a comment scanning goes on outside
+pub record CommentEnds (classes text : List ℕ) (at start q : ℕ) : Type 0 where
+  pub same : scanFrom classes (charactersAt text at) (inComment 0 start) ≡ scanBy classes text q
   pub from : at ≤ q
   pub within : q ≤ length text
-  pub inside : (place : ℕ) → at ≤ place → place < q → between classes place (charactersAt text at) state ≡ category.Comment
-  pub beyond : (place : ℕ) → q ≤ place → between classes place (charactersAt text at) state ≡ between classes place (charactersAt text q) state′
-
--- behind a comment scanning goes on outside
-abbrev pub CommentEnds : List ℕ → List ℕ → ℕ → ℕ → ℕ → Type 0
-CommentEnds classes text at start q = Commented classes text at (inComment 0 start) q outside
 
 abbrev pub CommentIs : List ℕ → List ℕ → ℕ → ℕ → Comment → Type 0
 CommentIs classes text at start (Past q) = CommentEnds classes text at start q
@@ -60,7 +51,3 @@ CommentIs classes text at start (Open number p) = scanFrom classes (charactersAt
 pub record FaultsFrom (classes text : List ℕ) (at r : ℕ) : Type 0 where
   pub from : at ≤ r
   pub same : faultOf (scanBy classes text at) ≡ faultOf (scanBy classes text r)
-
--- a body has no fault from a position on
-abbrev pub Faultless : List ℕ → List ℕ → ℕ → Type 0
-Faultless classes text at = faultOf (scanBy classes text at) ≡ Accepted 0

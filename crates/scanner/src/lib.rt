@@ -10,8 +10,11 @@ ghost use Rattle.scanner.specs.Characters.{foldAt, charactersAt};
 ghost use Rattle.scanner.specs.Scanning.{outside, inQuoted, atomClass, scanFrom, scanBy};
 ghost use Rattle.scanner.specs.Answers.{nextOf, nextInBody, faultOf, bodyScanned};
 ghost use Rattle.scanner.specs.Categories.{ofSymbol, between, categoryOf, categoryAt};
-ghost use Rattle.scanner.specs.Steps.{StepIs, AtomEnds, CommentIs, FaultsFrom, Faultless};
+ghost use Rattle.scanner.specs.Steps.{StepIs, AtomEnds, CommentIs, FaultsFrom};
+ghost use Rattle.scanner.specs.Gaps.{gapDepth, GapCategoryIs, PassedIs, PassedLow, Faultless};
+ghost use Rattle.scanner.specs.declared.Gap.the-variants.{Comment as commentGap};
 ghost use Rattle.octets.specs.Text.{part};
+ghost use Rattle.octets.specs.Writing.{countLimit};
 use octets::answers::Answer;
 use octets::classes::CLASSES;
 use octets::numbers::BODY_OUT_OF_ORDER;
@@ -76,6 +79,19 @@ enum Step {
 enum Comment {
     Past(usize),
     Open(u8, usize),
+}
+
+// Where scanning stands between symbols: outside, in a comment that lies in so many others, or there behind a backslash.
+enum Gap {
+    Outside,
+    Comment(usize),
+    Taking(usize),
+}
+
+// Behind a character: still between symbols, or no longer.
+enum Passed {
+    To(Gap),
+    Over,
 }
 
 // The kind of a byte.
@@ -347,34 +363,76 @@ fn symbol_category(text: &[u8], class: Class, start: usize, end: usize) -> Categ
     }
 }
 
+// What a character of a kind is where scanning stands there.
+fn gap_category(gap: Gap, kind: Kind) -> Category
+    ensures { λ r. ⌜ GapCategoryIs gap kind r ⌝ }
+{
+    match gap {
+        Gap::Outside => match kind {
+            Kind::White => Category::White,
+            Kind::Open => Category::Comment,
+            _ => Category::Nothing,
+        },
+        _ => Category::Comment,
+    }
+}
+
+// Where scanning stands behind a character of a kind in a comment that lies in so many others.
+fn pass_comment(depth: usize, kind: Kind) -> Passed
+    requires { ⌜ depth < countLimit ⌝ }
+    ensures { λ r. ⌜ PassedIs (commentGap depth) kind r × PassedLow (depth + 1) r ⌝ }
+{
+    match kind {
+        Kind::Open => Passed::To(Gap::Comment(depth + 1)),
+        Kind::Close => {
+            if depth == 0 {
+                return Passed::To(Gap::Outside);
+            }
+            Passed::To(Gap::Comment(depth - 1))
+        }
+        Kind::Backslash => Passed::To(Gap::Taking(depth)),
+        Kind::Return | Kind::Above => Passed::Over,
+        _ => Passed::To(Gap::Comment(depth)),
+    }
+}
+
+// Where scanning stands behind a character of a kind.
+fn pass(gap: Gap, kind: Kind) -> Passed
+    requires { ⌜ gapDepth gap < countLimit ⌝ }
+    ensures { λ r. ⌜ PassedIs gap kind r × PassedLow (gapDepth gap + 1) r ⌝ }
+{
+    match gap {
+        Gap::Outside => match kind {
+            Kind::White => Passed::To(Gap::Outside),
+            Kind::Open => Passed::To(Gap::Comment(0)),
+            _ => Passed::Over,
+        },
+        Gap::Comment(depth) => pass_comment(depth, kind),
+        Gap::Taking(depth) => match kind {
+            Kind::Above => Passed::Over,
+            _ => Passed::To(Gap::Comment(depth)),
+        },
+    }
+}
+
 // What the byte at a place is that lies between symbols, from the position behind the symbol before it on.
 fn between_by(classes: &[u8; 256], text: &[u8], at: usize, place: usize) -> Category
-    requires { ⌜ (at ≤ place) × Faultless (now classes) (now text) at ⌝ }
     ensures { λ r. ⌜ r ≡ between (now (classes .entry)) place (charactersAt (now (text .entry)) at) outside ⌝ }
 {
     let mut p = at;
+    let mut gap = Gap::Outside;
     loop {
         let Step::Byte(kind, here, q) = character(classes, text, p) else {
             return Category::Nothing;
         };
-        match kind {
-            Kind::White => {
-                if place < q {
-                    return Category::White;
-                }
-                p = q;
-            }
-            Kind::Open => match comment_end(classes, text, here, q) {
-                Comment::Past(behind) => {
-                    if place < behind {
-                        return Category::Comment;
-                    }
-                    p = behind;
-                }
-                Comment::Open(_, _) => return Category::Nothing,
-            },
-            _ => return Category::Nothing,
+        if place < q {
+            return gap_category(gap, kind);
         }
+        let Passed::To(next) = pass(gap, kind) else {
+            return Category::Nothing;
+        };
+        gap = next;
+        p = q;
     }
 }
 

@@ -6,7 +6,7 @@ use Prim.Native.Nat.{_-_, _≤_}
 use lib.ListN.{length}
 use Rattle.scanner.specs.Scanning.{scanBy}
 use Rattle.scanner.specs.Categories.{categoryOf}
-use Rattle.scanner.specs.Steps.{Faultless}
+use Rattle.scanner.specs.Gaps.{Faultless}
 use Rattle.scanner.proofs.Unfolding.{SymbolAt, found, found-end, found-fault, fault-on}
 use Rattle.scanner.proofs.CategoryLaws.{no-fault, category-over, category-before, category-in, category-behind}
 use Rattle.scanner.proofs.category_by.Statement.{statement}
@@ -35,7 +35,7 @@ enum-known-class : tie.Need-enum-known-class Inv-loop μ-loop
 enum-known-class c = search needs
 
 between-by-requires : tie.Need-between-by-requires Inv-loop μ-loop
-between-by-requires c κs = let i = c .before .before .before .before .before .loop .inv in (i .0, i .1)
+between-by-requires c κs = search needs
 
 returns : tie.Need-returns Inv-loop μ-loop
 returns c = c .between-by .ensures ∙ sym (c .before .before .before .before .before .before .loop .inv .2 ∙ category-before (symbol-found (c .before .before .before)) _ (omega arith))
@@ -59,7 +59,7 @@ enum-told : tie.Need-enum-told Inv-loop μ-loop
 enum-told c = search needs
 
 between-by-requires-2 : tie.Need-between-by-requires-2 Inv-loop μ-loop
-between-by-requires-2 c κs = let i = c .before .before .before .loop .inv in (i .0, i .1)
+between-by-requires-2 c κs = search needs
 
 returns-3 : tie.Need-returns-3 Inv-loop μ-loop
 returns-3 c =

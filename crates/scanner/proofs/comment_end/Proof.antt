@@ -8,13 +8,13 @@ use lib.ListN.{length, getD}
 use Rattle.octets.specs.Numbers.{byteAbove127, strayControl}
 use Rattle.scanner.specs.Scanning.{takingInComment, go, halt}
 use Rattle.scanner.specs.Steps.{FirstCharacter, StepIs}
-use Rattle.scanner.proofs.MoveLaws.{at-end, Commenting, commented-none, comment-moves, comment-on, comment-opens, comment-closes, comment-over, comment-taking, comment-taken}
+use Rattle.scanner.proofs.MoveLaws.{at-end, Commenting, comment-moves, comment-on, comment-opens, comment-closes, comment-over, comment-taking, comment-taken}
 use Rattle.scanner.proofs.comment_end.Statement.{statement}
 use Rattle.scanner.proofs.comment_end.Tie as tie
 
 abbrev Inv-loop : tie.InvT-loop
 Inv-loop classes text start at p₀ depth₀ p depth =
-    (depth ≤ p) × Commenting classes text start at depth p
+    (p ≤ length text) × (at ≤ p) × (depth ≤ p) × Commenting classes text start at depth p
 
 abbrev μ-loop : tie.MeasureT-loop
 μ-loop classes text start at p₀ depth₀ p depth = length text - p
@@ -28,7 +28,7 @@ second : (c : tie.After-taken Inv-loop μ-loop) → (let d = c .before .before .
 second c = rw (c .taken .given .1) at (c .before .before .character2 .ensures)
 
 loop-holds : tie.Need-loop-holds Inv-loop μ-loop
-loop-holds c = (omega arith, commented-none (omega arith))
+loop-holds c = (omega arith, omega arith, omega arith, record { same = refl })
 
 character-requires : tie.Need-character-requires Inv-loop μ-loop
 character-requires c κs = search needs
@@ -43,7 +43,7 @@ returns : tie.Need-returns Inv-loop μ-loop
 returns c =
     let a = c .before .before .before .before .before .args in
     let l = c .before .before .before .loop in
-    l .inv .1 .same ∙ at-end (a .classes .now) (a .text .now) (l .p) _ (rw (c .enum-told .given .1) at (c .before .before .character .ensures))
+    l .inv .3 .same ∙ at-end (a .classes .now) (a .text .now) (l .p) _ (rw (c .enum-told .given .1) at (c .before .before .character .ensures))
 
 enum-told-2 : tie.Need-enum-told-2 Inv-loop μ-loop
 enum-told-2 c = search needs
@@ -57,14 +57,15 @@ loop-less c = let x = first (c .before .before .before) in omega (arith, x .from
 loop-again : tie.Need-loop-again Inv-loop μ-loop
 loop-again c =
     let x = first (c .before .before .before) in
-    (omega (arith, x .from, x .behind), comment-opens (c .before .before .before .before .before .before .loop .inv .1) (rw (c .enum-told2 .given .1) at (first (c .before .before .before))))
+    (x .within, omega (arith, x .from, x .behind), omega (arith, x .from, x .behind), comment-opens (c .before .before .before .before .before .before .loop .inv .3) (rw (c .enum-told2 .given .1) at (first (c .before .before .before))))
 
 enum-told-3 : tie.Need-enum-told-3 Inv-loop μ-loop
 enum-told-3 c = search needs
 
 returns-2 : tie.Need-returns-2 Inv-loop μ-loop
 returns-2 c =
-    comment-over (c .before .before .before .before .before .before .before .loop .inv .1) (rw (c .before .enum-told3 .given .1) at (first (c .before .before .before .before))) (c .if1 .taken)
+    let x = first (c .before .before .before .before) in
+    record { same = comment-over (c .before .before .before .before .before .before .before .loop .inv .3) (rw (c .before .enum-told3 .given .1) at (first (c .before .before .before .before))) (c .if1 .taken); from = omega (arith, x .from, x .behind); within = x .within }
 
 sub-depth : tie.Need-sub-depth Inv-loop μ-loop
 sub-depth c = search needs
@@ -75,19 +76,19 @@ loop-less-2 c = let x = first (c .before .before .before .before) in omega (arit
 loop-again-2 : tie.Need-loop-again-2 Inv-loop μ-loop
 loop-again-2 c =
     let x = first (c .before .before .before .before) in
-    (omega (arith, x .from, x .behind), comment-closes (c .before .before .before .before .before .before .before .loop .inv .1) (rw (c .before .enum-told3 .given .1) at (first (c .before .before .before .before))) (c .if1 .left))
+    (x .within, omega (arith, x .from, x .behind), omega (arith, x .from, x .behind), comment-closes (c .before .before .before .before .before .before .before .loop .inv .3) (rw (c .before .enum-told3 .given .1) at (first (c .before .before .before .before))) (c .if1 .left))
 
 enum-told-4 : tie.Need-enum-told-4 Inv-loop μ-loop
 enum-told-4 c = search needs
 
 returns-3 : tie.Need-returns-3 Inv-loop μ-loop
-returns-3 c = comment-moves (c .before .before .before .before .before .before .loop .inv .1) (rw (c .enum-told4 .given .1) at (first (c .before .before .before))) (halt [] strayControl _) refl
+returns-3 c = comment-moves (c .before .before .before .before .before .before .loop .inv .3) (rw (c .enum-told4 .given .1) at (first (c .before .before .before))) (halt [] strayControl _) refl
 
 enum-told-5 : tie.Need-enum-told-5 Inv-loop μ-loop
 enum-told-5 c = search needs
 
 returns-4 : tie.Need-returns-4 Inv-loop μ-loop
-returns-4 c = comment-moves (c .before .before .before .before .before .before .loop .inv .1) (rw (c .enum-told5 .given .1) at (first (c .before .before .before))) (halt [] byteAbove127 _) refl
+returns-4 c = comment-moves (c .before .before .before .before .before .before .loop .inv .3) (rw (c .enum-told5 .given .1) at (first (c .before .before .before))) (halt [] byteAbove127 _) refl
 
 enum-told-6 : tie.Need-enum-told-6 Inv-loop μ-loop
 enum-told-6 c = search needs
@@ -104,7 +105,7 @@ enum-told-7 c = search needs
 returns-5 : tie.Need-returns-5 Inv-loop μ-loop
 returns-5 c =
     let a = c .before .before .before .before .before .before .before .before .before .before .before .args in
-    comment-moves (c .before .before .before .before .before .before .before .before .before .loop .inv .1) (rw (c .before .before .before .enum-told6 .given .1) at (first (c .before .before .before .before .before .before))) (go [] (takingInComment _ _)) refl
+    comment-moves (c .before .before .before .before .before .before .before .before .before .loop .inv .3) (rw (c .before .before .before .enum-told6 .given .1) at (first (c .before .before .before .before .before .before))) (go [] (takingInComment _ _)) refl
     ∙ at-end (a .classes .now) (a .text .now) (c .before .before .before .before .before .before .kind .given .0 .1 .1 .0) _ (rw (c .enum-told7 .given .1) at (c .before .before .character2 .ensures))
 
 enum-told-8 : tie.Need-enum-told-8 Inv-loop μ-loop
@@ -112,7 +113,7 @@ enum-told-8 c = search needs
 
 returns-6 : tie.Need-returns-6 Inv-loop μ-loop
 returns-6 c =
-    comment-taking (c .before .before .before .before .before .before .before .before .before .before .before .before .loop .inv .1) (rw (c .before .before .before .before .before .before .enum-told6 .given .1) at (first (c .before .before .before .before .before .before .before .before .before))) (rw (c .enum-told8 .given .1) at (second (c .before .before .before))) (halt [] byteAbove127 _) refl
+    comment-taking (c .before .before .before .before .before .before .before .before .before .before .before .before .loop .inv .3) (rw (c .before .before .before .before .before .before .enum-told6 .given .1) at (first (c .before .before .before .before .before .before .before .before .before))) (rw (c .enum-told8 .given .1) at (second (c .before .before .before))) (halt [] byteAbove127 _) refl
 
 loop-less-3 : tie.Need-loop-less-3 Inv-loop μ-loop
 loop-less-3 c = let x = first (c .before .before .before .before .before .before .before .before) in let y = second (c .before .before) in omega (arith, x .from, x .behind, x .within, y .from, y .behind, y .within)
@@ -121,8 +122,10 @@ loop-again-3 : tie.Need-loop-again-3 Inv-loop μ-loop
 loop-again-3 c =
     let x = first (c .before .before .before .before .before .before .before .before) in
     let y = second (c .before .before) in (
+      y .within,
       omega (arith, x .from, x .behind, y .from, y .behind),
-      comment-taken (c .before .before .before .before .before .before .before .before .before .before .before .loop .inv .1) (rw (c .before .before .before .before .before .enum-told6 .given .1) at (first (c .before .before .before .before .before .before .before .before))) y (c .match4 .keys2),
+      omega (arith, x .from, x .behind, y .from, y .behind),
+      comment-taken (c .before .before .before .before .before .before .before .before .before .before .before .loop .inv .3) (rw (c .before .before .before .before .before .enum-told6 .given .1) at (first (c .before .before .before .before .before .before .before .before))) y (c .match4 .keys2),
     )
 
 loop-less-4 : tie.Need-loop-less-4 Inv-loop μ-loop
@@ -131,7 +134,7 @@ loop-less-4 c = let x = first (c .before .before) in omega (arith, x .from, x .b
 loop-again-4 : tie.Need-loop-again-4 Inv-loop μ-loop
 loop-again-4 c =
     let x = first (c .before .before) in
-    (omega (arith, x .from, x .behind), comment-on (c .before .before .before .before .before .loop .inv .1) x (c .match2 .keys6))
+    (x .within, omega (arith, x .from, x .behind), omega (arith, x .from, x .behind), comment-on (c .before .before .before .before .before .loop .inv .3) x (c .match2 .keys6))
 
 pub comment-end-spec : {M : Type 1} → statement M
 comment-end-spec =
