@@ -1,5 +1,5 @@
 -- The records that cover a place are those that climbing parent by parent finds. Assumes nothing.
-use Prim.Native.Nat.{ℕ, suc, _+_, _≤_, _<_}
+use Prim.Native.Nat.{ℕ, suc, _+_, max, _≤_, _<_}
 use native.Mathlib.Omega.{arith}
 use mathlib.Core.Path.{_≡_, refl, sym, ap, _∙_}
 use mathlib.Core.Bool.{Bool, true, false}
@@ -10,7 +10,7 @@ use lib.ListN.{length, getD, length-append}
 use Rattle.octets.specs.Choice.{pick}
 use Rattle.grammar.specs.Records.{AddressRecord, noRecord}
 use Rattle.touch.specs.Around.{covers, aroundFrom, around, firstPlus, Climbs, over, up, AroundClimbs}
-use Rattle.touch.proofs.Nesting.{Nest, nil, node, flatten, Well, well-le, Nested}
+use Rattle.touch.proofs.Nesting.{Nest, nil, node, flatten, height, Well, well-le, Nested}
 
 -- ---- what covers a byte
 
@@ -79,56 +79,64 @@ get-behind : (front : List AddressRecord) (r : AddressRecord) (rs : List Address
 get-behind [] r rs = refl
 get-behind (f ∷ front) r rs = get-behind front r rs
 
--- a path of covering records
-record PathOf (all : List AddressRecord) (ns : List ℕ) : Type 0 where
+-- a path of covering records, of at most so many
+record PathOf (all : List AddressRecord) (many : ℕ) (ns : List ℕ) : Type 0 where
   climbs : Climbs all (firstPlus ns) ns
+  few : length ns ≤ many
 
-module _ (all : List AddressRecord) (r : AddressRecord) (inside rest : Nest) (front back : List AddressRecord) (p i from to b : ℕ) (acc : List ℕ)
-    (e : all ≡ front ++ (flatten (node r inside rest) ++ back)) (l : length front ≡ i) (w : Well (node r inside rest) p i from to) (q : p ≡ firstPlus acc) (x : PathOf all acc) where
-  abbrev front₁ : List AddressRecord
-  front₁ = front ++ (r ∷ [])
+path-widen : {all : List AddressRecord} {many many′ : ℕ} {ns : List ℕ} → many ≤ many′ → PathOf all many ns → PathOf all many′ ns
+path-widen h x = record { climbs = x .climbs; few = omega (arith, x .few) }
 
-  e₁ : all ≡ front₁ ++ (flatten inside ++ (flatten rest ++ back))
-  e₁ = e ∙ ap (λ z. front ++ (r ∷ z)) (append-assoc (flatten inside) (flatten rest) back) ∙ sym (append-assoc front (r ∷ []) (flatten inside ++ (flatten rest ++ back)))
+-- a nest that stands among all records, behind those of `front`, adds to the path above it those of its records that cover the place
+abbrev Adds : List AddressRecord → Nest → ℕ → ℕ → List ℕ → Type 0
+Adds all n i b above =
+    (front back : List AddressRecord) (many : ℕ) → all ≡ front ++ (flatten n ++ back) → length front ≡ i → PathOf all many above → PathOf all (many + height n) (aroundFrom b i (flatten n) above)
 
-  l₁ : length front₁ ≡ suc i
-  l₁ = simp length-append (omega arith)
+-- what lies in the first record of a nest stands behind it
+inside-at : (all : List AddressRecord) (r : AddressRecord) (inside rest : Nest) (front back : List AddressRecord) → all ≡ front ++ (flatten (node r inside rest) ++ back) → all ≡ (front ++ (r ∷ [])) ++ (flatten inside ++ (flatten rest ++ back))
+inside-at all r inside rest front back e =
+    e ∙ ap (λ z. front ++ (r ∷ z)) (append-assoc (flatten inside) (flatten rest) back) ∙ sym (append-assoc front (r ∷ []) (flatten inside ++ (flatten rest ++ back)))
 
-  e₂ : all ≡ (front₁ ++ flatten inside) ++ (flatten rest ++ back)
-  e₂ = e₁ ∙ sym (append-assoc front₁ (flatten inside) (flatten rest ++ back))
+module _ (all : List AddressRecord) (r : AddressRecord) (inside rest : Nest) (p i from to b : ℕ) (above : List ℕ) (w : Well (node r inside rest) p i from to) (q : p ≡ firstPlus above) where
+  abbrev next : ℕ
+  next = suc i + length (flatten inside)
 
-  l₂ : length (front₁ ++ flatten inside) ≡ suc i + length (flatten inside)
-  l₂ = simp length-append (omega arith)
+  -- .. and so do those behind
+  behind-it : Adds all inside (suc i) b (i ∷ above) → Adds all rest next b above → (front back : List AddressRecord) (many : ℕ) → all ≡ front ++ (flatten (node r inside rest) ++ back) → length front ≡ i
+      → PathOf all many above → PathOf all (many + height (node r inside rest)) (aroundFrom b next (flatten rest) above)
+  behind-it y z front back many e l x =
+      path-widen (omega arith)
+      (z ((front ++ (r ∷ [])) ++ flatten inside) back many (inside-at all r inside rest front back e ∙ sym (append-assoc (front ++ (r ∷ [])) (flatten inside) (flatten rest ++ back))) (simp length-append (omega arith)) x)
 
-  own : getD all i noRecord ≡ r
-  own = ap (λ z. getD z i noRecord) e ∙ ap (λ z. getD (front ++ (r ∷ ((flatten inside ++ flatten rest) ++ back))) z noRecord) (sym l) ∙ get-behind front r ((flatten inside ++ flatten rest) ++ back)
+  node-adds : Covers b r → Adds all inside (suc i) b (i ∷ above) → Adds all rest next b above → Adds all (node r inside rest) i b above
+  node-adds (within c d f) y z front back many e l x =
+      let own : getD all i noRecord ≡ r =
+      ap (λ z. getD z i noRecord) e ∙ ap (λ z. getD (front ++ (r ∷ ((flatten inside ++ flatten rest) ++ back))) z noRecord) (sym l) ∙ get-behind front r ((flatten inside ++ flatten rest) ++ back) in
+      let t : Climbs all (getD all i noRecord .parent) above = rw (own, w .0, q) (x .climbs) in
+      let inner = y (front ++ (r ∷ [])) (flatten rest ++ back) (suc many) (inside-at all r inside rest front back e) (simp length-append (omega arith)) (record { climbs = up t; few = omega (arith, x .few) }) in
+      rw (take-it b i r inside rest above c (λ ns. none-before rest p next (r .end) to b ns (w .4) f)) (path-widen (omega arith) inner)
+  node-adds (before c d) y z front back many e l x =
+      rw (skip b i r inside rest above (aroundFrom b next (flatten rest) above) c (none-before inside (suc i) (suc i) (r .start) (r .end) b above (w .3) d) refl) (behind-it y z front back many e l x)
+  node-adds (behind c d) y z front back many e l x =
+      rw (skip b i r inside rest above (aroundFrom b next (flatten rest) above) c (none-behind inside (suc i) (suc i) (r .start) (r .end) b above (w .3) d) refl) (behind-it y z front back many e l x)
 
-  deeper : PathOf all (i ∷ acc)
-  deeper =
-      let t : Climbs all (getD all i noRecord .parent) acc = rw (own, w .0, q) (x .climbs) in
-      record { climbs = up t }
-
-  node-path : PathOf all (aroundFrom b (suc i) (flatten inside) (i ∷ acc)) → PathOf all (aroundFrom b (suc i + length (flatten inside)) (flatten rest) acc) → Covers b r
-      → PathOf all (aroundFrom b i (flatten (node r inside rest)) acc)
-  node-path y z (within c d f) = rw (take-it b i r inside rest acc c (λ ns. none-before rest p (suc i + length (flatten inside)) (r .end) to b ns (w .4) f)) y
-  node-path y z (before c d) =
-      rw (skip b i r inside rest acc (aroundFrom b (suc i + length (flatten inside)) (flatten rest) acc) c (none-before inside (suc i) (suc i) (r .start) (r .end) b acc (w .3) d) refl) z
-  node-path y z (behind c d) =
-      rw (skip b i r inside rest acc (aroundFrom b (suc i + length (flatten inside)) (flatten rest) acc) c (none-behind inside (suc i) (suc i) (r .start) (r .end) b acc (w .3) d) refl) z
-
-path-on : (all : List AddressRecord) (n : Nest) (front back : List AddressRecord) (p i from to b : ℕ) (acc : List ℕ) → all ≡ front ++ (flatten n ++ back) → length front ≡ i
-    → Well n p i from to → p ≡ firstPlus acc → PathOf all acc → PathOf all (aroundFrom b i (flatten n) acc)
-path-on all nil front back p i from to b acc e l w q x = x
-path-on all (node r inside rest) front back p i from to b acc e l w q x =
-    node-path all r inside rest front back p i from to b acc e l w q x
-    (path-on all inside (front ++ (r ∷ [])) (flatten rest ++ back) (suc i) (suc i) (r .start) (r .end) b (i ∷ acc) (e₁ all r inside rest front back p i from to b acc e l w q x) (l₁ all r inside rest front back p i from to b acc e l w q x) (w .3) refl
-    (deeper all r inside rest front back p i from to b acc e l w q x))
-    (path-on all rest ((front ++ (r ∷ [])) ++ flatten inside) back p (suc i + length (flatten inside)) (r .end) to b acc (e₂ all r inside rest front back p i from to b acc e l w q x) (l₂ all r inside rest front back p i from to b acc e l w q x) (w .4) q x)
-    (covers-cases b r)
+adds : (all : List AddressRecord) (n : Nest) (p i from to b : ℕ) (above : List ℕ) → Well n p i from to → p ≡ firstPlus above → Adds all n i b above
+adds all nil p i from to b above w q = λ front back many e l x. path-widen (omega arith) x
+adds all (node r inside rest) p i from to b above w q =
+    node-adds all r inside rest p i from to b above w q (covers-cases b r)
+    (adds all inside (suc i) (suc i) (r .start) (r .end) b (i ∷ above) (w .3) refl)
+    (adds all rest p (suc i + length (flatten inside)) (r .end) to b above (w .4) q)
 
 -- ---- of records that lie in each other
 
+path : {from to : ℕ} {rs : List AddressRecord} (n : Nested from to rs) (place : ℕ) → PathOf rs (height (n .nest)) (around place rs)
+path {from} {to} {rs} n place =
+    let m = adds (flatten (n .nest)) (n .nest) 0 0 from to place [] (n .well) refl [] [] 0 (sym (append-nil (flatten (n .nest)))) refl (record { climbs = over; few = omega arith }) in
+    rw (n .flat) at (path-widen {many′ = height (n .nest)} (omega arith) m)
+
 pub around-climbs : {from to : ℕ} {rs : List AddressRecord} → Nested from to rs → AroundClimbs rs
-around-climbs {from} {to} {rs} n place =
-    let m = path-on (flatten (n .nest)) (n .nest) [] [] 0 0 from to place [] (sym (append-nil (flatten (n .nest)))) refl (n .well) refl (record { climbs = over }) in
-    rw (n .flat) at (m .climbs)
+around-climbs n place = path n place .climbs
+
+-- as many records are around a place as lie in each other, at most
+pub around-few : {from to : ℕ} {rs : List AddressRecord} (n : Nested from to rs) (place : ℕ) → length (around place rs) ≤ height (n .nest)
+around-few n place = path n place .few

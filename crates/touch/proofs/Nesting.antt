@@ -1,13 +1,14 @@
 -- The records of a list lie in each other like brackets. Assumes nothing.
-use Prim.Native.Nat.{ℕ, suc, _+_, _≤_, _<_}
+use Prim.Native.Nat.{ℕ, suc, _+_, max, _≤_, _<_}
 use native.Mathlib.Omega.{arith}
 use mathlib.Core.Path.{_≡_, refl, sym, ap, _∙_}
 use mathlib.Core.List.{List, [], _∷_, _++_, append-assoc, append-nil}
 use lib.ListN.{length}
+use Rattle.grammar.specs.Grammar.{levels}
 use Rattle.grammar.specs.Records.{AddressRecord, records}
 use Rattle.grammar.specs.Rfc733.{Derivation, DerivedList}
-use Rattle.grammar.proofs.Trees.{LessThan, GreaterThan, Comma, Semicolon, Colon, Sym, of, Place, empty, comma, AddressList, idle, full, Address, mailbox, angle, group, quoted, typed, nodesThen, placeThen, listThen, addressThen}
-use Rattle.grammar.proofs.Rows.{tree-derived}
+use Rattle.grammar.proofs.Trees.{LessThan, GreaterThan, Comma, Semicolon, Colon, Sym, of, Place, empty, comma, AddressList, idle, full, Address, mailbox, angle, group, quoted, typed, nodesThen, placeThen, listThen, addressThen, placeLevels, listLevels, addressLevels}
+use Rattle.grammar.proofs.Rows.{row-levels, tree-derived}
 use Rattle.grammar.proofs.RecordLaws.{inside-length}
 use Rattle.grammar.proofs.TreeRecords.{phraseEnd, nameStart, addressEnd, addressRecord, placeCount, listCount, addressCount, placeRecords, listRecords, insideRecords, tree-records}
 use Rattle.grammar.proofs.Order.{InOrder, phrase-lies, nodes-lies, name-lies}
@@ -22,6 +23,11 @@ pub data Nest : Type 0 where
 abbrev pub flatten : Nest → List AddressRecord
 flatten nil = []
 flatten (node r inside rest) = r ∷ (flatten inside ++ flatten rest)
+
+-- how many lie in each other at once, at most
+abbrev pub height : Nest → ℕ
+height nil = 0
+height (node r inside rest) = max (suc (height inside)) (height rest)
 
 -- with this parent, from this number on, between two positions
 abbrev pub Well : Nest → ℕ → ℕ → ℕ → ℕ → Type 0
@@ -75,6 +81,23 @@ mutual
   inside-flat (group o t l u) d i = list-flat l d i i nil ∙ append-nil _
   inside-flat (quoted t) d i = refl
   inside-flat (typed t a u b) d i = ap (λ z. addressRecord b d i ∷ z) (append-nil _ ∙ inside-flat b (suc d) (suc i))
+
+-- .. no more than the levels, and one
+mutual
+  place-height : (r : Place) (d p i : ℕ) (n : Nest) → height (placeNest r d p i n) ≤ max (suc (placeLevels r)) (height n)
+  place-height empty d p i n = omega arith
+  place-height (comma l t) d p i n = list-height l d p i n
+
+  list-height : (l : AddressList) (d p i : ℕ) (n : Nest) → height (listNest l d p i n) ≤ max (suc (listLevels l)) (height n)
+  list-height (idle r) d p i n = place-height r d p i n
+  list-height (full r a) d p i n = omega (arith, place-height r d p i (node (addressRecord a d p) (insideNest a (suc d) (suc (i + placeCount r))) n), inside-height a (suc d) (suc (i + placeCount r)))
+
+  inside-height : (a : Address) (d i : ℕ) → height (insideNest a d i) ≤ addressLevels a
+  inside-height (mailbox p m) d i = omega arith
+  inside-height (angle o t l u) d i = omega (arith, list-height l d i i nil)
+  inside-height (group o t l u) d i = omega (arith, list-height l d i i nil)
+  inside-height (quoted t) d i = omega arith
+  inside-height (typed t a u b) d i = omega (arith, inside-height b (suc d) (suc i))
 
 own-parent : (a : Address) (d p : ℕ) → addressRecord a d p .parent ≡ p
 own-parent (mailbox q m) d p = refl
@@ -186,3 +209,7 @@ nested {k} {xs} from to d h =
       flat = list-flat l 0 0 0 nil ∙ append-nil _ ∙ sym (ap records e ∙ tree-records l);
       well = y .well 0 0 0 to nil (y .rest);
     }
+
+pub nested-height : {k : Derivation} {xs : List Sym} (from to : ℕ) (d : DerivedList k xs) (h : InOrder from to xs) → height (nested from to d h .nest) ≤ suc (levels k)
+unfolding nested
+nested-height {k} from to d h = let (l, e, t) = tree-derived d in omega (arith, list-height l 0 0 0 nil, ap levels e, row-levels l)

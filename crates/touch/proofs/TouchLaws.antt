@@ -38,8 +38,8 @@ use Rattle.touch.specs.ByGrammar.{ByGrammar}
 use Rattle.touch.specs.Climbing.{Holds, HeldList, ClimbIs, LastAroundIs}
 use Rattle.touch.specs.declared.Touched.{Touched}
 use Rattle.touch.specs.declared.Touched.the-variants.{Byte, Expected, Refused, NoRoom}
-use Rattle.touch.proofs.Nesting.{nested}
-use Rattle.touch.proofs.AroundLaws.{around-climbs}
+use Rattle.touch.proofs.Nesting.{nested, nested-height}
+use Rattle.touch.proofs.AroundLaws.{around-climbs, around-few}
 
 -- the parts of an outcome
 pub parts : {o o′ : Outcome} → o′ ≡ o → (o .answer ≡ o′ .answer) × (o .path ≡ o′ .path)
@@ -150,6 +150,12 @@ module _ (message : List ℕ) (start end place : ℕ) (path : List ℕ) where
     means x e f = rw (e, f) (by-verdict x _ refl)
 
   -- ---- a place of a list
+
+  -- a path of one number more than there are levels is always enough
+  pub path-enough : {k : Derivation} → ListBody message start end k → length (around place (records k)) ≤ levelLimit + 1
+  path-enough b =
+      let n = nested start end (b .list .derived) (in-body b) in
+      omega (arith, around-few n place, nested-height start end (b .list .derived) (in-body b), b .list .within)
 
   module _ {table : List ℕ} {many : ℕ} {k : Derivation} (h : HeldList message start end table many k) where
     in-room : ltb tableRecords (count k) ≡ false
