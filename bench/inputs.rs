@@ -46,6 +46,8 @@ const COMMON: [Common; 6] = [
 // A list with what only RFC 733 has: "at" in letters, an angle list and a group that are addresses themselves.
 const LIST: &[u8] = b"Al Neuman at Mad-Host, \"Sam, Irving\" <Sam at Other-Host> (away),\r\n Cooks: Childs@WGBH;";
 const LIST_RECORDS: usize = 5;
+// Around its last byte is the group.
+const LIST_AROUND: usize = 1;
 const LIST_PLAIN: &[u8] = b"Al Neuman at Mad-Host, \"Sam, Irving\" <Sam at Other-Host>, Cooks: Childs at WGBH;";
 
 const FIELD: &[u8] = b"Subject: Re: The Syntax in the RFC,\r\n folded once\r\n";
@@ -67,6 +69,8 @@ pub enum Work {
     Common(usize),
     List,
     Plain,
+    // Touching the last byte of a list.
+    Touch,
     Split,
     Date,
 }
@@ -74,7 +78,7 @@ pub enum Work {
 impl Work {
     pub fn all() -> Vec<Work> {
         let mut all = Work::common();
-        all.extend([Work::List, Work::Plain, Work::Split, Work::Date]);
+        all.extend([Work::List, Work::Plain, Work::Touch, Work::Split, Work::Date]);
         all
     }
 
@@ -87,6 +91,7 @@ impl Work {
             Work::Common(number) => format!("addresses, {}", COMMON[number].name),
             Work::List => "addresses, RFC 733 list".to_string(),
             Work::Plain => "plain writing".to_string(),
+            Work::Touch => "touch, the last byte".to_string(),
             Work::Split => "split".to_string(),
             Work::Date => "date".to_string(),
         }
@@ -106,7 +111,7 @@ pub struct Input {
     pub text: Vec<u8>,
     // Addresses in it, 0 where none are read.
     pub addresses: usize,
-    // What a reader with records or a value finds: records, bytes of text, fields, seconds.
+    // What a reader with records or a value finds: records, bytes of text, records around the byte, fields, seconds.
     pub found: usize,
 }
 
@@ -131,6 +136,10 @@ pub fn input(work: Work, size: usize) -> Input {
             let (text, times) = repeated(LIST, BETWEEN, size);
             let found = times * (LIST_PLAIN.len() + BETWEEN.len()) - BETWEEN.len();
             Input { work, text, addresses: times * LIST_RECORDS, found }
+        }
+        Work::Touch => {
+            let (text, times) = repeated(LIST, BETWEEN, size);
+            Input { work, text, addresses: times * LIST_RECORDS, found: LIST_AROUND }
         }
         Work::Split => {
             let (text, times) = repeated(FIELD, b"", size);

@@ -40,6 +40,7 @@ mod rfc733 {
         pub fn rfc733_split(m: *const u8, n: usize, table: *mut u8, room: usize, told: *mut u64, three: usize);
         pub fn rfc733_addresses(m: *const u8, n: usize, start: usize, end: usize, table: *mut u8, room: usize, told: *mut u64, three: usize);
         pub fn rfc733_addresses_by_table(m: *const u8, n: usize, start: usize, end: usize, table: *mut u8, room: usize, told: *mut u64, three: usize);
+        pub fn rfc733_touch(m: *const u8, n: usize, start: usize, end: usize, place: usize, path: *mut u64, room: usize, told: *mut u64, five: usize);
         pub fn rfc733_date(m: *const u8, n: usize, start: usize, end: usize, told: *mut u64, three: usize, value: *mut i64);
         pub fn rfc733_plain(m: *const u8, n: usize, start: usize, end: usize, text: *mut u8, room: usize, told: *mut u64, three: usize);
     }
@@ -60,6 +61,12 @@ proved!(proved_addresses, rfc733_addresses);
 proved!(proved_by_table, rfc733_addresses_by_table);
 proved!(proved_plain, rfc733_plain);
 
+fn proved_touch(desk: &mut Desk) -> usize {
+    let (n, mut path, mut told) = (desk.length, [0u64; 65], [0u64; 5]);
+    unsafe { rfc733::rfc733_touch(desk.text.as_ptr(), n, 0, n, n - 1, path.as_mut_ptr(), 65, told.as_mut_ptr(), 5) };
+    told[2] as usize
+}
+
 fn proved_split(desk: &mut Desk) -> usize {
     let (n, room, mut told) = (desk.length, desk.table.len(), [0u64; 3]);
     unsafe { rfc733::rfc733_split(desk.text.as_ptr(), n, desk.table.as_mut_ptr(), room, told.as_mut_ptr(), 3) };
@@ -78,6 +85,11 @@ fn independent_addresses(desk: &mut Desk) -> usize {
 
 fn independent_plain(desk: &mut Desk) -> usize {
     reader::plain(&desk.text[..desk.length], 0, desk.length, &mut desk.table).count as usize
+}
+
+fn independent_touch(desk: &mut Desk) -> usize {
+    let (n, mut path) = (desk.length, [0u64; 65]);
+    reader::touch(&desk.text[..n], 0, n, n - 1, &mut path)[2] as usize
 }
 
 fn independent_split(desk: &mut Desk) -> usize {
@@ -141,6 +153,7 @@ fn ours(work: Work) -> Vec<(&'static str, Read)> {
             vec![(PROVED, proved_addresses), (BY_TABLE, proved_by_table), (INDEPENDENT, independent_addresses)]
         }
         Work::Plain => vec![(PROVED, proved_plain), (INDEPENDENT, independent_plain)],
+        Work::Touch => vec![(PROVED, proved_touch), (INDEPENDENT, independent_touch)],
         Work::Split => vec![(PROVED, proved_split), (INDEPENDENT, independent_split)],
         Work::Date => vec![(PROVED, proved_date), (INDEPENDENT, independent_date)],
     }

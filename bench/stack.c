@@ -9,12 +9,12 @@
 
 #include "rfc733.h"
 
-enum { STACK = 1 << 20, LIMIT = 32768, LEVELS = 64, BY_TABLE_MOST = 4095, PAINT = 0xA5, FUNCTIONS = 8 };
+enum { STACK = 1 << 20, LIMIT = 32768, LEVELS = 64, BY_TABLE_MOST = 4095, PAINT = 0xA5, PATH = 65, FUNCTIONS = 9 };
 
 static _Alignas(4096) uint8_t stack[STACK];
 static uint8_t message[LIMIT], table[12 * LIMIT];
 static size_t length;
-static uint64_t told[3];
+static uint64_t told[3], path[PATH];
 static const uint8_t nothing[1];
 
 /* An input: three texts, each so many times, and the answer's number of one function, by document 01. */
@@ -25,7 +25,7 @@ struct worst {
     unsigned number;
 };
 
-enum { SPLIT, NAME, SCAN, ADDRESSES, BY_TABLE, PLAIN, DATE, REPLY };
+enum { SPLIT, NAME, SCAN, ADDRESSES, BY_TABLE, TOUCH, PLAIN, DATE, REPLY };
 
 static const struct worst inputs[] = {
     {"empty", "", "", "", 0, 0, 0, ADDRESSES, 0},
@@ -69,6 +69,7 @@ static void run_addresses(void) { rfc733_addresses(message, length, 0, length, t
 static void run_by_table(void) {
     rfc733_addresses_by_table(message, length, 0, length, table, sizeof table, told, 3);
 }
+static void run_touch(void) { rfc733_touch(message, length, 0, length, length / 2, path, PATH, told, 3); }
 static void run_plain(void) { rfc733_plain(message, length, 0, length, table, sizeof table, told, 3); }
 static void run_reply(void) { rfc733_reply(message, length, nothing, 0); }
 static void run_date(void) {
@@ -76,8 +77,8 @@ static void run_date(void) {
     rfc733_date(message, length, 0, length, told, 3, &seconds);
 }
 
-static void (*const functions[FUNCTIONS])(void) = {run_split,    run_name,  run_scan, run_addresses,
-                                                   run_by_table, run_plain, run_date, run_reply};
+static void (*const functions[FUNCTIONS])(void) = {run_split, run_name,  run_scan, run_addresses, run_by_table,
+                                                   run_touch, run_plain, run_date, run_reply};
 static const uint8_t *caller;
 
 static void *call(void *function) {
@@ -143,8 +144,8 @@ static void show(const struct worst *one) {
 }
 
 int main(void) {
-    puts("| input | bytes | split | known_name | scan | addresses | addresses_by_table | plain | date | reply |");
-    puts("|---|--:|--:|--:|--:|--:|--:|--:|--:|--:|");
+    puts("| input | bytes | split | known_name | scan | addresses | addresses_by_table | touch | plain | date | reply |");
+    puts("|---|--:|--:|--:|--:|--:|--:|--:|--:|--:|--:|");
     for (size_t i = 0; i < sizeof inputs / sizeof *inputs; i++) show(&inputs[i]);
     printf("| most | |");
     for (int i = 0; i < FUNCTIONS; i++) printf(" %zu |", most[i]);

@@ -4,8 +4,6 @@ use mathlib.Core.Path.{_≡_}
 use mathlib.Core.Bool.{Bool}
 use mathlib.Core.List.{List}
 use Rattle.octets.specs.Numbers.{levelLimit}
-use Rattle.scanner.specs.Scanning.{scanBy}
-use Rattle.scanner.specs.Answers.{unlessFault}
 use Rattle.scanner.specs.declared.Class.{Class}
 use Rattle.grammar.proofs.AnyMachine.{ended, standsBy}
 use Rattle.grammar.proofs.Trees.{AddressList, Address}
@@ -13,7 +11,7 @@ use Rattle.grammar.proofs.AddressMachine.{Here, Level, State, close, levelsAt, 
 use Rattle.addresses.specs.Steps.{symbolsFrom}
 use Rattle.addresses.specs.Whole.{IsRefused}
 use Rattle.expected.specs.Things.{ifNamed, sumOf}
-use Rattle.expected.specs.Named.{goes, isSome, anywhere, takes, namedAt, named}
+use Rattle.expected.specs.Named.{goes, isSome, anywhere, takes, namedAt}
 use Rattle.engine.specs.Actions.{entry, rowOf, actionOf}
 use Rattle.engine.specs.Stands.{modeOf, HoldsLevel, Stands}
 use Rattle.engine.specs.Turns.{kindIf, endIf, OpenHere}
@@ -85,7 +83,3 @@ IfCouldEndIs stack e n r = (x : SomeStands stack e) → r ≡ ifNamed (isSome (f
 -- all of them
 abbrev pub ExpectedIs : List ℕ → Engine → ℕ → Type 0
 ExpectedIs stack e r = (x : SomeStands stack e) → r ≡ sumOf (namedAt levelLimit (x .state))
-
--- .. where the reader stops in a text, unless there is a fault
-abbrev pub expectedBy : List ℕ → List ℕ → ℕ → ℕ
-expectedBy classes text at = unlessFault (λ number p. 0) (scanBy classes text at) (sumOf (named levelLimit (symbolsFrom classes text at)))

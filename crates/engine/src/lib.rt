@@ -16,7 +16,7 @@ ghost use Rattle.expected.specs.Named.{named, expectedIn};
 ghost use Rattle.engine.specs.Actions.{actionTable, columns, modeCount};
 ghost use Rattle.engine.specs.Stands.{levelSize, stackSize, placeOf};
 ghost use Rattle.engine.specs.Turns.{isAngle, kindIf, loneKind, SomeHere, ParentIs, SomeLevel, PutLevelIs, SomeClosing, CloseTypedIs, SomeEnded, CompleteIs, Fits, OpenLevelIs, SomeAtClose, CloseLevelIs, SomeTyped, MakeTypedIs, PassIs, SomeEnding, EndsIs, SomeTurning, TurnIs, SomeFinishing, FinishIs};
-ghost use Rattle.engine.specs.Expecting.{RunIs, UnderTypedIs, ClosesIs, SomeStands, SomeCould, CouldIs, SomeCouldEnd, CouldEndIs, IfCouldIs, IfCouldEndIs, ExpectedIs, expectedBy};
+ghost use Rattle.engine.specs.Expecting.{RunIs, UnderTypedIs, ClosesIs, SomeStands, SomeCould, CouldIs, SomeCouldEnd, CouldEndIs, IfCouldIs, IfCouldEndIs, ExpectedIs};
 use crate::actions::ACTIONS;
 use crate::actions::ADDS;
 use crate::actions::BEGINS;
@@ -711,31 +711,14 @@ fn expected_at_stop(
     }
 }
 
-// What could stand where the reader stops in a text from a position on, summed; 0 where there is a fault.
-fn expected_in(classes: &[u8; 256], actions: &[u8; TABLE_SIZE], text: &[u8], at: usize) -> usize
-    requires { ⌜ (at ≤ length (now text)) × (length (now text) ≤ messageLimit) × (now actions ≡ actionTable) ⌝ }
-    ensures { λ r. ⌜ r ≡ expectedBy (now (classes .entry)) (now (text .entry)) at ⌝ }
-{
-    match scanner::fault_by(classes, text, at) {
-        Answer::Refused(_, _) => 0,
-        _ => expected_at_stop(classes, actions, text, at),
-    }
-}
-
 // What could stand where the reader stops in the body of a message from start up to end, summed; 0 where it does not read it.
 pub fn expected(message: &[u8], start: usize, end: usize) -> usize
     ensures { λ r. ⌜ r ≡ expectedIn (now (message .entry)) start end ⌝ }
 {
-    if MESSAGE_LIMIT < message.len() {
-        return 0;
-    }
-    if end < start {
-        return 0;
-    }
-    if message.len() < end {
+    if let Answer::Refused(_, _) = scanner::scan_body(message, start, end) {
         return 0;
     }
     let classes = &CLASSES;
     let actions = &ACTIONS;
-    expected_in(classes, actions, &message[..end], start)
+    expected_at_stop(classes, actions, &message[..end], start)
 }

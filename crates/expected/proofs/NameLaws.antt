@@ -3,20 +3,20 @@ use Prim.Native.Nat.{ℕ, _≤_}
 use native.Mathlib.Omega.{arith}
 use mathlib.Core.Path.{_≡_, refl, sym, ap, _∙_}
 use mathlib.Core.Bool.{Bool, true, false, true≢false}
-use mathlib.Core.List.{List, [], _∷_, _++_, append-cancel-right}
+use mathlib.Core.List.{List, append-cancel-right}
 use mathlib.Core.Option.{Option, none, some}
 use Rattle.octets.specs.Choice.{either}
 use Rattle.grammar.specs.Grammar.{levels}
-use Rattle.grammar.specs.Language.{AtMost, upTo, GoesOn, Refusal, Verdict, accepted, refused}
-use Rattle.grammar.specs.Rfc733.{Derivation, DerivedList, RightWithin}
+use Rattle.grammar.specs.Language.{AtMost, upTo, Refusal, Verdict, accepted, refused}
+use Rattle.grammar.specs.Rfc733.{Derivation, DerivedList}
 use Rattle.grammar.proofs.Trees.{Class, Atom, Quoted, At, LessThan, GreaterThan, Comma, Semicolon, Colon, Sym, of, AddressList, listLevels, DerivedTree}
 use Rattle.grammar.proofs.AnyMachine.{Step, go, stop, standsBy}
 use Rattle.grammar.proofs.AnyMachine as any-machine
-use Rattle.grammar.proofs.AddressMachine.{State, stepOn, step, run, read, judge, finish, start}
+use Rattle.grammar.proofs.AddressMachine.{State, step, run, read, judge, finish, start}
 use Rattle.grammar.proofs.Steps.{machine}
 use Rattle.grammar.proofs.Rows.{asRow, row-levels, row-derived, tree-derived}
 use Rattle.grammar.proofs.Condition3.{asRows, answer-only, goes-on-row, goes-on-tree}
-use Rattle.expected.specs.Things.{Thing, word, at, atSign, lessThan, greaterThan, comma, semicolon, colon, bodyEnd, IsOf, GoesOnWith, Could, goesOn, ends, Exactly, ExactlyWhereRefused, Alike, sameClass, bothWords, AlikeGoOn}
+use Rattle.expected.specs.Things.{Thing, word, at, atSign, lessThan, greaterThan, comma, semicolon, colon, bodyEnd, IsOf, GoesOnWith, Could, goesOn, ends, ExactlyWhereRefused, Alike, sameClass, bothWords, AlikeGoOn}
 use Rattle.expected.specs.Things as things
 use Rattle.expected.specs.Named.{goes, isSome, anywhere, takes, namedAt, named}
 use Rattle.expected.proofs.ClassAlone.{word-same, step-any}

@@ -1,5 +1,5 @@
 -- The records that cover a place are those that climbing parent by parent finds. Assumes nothing.
-use Prim.Native.Nat.{ℕ, suc, _+_, max, _≤_, _<_}
+use Prim.Native.Nat.{ℕ, suc, _+_, _≤_, _<_}
 use native.Mathlib.Omega.{arith}
 use mathlib.Core.Path.{_≡_, refl, sym, ap, _∙_}
 use mathlib.Core.Bool.{Bool, true, false}

@@ -2,15 +2,14 @@
 use mathlib.Core.Path.{_≡_, refl, sym, ap, _∙_}
 use mathlib.Core.Bool.{Bool, true, false}
 use mathlib.Core.List.{List, [], _∷_}
-use Prim.Native.Nat.{ℕ, zero, suc, _+_, _-_, _≤_, _<_}
+use Prim.Native.Nat.{ℕ, suc, _+_, _-_, _≤_, _<_}
 use native.Mathlib.Numerals.{add-one}
 use native.Mathlib.Omega.{arith}
 use borrow.Author.Tests.{le-leb, lt-leb}
-use lib.Dec.{leb, ltb}
+use lib.Dec.{ltb}
 use lib.ListN.{length, getD, set, drop}
 use lib.Seq.{sets, drop-cons, drop-length}
 use Rattle.octets.specs.Choice.{pick}
-use Rattle.octets.specs.Numbers.{tableRecords}
 use Rattle.grammar.specs.Records.{AddressRecord, noRecord, recordIn}
 use Rattle.touch.specs.Around.{covers, aroundFrom, around, firstPlus, Climbs, over, up}
 use Rattle.touch.specs.Climbing.{Holds, MayClimb}

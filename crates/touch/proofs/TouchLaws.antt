@@ -1,7 +1,7 @@
 -- What the tool answers, from what the scanner and the address reader answer. Assumes nothing.
 use mathlib.Core.Path.{_≡_, refl, sym, ap, subst, _∙_}
 use mathlib.Core.Bool.{Bool, true, false}
-use mathlib.Core.List.{List, _++_}
+use mathlib.Core.List.{List}
 use Prim.Native.Nat.{ℕ, _+_, _*_, _/_, _≤_, _<_}
 use native.Mathlib.Omega.{arith}
 use borrow.Author.Tests.{le-ltb, lt-ltb, le-leb, lt-leb, ltb-false}
@@ -16,15 +16,14 @@ use Rattle.scanner.specs.Categories.{categoryAt}
 use Rattle.scanner.specs.declared.Class.{Class}
 use Rattle.scanner.specs.declared.Category.{Category}
 use Rattle.scanner.proofs.BodyChecks.{Clean, when-clean, when-refused}
-use Rattle.grammar.specs.Language.{Refusal, Verdict, accepted, refused, number, positionOf}
+use Rattle.grammar.specs.Language.{Verdict, accepted, refused, number, positionOf}
 use Rattle.grammar.specs.Records.{count, records, tableBytes}
-use Rattle.grammar.specs.Rfc733.{Derivation, RightVerdict}
+use Rattle.grammar.specs.Rfc733.{Derivation}
 use Rattle.grammar.proofs.Condition3.{answer, answer-only, answer-accepts, answer-derives}
 use Rattle.grammar.proofs.Records.{length-records, parent-smaller}
 use Rattle.grammar.proofs.Trees.{Sym}
 use Rattle.addresses.specs.Outcome.{derived, bodySymbols, outcome}
 use Rattle.addresses.specs.Outcome as addresses
-use Rattle.addresses.specs.Condition3.{IsList}
 use Rattle.addresses.proofs.BodyRecords.{in-body}
 use Rattle.addresses.proofs.Judgements.{ListBody, decided-outcome}
 use Rattle.addresses.proofs.RecordsRead.{record-read}

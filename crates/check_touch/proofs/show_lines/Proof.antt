@@ -1,6 +1,6 @@
 -- `check_touch::show_lines` is safe and ends. Assumes nothing.
 use borrow.Author.Needs.{needs}
-use Prim.Native.Nat.{_≤_, _-_}
+use Prim.Native.Nat.{_-_}
 use mathlib.Core.Path.{_≡_}
 use lib.ListN.{length}
 use Rattle.check_touch.proofs.show_lines.Statement.{statement}

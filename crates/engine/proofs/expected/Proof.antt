@@ -3,38 +3,51 @@ use mathlib.Core.Path.{refl, sym, _∙_}
 use native.Mathlib.Omega.{arith}
 use lib.Seq.{length-take-le}
 use Rattle.octets.specs.Classes.{classOf, classTable}
-use Rattle.scanner.proofs.BodyChecks.{too-long, out-of-order, past-the-end, in-order}
+use Rattle.scanner.proofs.BodyChecks.{Clean, clean, when-clean, when-refused}
 use Rattle.engine.specs.Actions.{actionTable}
+use borrow.Author.Needs.{needs}
 use Rattle.engine.proofs.expected.Statement.{statement}
 use Rattle.engine.proofs.expected.Tie as tie
 
+-- the body is in order and has no fault
+checked : (c : tie.At-match-keys2) → (let a = c .before .before .before .args in Clean (a .message .now) (a .start) (a .end))
+checked c = let a = c .before .before .before .args in clean (a .message .now) (a .start) (a .end) (c .before .scan-body .result) (c .before .scan-body .ensures) (c .match .keys2)
+
+scan-body-requires : tie.Need-scan-body-requires
+scan-body-requires c κs = search needs
+
+enum-told : tie.Need-enum-told
+enum-told c = search needs
+
 returns : tie.Need-returns
-returns c = let a = c .before .before .args in sym (too-long (λ number p. 0) (a .message .now) (a .start) (a .end) _ (omega arith))
+returns c =
+    let a = c .before .before .before .before .args in
+    sym (when-refused (a .message .now) (a .start) (a .end) (λ number p. 0) _ (rw (c .enum-told .given .1) at (c .before .before .scan-body .ensures)))
+
+slice-aggregate-expected-at-stop : tie.Need-slice-aggregate-expected-at-stop
+slice-aggregate-expected-at-stop c = sym (length-take-le _ (c .before .before .before .before .before .before .args .message .now) (checked (c .before .before .before) .inside))
+
+expected-at-stop-requires : tie.Need-expected-at-stop-requires
+unfolding actionTable classTable classOf
+expected-at-stop-requires c κs =
+    let a = c .before .before .before .before .before .before .args in
+    let x = checked (c .before .before .before) in
+    let n = length-take-le (a .end) (a .message .now) (x .inside) in
+    (record { inside = omega (arith, n, x .ordered); short = omega (arith, n, x .inside, x .short); faultless = record { none = x .faultless } }, refl)
 
 returns-2 : tie.Need-returns-2
-returns-2 c = let a = c .before .before .before .args in sym (out-of-order (λ number p. 0) (a .message .now) (a .start) (a .end) _ (omega arith) (omega arith))
-
-returns-3 : tie.Need-returns-3
-returns-3 c = let a = c .before .before .before .before .args in sym (past-the-end (λ number p. 0) (a .message .now) (a .start) (a .end) _ (omega arith) (omega arith))
-
-slice-aggregate-expected-in : tie.Need-slice-aggregate-expected-in
-slice-aggregate-expected-in c = sym (length-take-le _ (c .before .before .before .before .before .before .before .args .message .now) (omega arith))
-
-expected-in-requires : tie.Need-expected-in-requires
-unfolding actionTable
-expected-in-requires c κs = let a = c .before .before .before .before .before .before .before .args in let n = length-take-le (a .end) (a .message .now) (omega arith) in (omega (arith, n), omega (arith, n), refl)
-
-returns-4 : tie.Need-returns-4
 unfolding classTable classOf
-returns-4 c = let a = c .before .before .before .before .before .before .before .before .args in c .expected-in .ensures ∙ sym (in-order (λ number p. 0) (a .message .now) (a .start) (a .end) _ (omega arith) (omega arith) (omega arith))
+returns-2 c =
+    let a = c .before .before .before .before .before .before .before .args in
+    c .expected-at-stop .ensures ∙ sym (when-clean (a .message .now) (a .start) (a .end) (λ number p. 0) _ (checked (c .before .before .before .before)))
 
 pub expected-spec : {M : Type 1} → statement M
 expected-spec =
     tie.close
     (tie.spec
+    scan-body-requires
+    enum-told
     returns
-    returns-2
-    returns-3
-    slice-aggregate-expected-in
-    expected-in-requires
-    returns-4)
+    slice-aggregate-expected-at-stop
+    expected-at-stop-requires
+    returns-2)

@@ -1,5 +1,4 @@
 -- `scanner::between_by` meets its contract: up to the position reached all lies between symbols. Assumes nothing.
-use mathlib.Core.Path.{_≡_}
 use native.Mathlib.Omega.{arith}
 use Prim.Native.Nat.{_-_, _≤_}
 use lib.ListN.{length}

@@ -1,5 +1,4 @@
 -- `scanner::pass` meets its contract. Assumes nothing.
-use mathlib.Core.Path.{refl}
 use native.Mathlib.Omega.{arith}
 use Rattle.scanner.proofs.CategoryLaws.{white-passed, open-passed, none-passed, above-passed, taken-passed}
 use borrow.Author.Needs.{needs}

@@ -1,5 +1,4 @@
 -- `scanner::pass_comment` meets its contract. Assumes nothing.
-use mathlib.Core.Path.{refl}
 use native.Mathlib.Omega.{arith}
 use Rattle.scanner.proofs.CategoryLaws.{deeper, closes-all, closes-one, takes-next, text-passed, fault-passed}
 use borrow.Author.Needs.{needs}

@@ -1,7 +1,7 @@
 -- `touch::climb` meets its contract: the parent falls at each call. Assumes nothing.
 use Prim.Native.Nat.{ℕ, _<_}
 use native.Mathlib.Omega.{arith}
-use mathlib.Core.Path.{_≡_, ap}
+use mathlib.Core.Path.{ap}
 use borrow.Author.Needs.{needs}
 use Rattle.grammar.specs.Records.{AddressRecord}
 use Rattle.touch.proofs.ClimbLaws.{climb-over, climb-parent, climb-on}
