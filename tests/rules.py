@@ -3,7 +3,7 @@
 every sequence of up to five symbols that no rule refuses before its last, and longer ones at random. A sequence is
 refused at its first symbol with which no list goes on, or is no list at its end, or has exactly one derivation; the
 records are that derivation's. For a refused one, touching it names each symbol with which some list goes on there, and
-the end where a list ends there (not asked of whole sequences of the greatest length, to save time).
+the end where a list ends there.
 usage: tests/rules.py [SYMBOLS [WALKS [SEED]]]"""
 import functools
 import pathlib
@@ -143,14 +143,14 @@ def compare_names(symbols, follow):
         faults.append(f"{text!r}: touch names {got}, the rules {wanted}")
 
 
-def whole(symbols, reading, follow=None):
+def whole(symbols, reading, follow):
     """A sequence that a list starts with: it is one, or ends too soon."""
     text, places = spans(symbols)
     lists = reading.lists()
     if len(lists) > 1:
         faults.append(f"{text!r}: {len(lists)} derivations")
     compare(symbols, records(lists[0], places) if lists else (9, len(text)))
-    if not lists and follow is not None:
+    if not lists:
         compare_names(symbols, follow)
 
 
@@ -164,10 +164,10 @@ def refused(symbols, tail, follow):
 
 def every(symbols, most, rng):
     reading = Reading(symbols)
-    if len(symbols) == most:
-        return whole(symbols, reading)
     follow = following(symbols, reading)
     whole(symbols, reading, follow)
+    if len(symbols) == most:
+        return
     for symbol in TEXTS:
         longer = symbols + (symbol,)
         if symbol in follow:

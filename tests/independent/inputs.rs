@@ -57,7 +57,7 @@ pub const KINDS: [Kind; 15] = [
 ];
 
 /// How often each kind is made, of 1,000.
-const WEIGHTS: [usize; 15] = [40, 110, 130, 95, 135, 75, 60, 2, 78, 50, 50, 18, 7, 80, 70];
+const WEIGHTS: [usize; 15] = [40, 110, 130, 95, 134, 75, 60, 3, 78, 50, 50, 18, 7, 80, 70];
 
 /// Chooses the place of a kind in `KINDS`.
 pub fn choose(rng: &mut Rng) -> usize {

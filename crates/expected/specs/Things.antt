@@ -14,6 +14,7 @@ use Rattle.grammar.specs.Rfc733.{Derivation, DerivedList, RightWithin}
 
 -- ---- what may be named
 
+-- word, "at", "@", each of the other marks, or the end of the body
 pub data Thing : Type 0 where
   word at atSign lessThan greaterThan comma semicolon colon bodyEnd : Thing
 
@@ -40,7 +41,7 @@ pub data Could (limit : ℕ) (before : List (Symbol Class)) : Thing → Type 0 w
   goesOn : {thing : Thing} (x : Symbol Class) → IsOf thing (x .class) → GoesOnWith limit before x → Could limit before thing
   ends : {k : Derivation} → DerivedList k before → levels k ≤ limit → Could limit before bodyEnd
 
--- these things are named, and no others, exactly if they could stand behind these symbols
+-- a thing is named exactly if it could stand behind these symbols
 pub record Exactly (limit : ℕ) (before : List (Symbol Class)) (named : Thing → Bool) : Type 0 where
   pub only : (thing : Thing) → named thing ≡ true → Could limit before thing
   pub all : (thing : Thing) → Could limit before thing → named thing ≡ true

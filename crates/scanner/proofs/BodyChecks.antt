@@ -1,5 +1,5 @@
 -- The checks before a body is looked at, number 1 and then number 13, and the first fault of scanning. Assumes nothing.
-use mathlib.Core.Path.{_≡_, refl, _∙_}
+use mathlib.Core.Path.{_≡_, refl, sym, _∙_}
 use mathlib.Core.Bool.{Bool, true, false}
 use mathlib.Core.List.{List, [], _∷_}
 use Prim.Native.Nat.{ℕ, _≤_, _<_}
@@ -72,25 +72,42 @@ pub record Clean (message : List ℕ) (start end : ℕ) : Type 0 where
   pub inside : end ≤ length message
   pub faultless : faultOf (scan (take end message) start) ≡ Accepted 0
 
+-- a scan has a first fault or none
+data FaultCase (r : Answer) : Type 0 where
+  faulty : (number p : ℕ) → Refused number p ≡ r → FaultCase r
+  faultless : r ≡ Accepted 0 → FaultCase r
+
+fault-case : (s : Scanned) → FaultCase (faultOf s)
+unfolding unlessFault
+fault-case ended = faultless refl
+fault-case (next x rest) = fault-case rest
+fault-case (faultAt number p) = faulty number p refl
+
+-- a body is refused, or clean
+pub data BodyCase (message : List ℕ) (start end : ℕ) : Type 0 where
+  refused-body : (number p : ℕ) → Refused number p ≡ bodyScanned message start end → BodyCase message start end
+  clean-body : Clean message start end → BodyCase message start end
+
 module _ (message : List ℕ) (start end : ℕ) where
-  -- it is not refused ..
-  pub clean : (r : Answer) → r ≡ bodyScanned message start end → NotRefused r → Clean message start end
-  clean r e o =
+  pub body-case : BodyCase message start end
+  body-case =
       elim (decLt messageLimit (length message)) [
-        | yes h ↦ absurd (not-refused o (e ∙ too-long Refused message start end _ h))
+        | yes h ↦ refused-body messageTooLong messageLimit (sym (too-long Refused message start end _ h))
         | no h ↦ elim (decLt end start) [
-          | yes k ↦ absurd (not-refused o (e ∙ out-of-order Refused message start end _ (omega arith) k))
+          | yes k ↦ refused-body bodyOutOfOrder 0 (sym (out-of-order Refused message start end _ (omega arith) k))
           | no k ↦ elim (decLt (length message) end) [
-            | yes l ↦ absurd (not-refused o (e ∙ past-the-end Refused message start end _ (omega arith) l))
-            | no l ↦ record {
-              short = omega arith;
-              ordered = omega arith;
-              inside = omega arith;
-              faultless = fault-or-none _ r (e ∙ in-order Refused message start end _ (omega arith) (omega arith) (omega arith)) o;
-            }
+            | yes l ↦ refused-body bodyOutOfOrder 0 (sym (past-the-end Refused message start end _ (omega arith) l))
+            | no l ↦ elim (fault-case (scan (take end message) start)) [
+              | faulty number p e ↦ refused-body number p (e ∙ sym (in-order Refused message start end _ (omega arith) (omega arith) (omega arith)))
+              | faultless e ↦ clean-body (record { short = omega arith; ordered = omega arith; inside = omega arith; faultless = e })
+            ]
           ]
         ]
       ]
+
+  -- it is not refused ..
+  pub clean : (r : Answer) → r ≡ bodyScanned message start end → NotRefused r → Clean message start end
+  clean r e o = elim body-case [ refused-body number p f ↦ absurd (not-refused o (e ∙ sym f)) | clean-body x ↦ x ]
 
   module _ {A : Type 0} (refused : ℕ → ℕ → A) (otherwise : A) where
     -- .. so something else is answered

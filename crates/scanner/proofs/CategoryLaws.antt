@@ -92,13 +92,13 @@ leads-nowhere Above b p rest o = (refl, refl)
 -- ---- one character on
 
 -- to a place behind it, its move leads on ..
-moves-on : {classes text : List ℕ} {at : ℕ} {kind : Kind} {p q : ℕ} → FirstCharacter classes text at kind p q → (state : State) (place : ℕ) → q ≤ place
+pub moves-on : {classes text : List ℕ} {at : ℕ} {kind : Kind} {p q : ℕ} → FirstCharacter classes text at kind p q → (state : State) (place : ℕ) → q ≤ place
     → between classes place (charactersAt text at) state ≡ behind (move state kind (getD text p 0) p) (λ state′. between classes place (charactersAt text q) state′)
 unfolding between
 moves-on {p = p} x state place h = rw (x .characters, between, lt-ltb p place (omega (arith, x .behind)), ← (x .kind-is))
 
 -- .. and at a place up to it, it tells itself
-tells : {classes text : List ℕ} {at : ℕ} {kind : Kind} {p q : ℕ} → FirstCharacter classes text at kind p q → (state : State) (place : ℕ) → place < q
+pub tells : {classes text : List ℕ} {at : ℕ} {kind : Kind} {p q : ℕ} → FirstCharacter classes text at kind p q → (state : State) (place : ℕ) → place < q
     → between classes place (charactersAt text at) state ≡ takenIn state kind
 unfolding between
 tells {p = p} x state place h = rw (x .characters, between, le-ltb p place (omega (arith, x .behind)), ← (x .kind-is))

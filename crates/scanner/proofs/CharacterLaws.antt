@@ -123,3 +123,11 @@ module _ (classes text : List ℕ) (at : ℕ) where
 
   pub view : View
   view = elim (decLt at (length text)) [ yes h ↦ by-fold (foldAt text at) h refl | no h ↦ over (no-character text at (omega arith)) ]
+
+-- where there is none, the text has ended
+pub none-left : (text : List ℕ) (at : ℕ) → charactersAt text at ≡ [] → length text ≤ at
+none-left text at e = elim (decLt at (length text)) [ yes h ↦ absurd (by (foldAt text at) h refl) | no h ↦ omega arith ]
+  where
+    by : (fold : Bool) → at < length text → foldAt text at ≡ fold → ⊥
+    by true h f = let g = fold-at text at f in let z : _≡_ {A = ℕ} 0 1 = cc in omega arith
+    by false h f = let g = plain-at text at h f in let z : _≡_ {A = ℕ} 0 1 = cc in omega arith

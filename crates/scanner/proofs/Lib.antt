@@ -9,4 +9,5 @@ pub mod BodyChecks
 pub mod Examples
 pub mod FaultLaws
 pub mod CategoryLaws
+pub mod EveryCategory
 pub mod CategoryExamples

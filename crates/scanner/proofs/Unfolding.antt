@@ -270,16 +270,23 @@ pub data Unfolded (classes text : List ℕ) (at : ℕ) : Type 0 where
   a-symbol : {class : Class} {start end : ℕ} → SymbolAt classes text at class start end → Unfolded classes text at
   a-fault : {number p : ℕ} → scanBy classes text at ≡ faultAt number p → Unfolded classes text at
 
+-- what a character outside is: white space, the "(" of a comment, the first byte of a symbol, or it leads to a fault
+pub data OutsideIs (classes text : List ℕ) (at : ℕ) : Kind → ℕ → Type 0 where
+  white-space : {p : ℕ} → OutsideIs classes text at White p
+  opens-comment : {p : ℕ} → OutsideIs classes text at Open p
+  begins : {kind : Kind} {p : ℕ} {class : Class} {end : ℕ} → p ≡ at → SymbolAt classes text at class p end → OutsideIs classes text at kind p
+  faulty : {kind : Kind} {p number q : ℕ} → scanBy classes text at ≡ faultAt number q → OutsideIs classes text at kind p
+
 module _ (classes text : List ℕ) where
   later : {at q : ℕ} → at ≤ q → scanBy classes text at ≡ scanBy classes text q → Unfolded classes text q → Unfolded classes text at
   later h e (no-symbol f) = no-symbol (e ∙ f)
   later h e (a-symbol s) = a-symbol record { same = e ∙ s .same; from = omega (arith, s .from); starts = s .starts; within = s .within; quotes = s .quotes }
   later h e (a-fault f) = a-fault (e ∙ f)
 
-  one-byte : {at p q : ℕ} {kind : Kind} {class : Class} → FirstCharacter classes text at kind p q → Single class
-      → scanBy classes text at ≡ next (symbol class p q (getD text p 0 ∷ [])) (scanBy classes text q) → Unfolded classes text at
-  one-byte {p = p} {q = q} {class = class} x s e =
-      a-symbol
+  one-byte : {at p q : ℕ} {kind : Kind} {class : Class} → FirstCharacter classes text at kind p q → (kind ≡ White → ⊥) → Single class
+      → scanBy classes text at ≡ next (symbol class p q (getD text p 0 ∷ [])) (scanBy classes text q) → OutsideIs classes text at kind p
+  one-byte {p = p} {q = q} {class = class} x n s e =
+      begins (x .tight n)
       record {
         same = e ∙ ap (λ (m : List ℕ). next (symbol class p q m) (scanBy classes text q)) (meaning-single classes text class p q s (x .behind) (x .within));
         from = x .from;
@@ -288,9 +295,9 @@ module _ (classes text : List ℕ) where
         quotes = λ e. absurd (rw e at s);
       }
 
-  in-atom : {at p q : ℕ} → FirstCharacter classes text at Plain p q → Ends classes text p q → Unfolded classes text at
+  in-atom : {at p q : ℕ} → FirstCharacter classes text at Plain p q → Ends classes text p q → OutsideIs classes text at Plain p
   in-atom {p = p} x e =
-      a-symbol
+      begins (x .tight (λ k. omega (arith, ap tag k)))
       record {
         same =
             atom-begins x ∙ e .is .same
@@ -302,9 +309,9 @@ module _ (classes text : List ℕ) where
         quotes = λ q. absurd (atom-not-quoted (sameLetters (part text p (e .end)) (bytes "at")) q);
       }
 
-  in-quoted : {at p q : ℕ} → FirstCharacter classes text at Quote p q → Closes classes text p q → Unfolded classes text at
+  in-quoted : {at p q : ℕ} → FirstCharacter classes text at Quote p q → Closes classes text p q → OutsideIs classes text at Quote p
   in-quoted {at} {p} {q} x (closes end e l h) =
-      a-symbol
+      begins (x .tight (λ k. omega (arith, ap tag k)))
       record {
         same =
             moves x outside (go [] (inQuoted p [])) refl ∙ e
@@ -314,7 +321,7 @@ module _ (classes text : List ℕ) where
         within = h;
         quotes = λ q. omega (arith, x .behind);
       }
-  in-quoted {p = p} x (faulty number r e) = a-fault (moves x outside (go [] (inQuoted p [])) refl ∙ e)
+  in-quoted {p = p} x (faulty number r e) = faulty (moves x outside (go [] (inQuoted p [])) refl ∙ e)
 
   in-comment : {at p q : ℕ} → FirstCharacter classes text at Open p q → Leaves classes text p q → ((r : ℕ) → at < r → r ≤ length text → Unfolded classes text r) → Unfolded classes text at
   in-comment {p = p} x (leaves end e) f =
@@ -322,23 +329,32 @@ module _ (classes text : List ℕ) where
       (f end (omega (arith, x .from, x .behind, e .from)) (e .within))
   in-comment {p = p} x (faulty number r e) f = a-fault (moves x outside (go [] (inComment 0 p)) refl ∙ e)
 
-  outside-by : (at : ℕ) {p q : ℕ} (kind : Kind) → SingleMark kind → FirstCharacter classes text at kind p q → ((r : ℕ) → at < r → r ≤ length text → Unfolded classes text r) → Unfolded classes text at
-  outside-by at {q = q} White s x f = later (omega (arith, x .from, x .behind)) (moves x outside (go [] outside) refl) (f q (omega (arith, x .from, x .behind)) (x .within))
-  outside-by at Control s x f = a-fault (control-next x (hit (1 ∷ 2 ∷ []) 1 tt))
-  outside-by at Return s x f = a-fault (control-next x (hit (1 ∷ 2 ∷ []) 2 tt))
-  outside-by at {p = p} {q = q} Plain s x f = in-atom x (atom-run classes text (length text) p q (omega arith) (omega (arith, x .behind)) (x .within))
-  outside-by at {p = p} {q = q} Open s x f =
-      in-comment x (comment-run classes text (length text) p q 0 q (omega arith) record { commenting = record { same = refl }; from = omega arith }) f
-  outside-by at Close s x f = one-byte x tt (stray-next x (hit (5 ∷ 7 ∷ []) 5 tt))
-  outside-by at {p = p} {q = q} Quote s x f =
+  outside-by : {at p q : ℕ} (kind : Kind) → SingleMark kind → FirstCharacter classes text at kind p q → OutsideIs classes text at kind p
+  outside-by White s x = white-space
+  outside-by Control s x = faulty (control-next x (hit (1 ∷ 2 ∷ []) 1 tt))
+  outside-by Return s x = faulty (control-next x (hit (1 ∷ 2 ∷ []) 2 tt))
+  outside-by {p = p} {q = q} Plain s x = in-atom x (atom-run classes text (length text) p q (omega arith) (omega (arith, x .behind)) (x .within))
+  outside-by Open s x = opens-comment
+  outside-by Close s x = one-byte x (λ k. omega (arith, ap tag k)) tt (stray-next x (hit (5 ∷ 7 ∷ []) 5 tt))
+  outside-by {p = p} {q = q} Quote s x =
       in-quoted x (quoted-run classes text (length text) p q q (omega arith) record { quoting = record { meaning = []; same = refl }; data-so-far = refl; from = omega arith })
-  outside-by at Backslash s x f = one-byte x tt (stray-next x (hit (5 ∷ 7 ∷ []) 7 tt))
-  outside-by at (Mark class) s x f = one-byte x s (mark-next x)
-  outside-by at {p = p} Above s x f = a-fault (moves x outside (halt [] byteAbove127 p) refl)
+  outside-by Backslash s x = one-byte x (λ k. omega (arith, ap tag k)) tt (stray-next x (hit (5 ∷ 7 ∷ []) 7 tt))
+  outside-by (Mark class) s x = one-byte x (λ k. omega (arith, ap tag k)) s (mark-next x)
+  outside-by {p = p} Above s x = faulty (moves x outside (halt [] byteAbove127 p) refl)
+
+  pub outside-is : {at p q : ℕ} {kind : Kind} → FirstCharacter classes text at kind p q → OutsideIs classes text at kind p
+  outside-is {p = p} {kind = kind} x = outside-by kind (rw (x .kind-is) (character-mark classes (getD text p 0) (x .folded))) x
+
+  outside-on : (at : ℕ) {p q : ℕ} {kind : Kind} → OutsideIs classes text at kind p → FirstCharacter classes text at kind p q → ((r : ℕ) → at < r → r ≤ length text → Unfolded classes text r) → Unfolded classes text at
+  outside-on at {q = q} white-space x f = later (omega (arith, x .from, x .behind)) (moves x outside (go [] outside) refl) (f q (omega (arith, x .from, x .behind)) (x .within))
+  outside-on at {p = p} {q = q} opens-comment x f =
+      in-comment x (comment-run classes text (length text) p q 0 q (omega arith) record { commenting = record { same = refl }; from = omega arith }) f
+  outside-on at (begins e s) x f = a-symbol s
+  outside-on at (faulty e) x f = a-fault e
 
   outside-view : (at : ℕ) → View classes text at → ((r : ℕ) → at < r → r ≤ length text → Unfolded classes text r) → Unfolded classes text at
   outside-view at (over e) f = no-symbol (at-end classes text at outside e)
-  outside-view at (one {kind} {p = p} x) f = outside-by at kind (rw (x .kind-is) (character-mark classes (getD text p 0) (x .folded))) x f
+  outside-view at (one x) f = outside-on at (outside-is x) x f
 
   outside-run : (n at : ℕ) → length text ≤ at + n → Unfolded classes text at
   outside-run zero at m = outside-view at (view classes text at) (λ r a b. absurd (omega arith))

@@ -1,5 +1,6 @@
 -- Document 02, CR 3: what a byte of a body is: white space, comment, part of a word, "at", or a bracket or mark.
-use Prim.Native.Nat.{ℕ}
+use mathlib.Core.Path.{_≡_}
+use Prim.Native.Nat.{ℕ, _≤_, _<_}
 use mathlib.Core.Bool.{true, false}
 use mathlib.Core.List.{List, [], _∷_}
 use lib.Dec.{leb, ltb}
@@ -8,10 +9,12 @@ use Rattle.octets.specs.Choice.{pick, both}
 use Rattle.octets.specs.Classes.{classTable}
 use Rattle.octets.specs.Letters.{sameLetters}
 use Rattle.octets.specs.Text.{bytes}
+use Rattle.octets.specs.declared.answers.Answer.the-variants.{Accepted}
+use Rattle.scanner.specs.Symbols.{Symbol}
 use Rattle.scanner.specs.Kinds.{characterKind}
 use Rattle.scanner.specs.Characters.{Character, character, charactersAt}
-use Rattle.scanner.specs.Scanning.{Scanned, ended, next, faultAt, State, outside, inAtom, inQuoted, takingInQuoted, inComment, takingInComment, Move, go, halt, move, scan}
-use Rattle.scanner.specs.Answers.{bodyChecked, unlessFault}
+use Rattle.scanner.specs.Scanning.{Scanned, ended, next, faultAt, State, outside, inAtom, inQuoted, takingInQuoted, inComment, takingInComment, Move, go, halt, move, scan, symbolsOf}
+use Rattle.scanner.specs.Answers.{bodyChecked, unlessFault, bodyScanned}
 use Rattle.scanner.specs.declared.Class.{Class}
 use Rattle.scanner.specs.declared.Class.the-variants.{Atom, Quoted, At, LessThan, GreaterThan, Comma, Semicolon, Colon, Stray}
 use Rattle.scanner.specs.declared.Kind.{Kind}
@@ -104,3 +107,25 @@ categoryAt message start end place =
     bodyChecked ofRefused message start end
     (unlessFault ofRefused (scan text start)
     (pick (both (leb start place) (ltb place end)) (categoryOf classTable text place start (scan text start)) category.Nothing))
+
+-- ---- of every byte
+
+-- told: one of the five
+abbrev pub Told : Category → Type 0
+Told category.White = Unit {0}
+Told category.Comment = Unit {0}
+Told category.Word = Unit {0}
+Told category.At = Unit {0}
+Told category.Mark = Unit {0}
+Told category.Nothing = ⊥
+
+-- a place lies in one of these symbols that fits no rule
+pub data InStray (place : ℕ) : List (Symbol Class) → Type 0 where
+  here : {x : Symbol Class} {rest : List (Symbol Class)} → x .class ≡ Stray → x .lexeme .start ≤ place → place < x .lexeme .end → InStray place (x ∷ rest)
+  further : {x : Symbol Class} {rest : List (Symbol Class)} → InStray place rest → InStray place (x ∷ rest)
+
+-- of a body that passes the checks and scans without fault, each byte is told that lies in no such symbol
+abbrev pub ToldUnlessStray : List ℕ → ℕ → ℕ → Type 0
+ToldUnlessStray message start end =
+    bodyScanned message start end ≡ Accepted 0 → (place : ℕ) → start ≤ place → place < end
+    → (InStray place (symbolsOf (scan (take end message) start)) → ⊥) → Told (categoryAt message start end place)

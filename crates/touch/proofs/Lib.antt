@@ -3,3 +3,4 @@ pub mod ClimbLaws
 pub mod Nesting
 pub mod AroundLaws
 pub mod TouchLaws
+pub mod EveryByte

@@ -25,7 +25,7 @@ use Rattle.grammar.proofs.Trees.{Sym}
 use Rattle.addresses.specs.Outcome.{derived, bodySymbols, outcome}
 use Rattle.addresses.specs.Outcome as addresses
 use Rattle.addresses.proofs.BodyRecords.{in-body}
-use Rattle.addresses.proofs.Judgements.{ListBody, decided-outcome}
+use Rattle.addresses.proofs.Judgements.{ListBody, list-body, decided-outcome}
 use Rattle.addresses.proofs.RecordsRead.{record-read}
 use Rattle.expected.specs.Things.{sumOf}
 use Rattle.expected.specs.Named.{named, expectedIn}
@@ -140,7 +140,7 @@ module _ (message : List ℕ) (start end place : ℕ) (path : List ℕ) where
     by-verdict : (x : Clean message start end) (v : Verdict Class Derivation) → answer levelLimit symbols ≡ v → MeansOf (outcome message start end table)
     by-verdict x (accepted k) e =
         let d = answer-derives levelLimit {xs = symbols} e in
-        let b : ListBody message start end k = record { short = x .short; ordered = x .ordered; inside = x .inside; faultless = x .faultless; list = record { derived = d .0; within = d .1 } } in
+        let b : ListBody message start end k = list-body message start end x (record { derived = d .0; within = d .1 }) in
         subst (λ (o : addresses.Outcome). MeansOf o) (sym (decided-outcome message start end (x .short) (x .ordered) (x .inside) (x .faultless) e derived table)) (by-room k b (read x e) _ refl)
     by-verdict x (refused why rest) e =
         subst (λ (o : addresses.Outcome). MeansOf o) (sym (decided-outcome message start end (x .short) (x .ordered) (x .inside) (x .faultless) e derived table)) (read x e)

@@ -27,7 +27,7 @@ pub record NamedThere (before rest : List (Symbol Class)) (why : Refusal) (end :
   pub exactly : Exactly levelLimit before named
 
 -- what is said of the symbols of a body
-pub record Told (message : List ℕ) (start end place : ℕ) (path : List ℕ) (symbols : List (Symbol Class)) (r : Touched) (after : List ℕ) : Type 0 where
+pub record Settled (message : List ℕ) (start end place : ℕ) (path : List ℕ) (symbols : List (Symbol Class)) (r : Touched) (after : List ℕ) : Type 0 where
   -- a list: the byte, its records and its path, from its one derivation
   pub list : (k : Derivation) → IsList symbols k → (r ≡ ofList message start end place path k .answer) × (after ≡ ofList message start end place path k .path)
   -- no list: what could have stood at the very place that condition 3 gives
@@ -38,4 +38,4 @@ pub record Told (message : List ℕ) (start end place : ℕ) (path : List ℕ) (
 abbrev pub ByGrammar : List ℕ → ℕ → ℕ → ℕ → List ℕ → Touched → List ℕ → Type 0
 ByGrammar message start end place path r after =
     length message ≤ messageLimit → start ≤ end → end ≤ length message → faultOf (scan (take end message) start) ≡ Accepted 0
-    → Told message start end place path (bodySymbols message start end) r after
+    → Settled message start end place path (bodySymbols message start end) r after

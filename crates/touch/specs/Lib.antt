@@ -2,4 +2,5 @@
 pub mod Around
 pub mod Touched
 pub mod ByGrammar
+pub mod EveryByte
 pub mod Climbing
