@@ -3,12 +3,12 @@ use Prim.Native.Nat.{ℕ, _≤_}
 use native.Mathlib.Omega.{arith}
 use mathlib.Core.Path.{_≡_, refl, sym, ap, _∙_}
 use mathlib.Core.Bool.{Bool, true, false, true≢false}
-use mathlib.Core.List.{List, append-cancel-right}
+use mathlib.Core.List.{List, _++_, append-nil, append-cancel-right}
 use mathlib.Core.Option.{Option, none, some}
 use Rattle.octets.specs.Choice.{either}
 use Rattle.grammar.specs.Grammar.{levels}
-use Rattle.grammar.specs.Language.{AtMost, upTo, Refusal, Verdict, accepted, refused}
-use Rattle.grammar.specs.Rfc733.{Derivation, DerivedList}
+use Rattle.grammar.specs.Language.{AtMost, upTo, Refusal, unfit, unfinished, tooDeep, Verdict, accepted, refused}
+use Rattle.grammar.specs.Rfc733.{Derivation, DerivedList, RightWithin}
 use Rattle.grammar.proofs.Trees.{Class, Atom, Quoted, At, LessThan, GreaterThan, Comma, Semicolon, Colon, Sym, of, AddressList, listLevels, DerivedTree}
 use Rattle.grammar.proofs.AnyMachine.{Step, go, stop, standsBy}
 use Rattle.grammar.proofs.AnyMachine as any-machine
@@ -122,6 +122,12 @@ module _ (n : ℕ) (before : List Sym) (s : State) (f : Leads n before s) where
 rows-refused : (v : Verdict Class AddressList) (why : Refusal) (rest : List Sym) → asRows v ≡ refused why rest → v ≡ refused why rest
 rows-refused (accepted l) why rest e = let z : _≡_ {A = ℕ} 0 1 = cc in absurd (omega arith)
 rows-refused (refused w r) why rest e = cc
+
+-- what stands before the place
+pub before-refused : (limit : ℕ) (xs rest : List Sym) (why : Refusal) → RightWithin limit xs (refused why rest) → (before : List Sym) × (xs ≡ before ++ rest)
+before-refused limit xs rest unfit r = (r .0 .before, r .0 .splits)
+before-refused limit xs rest unfinished r = (xs, sym (append-nil xs) ∙ ap (λ l. xs ++ l) (sym (r .0)))
+before-refused limit xs rest tooDeep r = (r .0 .before, r .0 .splits)
 
 pub names-right : (limit : ℕ) (xs : List Sym) → ExactlyWhereRefused limit xs (named limit xs)
 names-right limit xs why before rest r splits =

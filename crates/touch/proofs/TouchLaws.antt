@@ -16,24 +16,25 @@ use Rattle.scanner.specs.Categories.{categoryAt}
 use Rattle.scanner.specs.declared.Class.{Class}
 use Rattle.scanner.specs.declared.Category.{Category}
 use Rattle.scanner.proofs.BodyChecks.{Clean, when-clean, when-refused}
-use Rattle.grammar.specs.Language.{Verdict, accepted, refused, number, positionOf}
+use Rattle.grammar.specs.Language.{Refusal, Verdict, accepted, refused, number, positionOf}
 use Rattle.grammar.specs.Records.{count, records, tableBytes}
 use Rattle.grammar.specs.Rfc733.{Derivation}
-use Rattle.grammar.proofs.Condition3.{answer, answer-only, answer-accepts, answer-derives}
+use Rattle.grammar.proofs.Condition3.{answer, answer-right, answer-accepts, answer-derives}
 use Rattle.grammar.proofs.Records.{length-records, parent-smaller}
 use Rattle.grammar.proofs.Trees.{Sym}
 use Rattle.addresses.specs.Outcome.{derived, bodySymbols, outcome}
 use Rattle.addresses.specs.Outcome as addresses
+use Rattle.addresses.specs.Condition3.{IsList}
 use Rattle.addresses.proofs.BodyRecords.{in-body}
 use Rattle.addresses.proofs.Judgements.{ListBody, list-body, decided-outcome}
 use Rattle.addresses.proofs.RecordsRead.{record-read}
 use Rattle.expected.specs.Things.{sumOf}
 use Rattle.expected.specs.Named.{named, expectedIn}
-use Rattle.expected.proofs.NameLaws.{names-right}
+use Rattle.expected.proofs.NameLaws.{before-refused, names-right}
 use Rattle.grammar.specs.Records.{noRecord}
 use Rattle.touch.specs.Around.{around, firstPlus, Climbs}
 use Rattle.touch.specs.Touched.{Outcome, unchanged, refusal, byteOf, ofList, decided, touched}
-use Rattle.touch.specs.ByGrammar.{ByGrammar}
+use Rattle.touch.specs.ByGrammar.{NamedThere, ByGrammar}
 use Rattle.touch.specs.Climbing.{Holds, HeldList, ClimbIs, LastAroundIs}
 use Rattle.touch.specs.declared.Touched.{Touched}
 use Rattle.touch.specs.declared.Touched.the-variants.{Byte, Expected, Refused, NoRoom}
@@ -66,6 +67,31 @@ module _ (message : List ℕ) (start end place : ℕ) (path : List ℕ) where
   named-there : Clean message start end → expectedIn message start end ≡ sumOf (named levelLimit symbols)
   named-there x = when-clean message start end (λ n p. 0) _ x
 
+  -- a verdict that refuses is the one that condition 3 gives, and names are told there
+  refused-there : Clean message start end → {r : Touched} {after : List ℕ} → r ≡ whole .answer → after ≡ whole .path → (why : Refusal) (rest : List Sym) → answer levelLimit symbols ≡ refused why rest
+      → NamedThere symbols end r × (after ≡ path)
+  refused-there x e f why rest v =
+      let right = rw v at (answer-right levelLimit symbols) in
+      let (before, splits) = before-refused levelLimit symbols rest why right in
+      let q = read x v in (
+        record {
+          why = why;
+          before = before;
+          rest = rest;
+          right = right;
+          splits = splits;
+          named = named levelLimit symbols;
+          answer = e ∙ ap (λ (o : Outcome). o .answer) q ∙ ap (Expected (number why) (positionOf end rest)) (named-there x);
+          exactly = names-right levelLimit symbols why before rest right splits;
+        },
+        f ∙ ap (λ (o : Outcome). o .path) q,
+      )
+
+  no-list : Clean message start end → {r : Touched} {after : List ℕ} → r ≡ whole .answer → after ≡ whole .path → ((k : Derivation) → IsList symbols k → ⊥) → (v : Verdict Class Derivation) → answer levelLimit symbols ≡ v
+      → NamedThere symbols end r × (after ≡ path)
+  no-list x e f n (accepted k) v = let d = answer-derives levelLimit {xs = symbols} v in absurd (n k (record { derived = d .0; within = d .1 }))
+  no-list x e f n (refused why rest) v = refused-there x e f why rest v
+
   by-grammar : {r : Touched} {after : List ℕ} → r ≡ whole .answer → after ≡ whole .path → ByGrammar message start end place path r after
   by-grammar e f short ordered inside faultless =
       let x : Clean message start end = record { short = short; ordered = ordered; inside = inside; faultless = faultless } in
@@ -73,15 +99,7 @@ module _ (message : List ℕ) (start end place : ℕ) (path : List ℕ) where
         list = λ k d.
             let q = read x (answer-accepts levelLimit (d .derived) (d .within)) in
             (e ∙ ap (λ (o : Outcome). o .answer) q, f ∙ ap (λ (o : Outcome). o .path) q);
-        no-list = λ why before rest right splits.
-            let q = read x (sym (answer-only levelLimit symbols (refused why rest) right)) in (
-              record {
-                named = named levelLimit symbols;
-                answer = e ∙ ap (λ (o : Outcome). o .answer) q ∙ ap (Expected (number why) (positionOf end rest)) (named-there x);
-                exactly = names-right levelLimit symbols why before rest right splits;
-              },
-              f ∙ ap (λ (o : Outcome). o .path) q,
-            );
+        no-list = λ n. no-list x e f n (answer levelLimit symbols) refl;
       }
 
   -- the two promises of the entry point

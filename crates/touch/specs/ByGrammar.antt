@@ -19,9 +19,14 @@ use Rattle.touch.specs.Touched.{ofList}
 use Rattle.touch.specs.declared.Touched.{Touched}
 use Rattle.touch.specs.declared.Touched.the-variants.{Expected}
 
--- refused with 8, 9 or 10 at the place where a right verdict refuses it, behind the symbols `before`: things are named, each of
--- them exactly if some list of at most 64 levels goes on, or ends, with it there
-pub record NamedThere (before rest : List (Symbol Class)) (why : Refusal) (end : ℕ) (r : Touched) : Type 0 where
+-- refused with 8, 9 or 10 at the very place that condition 3 gives, behind the symbols `before`; and things are named, each of them
+-- exactly if some list of at most 64 levels goes on, or ends, with it there
+pub record NamedThere (symbols : List (Symbol Class)) (end : ℕ) (r : Touched) : Type 0 where
+  pub why : Refusal
+  pub before : List (Symbol Class)
+  pub rest : List (Symbol Class)
+  pub right : RightVerdict symbols (refused why rest)
+  pub splits : symbols ≡ before ++ rest
   pub named : Thing → Bool
   pub answer : r ≡ Expected (number why) (positionOf end rest) (sumOf named)
   pub exactly : Exactly levelLimit before named
@@ -30,9 +35,8 @@ pub record NamedThere (before rest : List (Symbol Class)) (why : Refusal) (end :
 pub record Settled (message : List ℕ) (start end place : ℕ) (path : List ℕ) (symbols : List (Symbol Class)) (r : Touched) (after : List ℕ) : Type 0 where
   -- a list: the byte, its records and its path, from its one derivation
   pub list : (k : Derivation) → IsList symbols k → (r ≡ ofList message start end place path k .answer) × (after ≡ ofList message start end place path k .path)
-  -- no list: what could have stood at the very place that condition 3 gives
-  pub no-list : (why : Refusal) (before rest : List (Symbol Class)) → RightVerdict symbols (refused why rest) → symbols ≡ before ++ rest
-      → NamedThere before rest why end r × (after ≡ path)
+  -- no list: what could have stood at the refused place
+  pub no-list : ((k : Derivation) → IsList symbols k → ⊥) → NamedThere symbols end r × (after ≡ path)
 
 -- of a body that scans without fault, with its positions in order, in a message within the limit
 abbrev pub ByGrammar : List ℕ → ℕ → ℕ → ℕ → List ℕ → Touched → List ℕ → Type 0
