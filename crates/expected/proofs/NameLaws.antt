@@ -16,7 +16,7 @@ use Rattle.grammar.proofs.AddressMachine.{State, step, run, read, judge, finish
 use Rattle.grammar.proofs.Steps.{machine}
 use Rattle.grammar.proofs.Rows.{asRow, row-levels, row-derived, tree-derived}
 use Rattle.grammar.proofs.Condition3.{asRows, answer-only, goes-on-row, goes-on-tree}
-use Rattle.expected.specs.Things.{Thing, word, at, atSign, lessThan, greaterThan, comma, semicolon, colon, bodyEnd, IsOf, GoesOnWith, Could, goesOn, ends, ExactlyWhereRefused, Alike, sameClass, bothWords, AlikeGoOn}
+use Rattle.expected.specs.Things.{Thing, word, at, atSign, lessThan, greaterThan, comma, semicolon, colon, bodyEnd, IsOf, GoesOnWith, Could, goesOn, ends, ExactlyWhereRefused, ExactlyAtTheEnd, Alike, sameClass, bothWords, AlikeGoOn}
 use Rattle.expected.specs.Things as things
 use Rattle.expected.specs.Named.{goes, isSome, anywhere, takes, namedAt, named}
 use Rattle.expected.proofs.ClassAlone.{word-same, step-any}
@@ -136,6 +136,16 @@ names-right limit xs why before rest r splits =
     let q : a .before ≡ before = append-cancel-right (a .before) before rest (sym (a .splits) ∙ splits) in
     let s = standsBy step limit start xs in
     rw (← q) (record { only = named-could limit (a .before) s (a .leads); all = could-named limit (a .before) s (a .leads) })
+
+-- ---- at the end of a list
+
+pub names-at-end : (limit : ℕ) (xs : List Sym) → ExactlyAtTheEnd limit xs (named limit xs)
+names-at-end limit xs k d v =
+    let (l, q, t) = tree-derived d in
+    let w : levels (asRow l) ≤ limit = rw q at v in
+    let f = any-machine.stood-at-end DerivedTree listLevels step finish start machine limit l xs t (omega (arith, row-levels l)) in
+    let s = standsBy step limit start xs in
+    record { only = named-could limit xs s f; all = could-named limit xs s f }
 
 -- ---- an atom and a quoted-string, "at" and "@"
 

@@ -51,6 +51,10 @@ abbrev pub ExactlyWhereRefused : ℕ → List (Symbol Class) → (Thing → Bool
 ExactlyWhereRefused limit symbols named =
     (why : Refusal) (before rest : List (Symbol Class)) → RightWithin limit symbols (refused why rest) → symbols ≡ before ++ rest → Exactly limit before named
 
+-- .. and at the end of symbols that are a list
+abbrev pub ExactlyAtTheEnd : ℕ → List (Symbol Class) → (Thing → Bool) → Type 0
+ExactlyAtTheEnd limit symbols named = (k : Derivation) → DerivedList k symbols → levels k ≤ limit → Exactly limit symbols named
+
 -- ---- as one number
 
 -- a number, if the thing is named

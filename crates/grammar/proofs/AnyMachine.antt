@@ -255,6 +255,24 @@ module _ {C S T : Type 0} (Derives : T → List (Symbol C) → Type 0) (levels :
     stood-end n s why rest none v = record { before = []; splits = cc; leads = λ m h zs. refl }
     stood-end n s why rest (some t) v = let z : _≡_ {A = ℕ} 0 1 = cc in absurd (omega arith)
 
+    -- a run that ends stands at the end
+    ended-step : (n : ℕ) (s s″ : S) (x : Symbol C) (xs : List (Symbol C)) (st : Step S) → after st (λ s′. run n s′ xs) (x ∷ xs) ≡ ended s″ → ((s′ : S) → run n s′ xs ≡ ended s″ → standsBy step n s′ xs ≡ s″)
+        → standsAfter st (λ s′. standsBy step n s′ xs) s ≡ s″
+    ended-step n s s″ x xs (go s′) e f = f s′ e
+    ended-step n s s″ x xs (stop why) e f = let z : _≡_ {A = ℕ} 0 1 = cc in absurd (omega arith)
+
+    ended-stands : (n : ℕ) (s s″ : S) (xs : List (Symbol C)) → run n s xs ≡ ended s″ → standsBy step n s xs ≡ s″
+    ended-stands n s s″ [] e = cc
+    ended-stands n s s″ (x ∷ xs) e = ended-step n s s″ x xs (step n s x) e (λ s′. ended-stands n s′ s″ xs)
+
+    -- .. to which all symbols of a list lead
+    list-stood : (n : ℕ) (t : T) (xs : List (Symbol C)) (r : Result C S) → run n start xs ≡ r → Comes n start xs r → verdictBy finish r ≡ accepted t → Leads n start xs (standsBy step n start xs)
+    list-stood n t xs (ended s) e c v = rw (ended-stands n start s xs e) c
+    list-stood n t xs (stopped why rest) e c v = let z : _≡_ {A = ℕ} 0 1 = cc in absurd (omega arith)
+
+    pub stood-at-end : (n : ℕ) (t : T) (xs : List (Symbol C)) → Derives t xs → levels t ≤ n → Leads n start xs (standsBy step n start xs)
+    stood-at-end n t xs d v = list-stood n t xs (run n start xs) refl (comes n start xs) (M .complete n t xs d v)
+
     -- a refused run stands before the refused place
     pub stood : (n : ℕ) (s : S) (xs rest : List (Symbol C)) (why : Refusal) → verdictBy finish (run n s xs) ≡ refused why rest → Stood n s xs rest
     stood n s [] rest why v = stood-end n s why rest (finish s) v
