@@ -1,7 +1,10 @@
-/* Prints the records of an address list, and the list written plainly; or what one of its bytes is.
+/* Prints the records of an address list, and the list written plainly; or what one of its bytes is; or the list with its
+ * Includes replaced by stored lists.
  * usage: example [--by-table] [LIST]     --by-table: by the second reader, for a board with a small stack
  *        example --touch PLACE LIST      what the byte at PLACE is and the records around it, from the last one to the
- *                                        outermost; for a refused list what could have stood at the refused place */
+ *                                        outermost; for a refused list what could have stood at the refused place
+ *        example --expand STORE LIST     the list written plainly with each Include replaced by a list of STORE, a file,
+ *                                        and how many stored lists were opened */
 #include <stdio.h>
 #include <stdlib.h>
 #include <string.h>
@@ -35,7 +38,62 @@ static int touch(const char *list, size_t place) {
     return 0;
 }
 
+/* The bytes of a file, to be freed; NULL if it cannot be read. */
+static uint8_t *read_file(const char *path, size_t *length) {
+    FILE *file = fopen(path, "rb");
+    uint8_t *bytes = NULL;
+    size_t room = 0, got = 1;
+    *length = 0;
+    while (file != NULL && got > 0) {
+        if (*length == room) {
+            uint8_t *more = realloc(bytes, room += 65536);
+            if (more == NULL) break;
+            bytes = more;
+        }
+        got = fread(bytes + *length, 1, room - *length, file);
+        *length += got;
+    }
+    int whole = file != NULL && got == 0 && ferror(file) == 0;
+    if (file != NULL) fclose(file);
+    if (whole) return bytes;
+    free(bytes);
+    return NULL;
+}
+
+/* Asks for the length first, and then with room for it. */
+static int expand(const char *path, const char *list) {
+    size_t length = strlen(list), store_length;
+    uint8_t *store = read_file(path, &store_length);
+    if (store == NULL) {
+        fprintf(stderr, "example: cannot read %s\n", path);
+        return 2;
+    }
+    const uint8_t *body = (const uint8_t *)list;
+    uint8_t none, *text = &none;
+    uint64_t told[4];
+    rfc733_expand(body, length, 0, length, store, store_length, text, 0, told, 4);
+    if (told[0] == 11 && (text = malloc(told[2])) != NULL)
+        rfc733_expand(body, length, 0, length, store, store_length, text, told[2], told, 4);
+    free(store);
+    int status = told[0] == 0 ? 0 : refused(told);
+    if (status == 0) {
+        printf("plain ");
+        fwrite(text, 1, told[2], stdout);
+        puts("");
+    }
+    printf("openings %u\n", (unsigned)told[3]);
+    if (text != &none) free(text);
+    return status;
+}
+
 int main(int argc, char **argv) {
+    if (argc > 1 && strcmp(argv[1], "--expand") == 0) {
+        if (argc != 4) {
+            fprintf(stderr, "usage: example --expand STORE LIST\n");
+            return 2;
+        }
+        return expand(argv[2], argv[3]);
+    }
     if (argc > 1 && strcmp(argv[1], "--touch") == 0) {
         if (argc != 4 || argv[2][0] == 0 || argv[2][strspn(argv[2], "0123456789")] != 0) {
             fprintf(stderr, "usage: example --touch PLACE LIST\n");

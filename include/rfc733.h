@@ -8,7 +8,8 @@
  * Numbers: 0 accepted; 1 message over 32,768 bytes; 2 fault in a field name; 3 byte above 127; 4 header ends without CRLF;
  * 5 quoted-string not closed; 6 comment not closed; 7 stray control byte; 8 no list goes on with this symbol;
  * 9 body ends too soon; 10 level 65 opened; 11 too little room, the count says what is needed; 12 date of wrong form;
- * 13 positions out of order, or a touched place outside the body; 14 date of right form, impossible.
+ * 13 positions out of order, or a touched place outside the body; 14 date of right form, impossible; 19 an Include leads
+ * to no stored list; 20 a 65th opening of a stored list.
  */
 #ifndef RFC733_H
 #define RFC733_H
@@ -65,6 +66,21 @@ void rfc733_date(const uint8_t *message, size_t message_length, size_t start, si
  * as long as the message stays within its limit. */
 void rfc733_plain(const uint8_t *message, size_t message_length, size_t start, size_t end,
                   uint8_t *text, size_t text_length, uint64_t *told, size_t told_length);
+
+/* Writes plainly the address list in the body of a message from start up to end, each Include in it replaced by a stored
+ * list. The store is records of 512 bytes: 64 of name, padded with zeros, and 448 of list, padded with spaces; a tail
+ * short of a record is ignored. An Include holds a mailbox or an angle list of mailboxes, with or without a phrase: the
+ * first of these whose plain text is the name of a record, byte for byte, leads to its list, the lowest such record
+ * winning. Lists are opened in text order and depth first, at most 64. No Include is left in the text, which is proved.
+ * Told, four numbers: number, position, count, which is the text's length, and openings: the lists opened, with a refusal
+ * at an Include those before it, with 11 all, with a refused body 0. A refused body has the number and position of
+ * rfc733_plain. At one Include the order is: 19 (none found, another kind inside, or directly inside another typed
+ * address); 20; the stored list's own number, with the record's number, from 0, as position; 10 (the levels open around
+ * the Include and those of the list, its own Includes counted with what they hold, pass 64). The position of 19, 20 and
+ * this 10 is that of the Include in the body that led there. 11 comes last. */
+void rfc733_expand(const uint8_t *message, size_t message_length, size_t start, size_t end,
+                   const uint8_t *store, size_t store_length, uint8_t *text, size_t text_length,
+                   uint64_t *told, size_t told_length);
 
 /* Which of two bodies to reply to: 0 for Reply-To's, 1 for From's. */
 uint32_t rfc733_reply(const uint8_t *reply, size_t reply_length, const uint8_t *from, size_t from_length);

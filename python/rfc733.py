@@ -9,6 +9,7 @@ from collections import namedtuple
 Field = namedtuple("Field", "name_start name_end body_start body_end")
 Address = namedtuple("Address", "kind depth parent start end name_start name_end")
 Touched = namedtuple("Touched", "what path")
+Expanded = namedtuple("Expanded", "text openings")
 
 _PATH = pathlib.Path(__file__).resolve().parent.parent / "target/lib/librfc733.so"
 _library = None
@@ -18,11 +19,14 @@ class Refused(ValueError):
     """A refusal: `number` and `place` are those of the table of answer numbers in the README.
 
     `expected`: what could have stood at the place, if `touch` was asked and the number is 8, 9 or 10; else empty.
+    `openings`: how many stored lists were opened before, if `expand` was asked; else None.
     """
 
-    def __init__(self, number, place, expected=()):
-        super().__init__(f"refused {number} at {place}" + (f", expected {' '.join(expected)}" if expected else ""))
-        self.number, self.place, self.expected = number, place, expected
+    def __init__(self, number, place, expected=(), openings=None):
+        more = f", expected {' '.join(expected)}" if expected else ""
+        more += "" if openings is None else f", stored lists opened: {openings}"
+        super().__init__(f"refused {number} at {place}{more}")
+        self.number, self.place, self.expected, self.openings = number, place, expected, openings
 
 
 def _load():
@@ -39,23 +43,31 @@ def _lent(data):
     return ctypes.create_string_buffer(bytes(data), len(data) + 1), ctypes.c_size_t(len(data))
 
 
-def _call(name, data, positions, room):
-    """The answer of a function that writes into a part of `room` bytes, and the part."""
-    told = (ctypes.c_uint64 * 3)()
+def _call(name, data, positions, room, *besides):
+    """The answer of a function that writes into a part of `room` bytes, and the part; `besides` is lent as well."""
+    told = (ctypes.c_uint64 * 4)()
     part = ctypes.create_string_buffer(room + 1)
     places = [ctypes.c_size_t(p) for p in positions]
-    getattr(_load(), name)(*_lent(data), *places, part, ctypes.c_size_t(room), told, ctypes.c_size_t(3))
+    lent = [half for other in besides for half in _lent(other)]
+    getattr(_load(), name)(*_lent(data), *places, *lent, part, ctypes.c_size_t(room), told, ctypes.c_size_t(4))
     return told, part.raw
 
 
-def _written(name, data, positions, size):
-    """What a function writes, in parts of `size` bytes: asked once for the count, and then with room for it."""
-    told, part = _call(name, data, positions, 0)
+def _filled(name, data, positions, size, *besides):
+    """The answer of such a function and what it writes, in parts of `size` bytes: asked once for the count, and then
+    with room for it."""
+    told, part = _call(name, data, positions, 0, *besides)
     if told[0] == 11:
-        told, part = _call(name, data, positions, told[2] * size)
+        told, part = _call(name, data, positions, told[2] * size, *besides)
+    return told, part[: told[2] * size]
+
+
+def _written(name, data, positions, size):
+    """What such a function writes. Raises `Refused`."""
+    told, part = _filled(name, data, positions, size)
     if told[0] != 0:
         raise Refused(told[0], told[1])
-    return part[: told[2] * size]
+    return part
 
 
 def _two(record, at):
@@ -66,6 +78,13 @@ def fields(message):
     """The fields of a message, in order, as `Field` positions. Raises `Refused`."""
     table = _written("rfc733_split", message, (), 8)
     return [Field(*(_two(table, at + i) for i in (0, 2, 4, 6))) for at in range(0, len(table), 8)]
+
+
+def known_name(name):
+    """The number of a known field name: 1 Date, 2 From, 3 Reply-To, 4 To, 5 cc, 6 Bcc; 0 for any other. Case is ignored."""
+    function = _load().rfc733_known_name
+    function.restype = ctypes.c_uint32
+    return function(*_lent(name))
 
 
 def _read_addresses(name, body):
@@ -107,6 +126,30 @@ def same_addresses(body, other):
         same_addresses(b"a@b", b"A@b")  # False
     """
     return plain(body) == plain(other)
+
+
+def expand(body, store):
+    """An address list written plainly, each Include in it replaced by a stored list. Raises `Refused`.
+
+    store: records of 512 bytes, 64 of name padded with zeros and 448 of list padded with spaces; a tail short of a
+    record is ignored. An Include holds a mailbox or an angle list of mailboxes; the first of these whose plain text is
+    the name of a record, byte for byte, leads to its list, the lowest such record winning. Includes in stored lists are
+    replaced likewise, in text order and depth first, by at most 64 openings.
+    text: the expanded list, as bytes; it is proved that no Include is left in it.
+    openings: how many stored lists were opened.
+
+        store = b"a at x".ljust(64, b"\\0") + b"m@h, <n@h>".ljust(448)
+        expand(b"u@v, :Include: a at x", store)  # Expanded(text=b'u at v, m at h, <n at h>', openings=1)
+
+    Refused are a body that `plain` refuses, by its number and place; and at an Include, in this order: by 19 one that
+    leads to no stored list, holds another kind, or stands directly inside another typed address; by 20 a 65th opening;
+    a stored list that is refused, by its own number, `place` being the number of its record, from 0; by 10 lists that
+    together have more than 64 levels. With 19, 20 and 10 the place is the Include in the body that led there.
+    """
+    told, text = _filled("rfc733_expand", body, (0, len(body)), 1, store)
+    if told[0] != 0:
+        raise Refused(told[0], told[1], openings=told[3])
+    return Expanded(text, told[3])
 
 
 _BYTES = (None, "white space", "comment", "word", "at", "mark")

@@ -5,6 +5,7 @@ import ctypes
 import pathlib
 import subprocess
 import sys
+import tempfile
 
 root = pathlib.Path(__file__).resolve().parent.parent
 sys.path.insert(0, str(root / "python"))
@@ -170,6 +171,125 @@ for length in range(7):
     told = all_told(*[8, 5, 0, 0, 1][:length])
     same(f"{length} numbers told, refused", c_touch(b"a at at", 3, told_length=length), (told, nothing))
 same("longest path", rfc733.touch(b"<" * 64 + b'"q"' + b">" * 64, 65), ("word", list(range(64, -1, -1))))
+
+
+def record(name, text=b""):
+    """A record of a store: the name padded with zeros, the list with spaces."""
+    return name.ljust(64, b"\0") + text.ljust(448)
+
+
+def c_expand(message, store, room=80, start=0, end=None, told_length=4):
+    """All numbers told by the C function, all of the lent text, and whether message and store stayed; beforehand each
+    number is UNTOUCHED and the text full of "#"."""
+    end = len(message) if end is None else end
+    text = ctypes.create_string_buffer(b"#" * (room + 9), room + 9)
+    told = (ctypes.c_uint64 * 7)(*[UNTOUCHED] * 7)
+    lent = ctypes.create_string_buffer(message, len(message) + 1)
+    lists = ctypes.create_string_buffer(store, len(store) + 1)
+    sizes = [ctypes.c_size_t(size) for size in (len(message), start, end)]
+    parts = (lists, ctypes.c_size_t(len(store)), text, ctypes.c_size_t(room))
+    rfc733._load().rfc733_expand(lent, *sizes, *parts, told, ctypes.c_size_t(told_length))
+    stayed = (lent.raw, lists.raw) == (message + b"\0", store + b"\0")
+    return list(told), text.raw, stayed
+
+
+def lent_text(text, room=80):
+    """A lent text with that at its front."""
+    return text.ljust(room + 9, b"#")
+
+
+def opened(name, body, store, text, openings):
+    """What a body is expanded to."""
+    room = max(80, len(text))
+    told = all_told(0, 0, len(text), openings)
+    same(f"C expand, {name}", c_expand(body, store, room), (told, lent_text(text, room), True))
+    same(f"expand, {name}", rfc733.expand(body, store), (text, openings))
+
+
+def halted(name, body, store, number, place, openings):
+    """How an expansion is refused."""
+    told = all_told(number, place, 0, openings)
+    same(f"C expand, {name}", c_expand(body, store), (told, lent_text(b""), True))
+    try:
+        got = rfc733.expand(body, store)
+    except rfc733.Refused as fault:
+        got = (fault.number, fault.place, fault.openings, str(fault))
+    words = f"refused {number} at {place}, stored lists opened: {openings}"
+    same(f"expand, {name}", got, (number, place, openings, words))
+
+
+def in_angles(levels, inner=b""):
+    """So many angle brackets around a text."""
+    return b"<" * levels + inner + b">" * levels
+
+
+X = b":Include: a at x"
+itself = record(b"a at x", X)
+lists = record(b"a at x", b"p@p") + record(b"b at y", b"q@q, <r@r>") + record(b"a at x", b"s@s")
+opened("empty list", b"u@v," + X + b",w@y", record(b"a at x"), b"u at v, w at y", 1)
+opened("comma before a group", b": " + X + b", A: b@c;;", record(b"a at x", b","), b":, A: b at c;;", 1)
+opened("group in a group", b": " + X + b";", record(b"a at x", b"A: i@j;"), b":, A: i at j;;", 1)
+opened("lowest record", X, lists, b"p at p", 1)
+opened("first mailbox", b":include:<b@y,a@x>", lists, b"q at q, <r at r>", 1)
+opened("first that is named", b":Include: L <c@z, b@y>", lists, b"q at q, <r at r>", 1)
+opened("no Include", b":Postal: a@x", lists, b":Postal: a at x", 0)
+opened("empty body", b"", lists, b"", 0)
+chain = record(b"a at x", b"1@t, :Include: b@y, 2@t") + record(b"b at y", b'"q"')
+opened("list in a list", X, chain, b'1 at t, "q", 2 at t', 2)
+opened("64 openings", (X + b",") * 64, record(b"a at x", b"m@h"), b", ".join([b"m at h"] * 64), 64)
+opened("64 levels", X, record(b"a at x", in_angles(64)), in_angles(64), 1)
+opened("zero in a name", b':Include: "\0" at h', record(b'"\0" at h', b'"\0"'), b'"\0"', 1)
+opened("name of 64 bytes", b":Include: " + b"n" * 59 + b"@h", record(b"n" * 59 + b" at h", b"m@h"), b"m at h", 1)
+opened("tail left out", X, lists[:512] + lists[:511], b"p at p", 1)
+halted("tail only", X, lists[:511], 19, 0, 0)
+halted("no store", b'"q", ' + X, b"", 19, 5, 0)
+halted("another kind inside", b':Include:<a at x,"q">', lists, 19, 0, 0)
+halted("empty angle list", X + b",:Include:<>", lists, 19, 17, 1)
+halted("Include in an Include", b":Include: " + X, lists, 19, 0, 0)
+halted("Include in a Postal", b":Postal: " + X, lists, 19, 9, 0)
+halted("case of a name", b":Include: A at x", lists, 19, 0, 0)
+halted("space behind a name", X, record(b"a at x ", b"p@p"), 19, 0, 0)
+halted("unknown behind 64", (X + b",") * 64 + b":Include: u@u", lists, 19, 1088, 64)
+halted("65 openings", (X + b",") * 65, lists, 20, 1088, 64)
+halted("itself", X, itself, 20, 0, 64)
+halted("itself in brackets", b'"", ' + X, record(b"a at x", b"<" + X + b">"), 10, 4, 63)
+halted("65 levels of a list", X, record(b"b at y") + record(b"a at x", in_angles(65)), 10, 1, 0)
+halted("65 levels together", b"<" + X + b">", record(b"a at x", in_angles(64)), 10, 1, 0)
+halted("Include unopened", in_angles(63, X), record(b"a at x", b":Include:<b at y>"), 10, 63, 0)
+halted("list padded with zeros", X, record(b"b at y") + b"a at x".ljust(512, b"\0"), 7, 1, 0)
+halted("list that ends too soon", b":Include: b@y, " + X, record(b"a at x", b"x") + record(b"b at y"), 9, 0, 1)
+halted("body that ends too soon", X + b", x", lists, 9, 19, 0)
+halted("body too long", b" " * 32769, lists, 1, 32768, 0)
+for room in range(9):
+    told, text = (all_told(11, 0, 6, 1), b"") if room < 6 else (all_told(0, 0, 6, 1), b"m at h")
+    same(f"room {room}", c_expand(X, record(b"a at x", b"m@h"), room), (told, lent_text(text, room), True))
+for length in range(7):
+    told = all_told(*[0, 0, 6, 1][:length])
+    same(f"expand, {length} numbers told", c_expand(X, lists, told_length=length), (told, lent_text(b"p at p"), True))
+    told = all_told(*[20, 0, 0, 64][:length])
+    same(f"expand, {length} told, refused", c_expand(X, itself, told_length=length), (told, lent_text(b""), True))
+within = b"zz<" + X + b",:Include: u@u>"
+part = c_expand(within, lists, start=3, end=19)
+same("expand, part of a message", part, (all_told(0, 0, 6, 1), lent_text(b"p at p"), True))
+same("expand, place in a message", c_expand(within, lists, start=2), (all_told(19, 20, 0, 1), lent_text(b""), True))
+same("expand, out of order", c_expand(within, lists, start=4, end=3), (all_told(13, 0, 0, 0), lent_text(b""), True))
+same("expand, behind the message", c_expand(X, lists, end=17), (all_told(13, 0, 0, 0), lent_text(b""), True))
+with tempfile.TemporaryDirectory() as folder:
+    path = pathlib.Path(folder) / "store"
+    for arguments, store, status, out in (
+        ([path, "u@v, :Include: a at x"], lists, 0, b"plain u at v, p at p\nopenings 1\n"),
+        ([path, ':Include: "\\0"@h'], record(b'"0" at h', b'"\0"'), 0, b'plain "\0"\nopenings 1\n'),
+        ([path, ""], b"", 0, b"plain \nopenings 0\n"),
+        ([path, ":Include: a at x,:Include:<>"], lists, 1, b"refused 19 17\nopenings 1\n"),
+        ([path, ":Include: a at x"], itself, 1, b"refused 20 0\nopenings 64\n"),
+        ([path, "x"], lists, 1, b"refused 9 1\nopenings 0\n"),
+        ([path, ":Include: a at x"], record(b"b at y") * 300 + lists, 0, b"plain p at p\nopenings 1\n"),
+        ([path.parent / "none", ""], b"", 2, b""),
+        ([path], lists, 2, b""),
+    ):
+        path.write_bytes(store)
+        example = subprocess.run([root / "target/lib/example", "--expand", *arguments], capture_output=True)
+        same(f"C example --expand {arguments[1:]}", (example.returncode, example.stdout), (status, out))
 for arguments, status, out in (
     (["4", "g:<a@b>,;"], 0, "mark\nrecords around it: 2 1 0\n"),
     (["0", '(x) "q"'], 0, "comment\nrecords around it: none\n"),

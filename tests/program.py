@@ -1,13 +1,16 @@
 #!/usr/bin/env python3
-"""The built program on whole messages. What is expected is written by hand from document 01 and RFC 733:
-which words begin and end each field, address and name. Positions are those words' places in the message,
-and seconds come from Python's datetime. Nothing here reads a list or a header."""
+"""The built program on whole messages, the tool that makes stores, and the program that opens stored lists. What is
+expected is written by hand from documents 01 and 02 and RFC 733: which words begin and end each field, address and
+name, and what each list becomes. Positions are those words' places in the message, and seconds come from Python's
+datetime. Nothing here reads a list or a header."""
 import datetime
 import pathlib
 import random
 import re
+import shutil
 import subprocess
 import sys
+import tempfile
 
 root = pathlib.Path(__file__).resolve().parent.parent
 program = root / "target/bin/rfc733"
@@ -136,6 +139,31 @@ expect("refused bodies", m.text, m.lines)
 m = example("refused-header.txt").refused(2, "no colon here", "no colon here")
 expect("refused header", m.text, m.lines)
 
+# Includes as they stand; and the text of the stored lists, which is no message: no line of it ends in CRLF
+m = example("with-includes.txt")
+m.field("Date", " ", "PDT").date(1976, 8, 27, 16, 32)
+m.field("From", " ", "Other-Host>").address(ANGLE, 0, 0, "Ken", ">", "Ken Davis").address(MAILBOX, 1, 1, "KDavis", "Other-Host", "KDavis")
+m.field("Reply-To", " ", "Other-Host").address(INCLUDE, 0, 0, ":Include", "Other-Host", "Include")
+m.address(MAILBOX, 1, 1, "secretaries", "Other-Host", "secretaries")
+m.field("To", " ", "SEA").address(GROUP, 0, 0, "Gourmets", ";", "Gourmets")
+m.address(ANGLE, 1, 1, "Pompous", ">", "Pompous Person").address(MAILBOX, 2, 2, "WhoZi", "Cordon-Bleu", "WhoZiWhatZit")
+m.address(INCLUDE, 1, 1, ":Include", "WGBH", "Include").address(MAILBOX, 2, 4, "cooks", "WGBH", "cooks")
+m.address(MAILBOX, 0, 0, "Jones", "SEA", "Jones")
+m.field("cc", " ", "Host>;").address(GROUP, 0, 0, "Standard", ";", "Standard Distribution")
+m.address(INCLUDE, 1, 1, ":Include", "Tops-20-Host>", "Include").address(ANGLE, 2, 2, "</main", "Tops-20-Host>")
+m.address(MAILBOX, 3, 3, "/main", "Other-Host", "/main/davis/people/standard")
+m.address(MAILBOX, 3, 3, '"<Jones>', "Tops-20-Host", '"<Jones>standard.dist.3"')
+m.field("Subject", " ", "elsewhere")
+m.field("cc", " ", "Other-host").address(MAILBOX, 0, 0, "Jones", "SEA", "Jones").address(POSTAL, 0, 0, ":Postal", "Other-host", "Postal")
+m.address(INCLUDE, 1, 2, ":Include", "Other-host", "Include").address(MAILBOX, 2, 3, "Non-net", "Other-host", "Non-net-addrs")
+m.field("bcc", "", "Nowhere").address(INCLUDE, 0, 0, ":Include", "Nowhere", "Include").address(MAILBOX, 1, 1, "nobody", "Nowhere", "nobody")
+m.field("bcc", "", "Mad-Host").address(MAILBOX, 0, 0, "Jones", "SEA", "Jones")
+m.address(INCLUDE, 0, 0, ":Include", "Mad-Host", "Include").address(MAILBOX, 1, 2, "mirror", "Mad-Host", "mirror")
+expect("with Includes", m.text, m.lines)
+
+m = example("stored-lists.txt")
+expect("stored lists", m.text, [f"refused 4 {len(m.text)}"])
+
 # document 01's own lines, and seconds before 1900
 expect("document 01", b"To: Al at X\r\n", ["field 0 2 3 11", "address 1 0 0 4 11 4 6"])
 expect("negative seconds", b"Date: 1 Jan 1900 0000 +0100\r\n", ["field 0 4 5 27", "date -3600"])
@@ -198,7 +226,249 @@ for name, how in (("closed", "<&-"), ("a directory", "</")):
     if done.returncode < 0 or done.stdout != b"" or b"cannot be read" not in done.stderr:
         faults.append(f"standard input {name}: exit {done.returncode}, {done.stdout!r}, {done.stderr!r}")
 
+# ---- make-store and expand-header
+
+built = subprocess.run([root / "build-library"], capture_output=True, text=True)
+if built.returncode != 0:
+    sys.exit(f"build-library: exit {built.returncode}\n{built.stdout}{built.stderr}")
+kept = tempfile.TemporaryDirectory()
+folder = pathlib.Path(kept.name)
+
+
+def call(words, given=b"", home=root):
+    """Exit status, standard output and standard error of a program of the root, run in the folder."""
+    done = subprocess.run([home / words[0], *words[1:]], input=given, capture_output=True, timeout=60, cwd=folder)
+    return done.returncode, done.stdout, done.stderr
+
+
+def expect_call(name, words, given, status, out, err, home=root):
+    """What a program gives; of standard error, the words in order, the program's name before each."""
+    global seen
+    seen += 1
+    got = call(words, given, home)
+    wanted = (status, out, "".join(f"{words[0]}: {line}\n" for line in err).encode())
+    if got != wanted:
+        faults.append(f"{name}:\n  wanted {wanted}\n  got    {got}")
+
+
+def expect_same(name, got, wanted):
+    global seen
+    seen += 1
+    if got != wanted:
+        faults.append(f"{name}: wanted {wanted!r}, got {got!r}")
+
+
+def store_of(*entries):
+    """A store, from names and lists."""
+    return b"".join(name.ljust(64, b"\0") + text.ljust(448, b" ") for name, text in entries)
+
+
+def made(text):
+    """The store that is made of a text which is not refused."""
+    expect_call(f"making {text[:60]!r}", ["make-store", "-", "made.store"], text, 0, b"", [])
+    return (folder / "made.store").read_bytes()
+
+
+# the example: the lines of a list are put together with one SPACE
+expect_call("the example is made", ["make-store", root / "examples/stored-lists.txt", "lists.store"], b"", 0, b"", [])
+wanted = store_of(
+    (b"secretaries at Other-Host", b"KSecy at Other-Host"),
+    (b"cooks at WGBH", b"Childs at WGBH, Galloping Gourmet at ANT"),
+    (
+        b'"<Jones>standard.dist.3" at Tops-20-Host',
+        b"Important folk: Tom Softwood <Balsa at Another-Host>, Sam Irving at Other-Host;, "
+        b':Postal: "Sam Irving, P.O. Box 001, Las Vegas, Nevada" (So that he can stay apprised of the situation), '
+        b":Include: wine-lovers at Discount-Liquors",
+    ),
+    (b"wine-lovers at Discount-Liquors", b"Cheapie at Discount-Liquors, Port at Portugal"),
+    (b"mirror at Mad-Host", b"Al Neuman at Mad-Host, :Include: mirror at Mad-Host"),
+)
+expect_same("the example's store", (folder / "lists.store").read_bytes(), wanted)
+expect_same("the example is printed and made again", made(call(["make-store", "--show", "lists.store"])[1]), wanted)
+
+# the form of the text
+expect_same("no names", made(b"# nothing\n\n"), b"")
+expect_same("line ends", made(b"a at x:\r\n\tb@c,\r\n  d@e  \r\n"), store_of((b"a at x", b"b@c, d@e")))
+expect_same("no line end", made(b"a at x:\n b@c"), store_of((b"a at x", b"b@c")))
+expect_same("a name with colons", made(b'"a:": b at x: \t\n b@c'), store_of((b'"a:": b at x', b"b@c")))
+expect_same("no list", made(b"a at x:\nb at y:\n "), store_of((b"a at x", b""), (b"b at y", b"")))
+expect_same("remarks", made(b"#\xff:\na at x:\n b@c,\n#d@e\n\n #f@g\n"), store_of((b"a at x", b"b@c, #f@g")))
+expect_same("spaces inside", made(b"a at x:\n b@c,  \t d@e\n"), store_of((b"a at x", b"b@c,  \t d@e")))
+expect_same("a name of 64 bytes, a list of 448", made(b"a at " + b"x" * 59 + b":\n " + b"b" * 448), b"a at " + b"x" * 59 + b"b" * 448)
+remark = 'standard input:{}: remark: no Include finds "{}": a plain text is as in "phrase at node"'
+never = b"a@x:\na at x :\n"
+expect_call("names that are never found", ["make-store", "-", "never.store"], never, 0, b"", [remark.format(1, "a@x"), remark.format(2, "a at x ")])
+
+# refusals: the line, and the store as it was
+(folder / "kept.store").write_bytes(b"as it was")
+before = sorted(folder.iterdir())
+for name, text, err in (
+    ("an empty name", b":\n b@c\n", ['1: the name before the ":" is empty']),
+    ("a name of 65 bytes", b"#\n" + b"x" * 65 + b":\n", [f'2: the name has 65 bytes, and a record holds 64: "{"x" * 65}"']),
+    ("a name that ends with a zero", b"x\0:\n", ['1: the name ends with a zero, which is padding in a record: "x\\x00"']),
+    ("a list of 449 bytes", b"\na at x:\n " + b"b" * 447 + b"\n c", ['2: the list of "a at x" has 449 bytes, and a record holds 448']),
+    ("a list without a name", b"\n b@c\n", ['2: a list without a name: a name starts its line, and a ":" ends it']),
+    (
+        "a name without a colon",
+        b"a at x\n b@c\n",
+        ['1: no ":" ends this line: a name\'s line ends with it, and the lines of a list start with white space'],
+    ),
+    ("a byte above 127 in a name", b"a\x80 at x:\n", ["1: byte 128 in column 2: names and lists have bytes up to 127"]),
+    ("a byte above 127 in a list", b"a at x:\n b@c,\n \xc3\xa9@c", ["3: byte 195 in column 2: names and lists have bytes up to 127"]),
+    ("a name twice", b"a at x:\nb at y:\na at x:\n", ['3: the name "a at x" stands on line 1 already, so this list would never be opened']),
+    ("two faults", b"#\n:\na at x:\n\xff\n", ['2: the name before the ":" is empty', "4: byte 255 in column 1: names and lists have bytes up to 127"]),
+):
+    expect_call(name, ["make-store", "-", "kept.store"], text, 1, b"", ["standard input:" + line for line in err])
+expect_same("a refused text leaves the store", (folder / "kept.store").read_bytes(), b"as it was")
+(folder / "text").write_bytes(b" b@c\n")
+expect_call("the file is named", ["make-store", "text", "kept.store"], b"", 1, b"", ['text:1: a list without a name: a name starts its line, and a ":" ends it'])
+expect_call("the text as the store", ["make-store", "text", "text"], b"", 2, b"", ["text is the text itself"])
+expect_call("no such folder", ["make-store", "-", "none/made.store"], b"", 2, b"", ["none/made.store cannot be written: No such file or directory"])
+expect_call("a folder as the store", ["make-store", "-", "."], b"", 2, b"", [". cannot be written: it is no file"])
+expect_call("no such text", ["make-store", "none", "kept.store"], b"", 2, b"", ["none cannot be read"])
+tool = root / "make-store"
+done = subprocess.run(["sh", "-c", f'ulimit -f 1; "{tool}" "{root}/examples/stored-lists.txt" kept.store'], capture_output=True, timeout=60, cwd=folder)
+expect_same("no room on the disk", (done.returncode, done.stderr), (2, b"make-store: kept.store cannot be written: File too large\n"))
+expect_same("the store is as it was", (folder / "kept.store").read_bytes(), b"as it was")
+expect_same("nothing half-written is left", sorted(folder.iterdir()), sorted(before + [folder / "text"]))
+expect_same("nor beside what was made", list(folder.glob("*.part")), [])
+
+# printing: what a text cannot say is told
+zeros = (b"f at x", b"n@o".ljust(448, b"\0"))
+foreign = store_of((b"a at x", b"b@c"), (b"a at x", b"d@e"), (b"", b"f@g"), (b"#b at x", b""), (b"c at x", b" h@i"))
+foreign += store_of((b"d at x", b"j@k,\r\n l@m"), (b"e at x", b"\xff"), zeros) + b"short"
+(folder / "foreign.store").write_bytes(foreign)
+status, out, err = call(["make-store", "--show", "foreign.store"])
+expect_same("a store from elsewhere: status", status, 1)
+expect_same("a store from elsewhere: records", made(out), store_of((b"a at x", b"b@c"), zeros))
+expect_same("a store from elsewhere: told", re.findall(rb"store: (?:record|its last) (\d)", err), [b"1", b"2", b"3", b"4", b"5", b"6", b"5"])
+expect_same("a store from elsewhere: remarks", re.findall(rb"(?m)^# record (\d)", out), [b"1", b"2", b"3", b"4", b"5", b"6"])
+
+# any names and lists that a text can say: made, printed and made again
+pieces = [b"a", b"at", b" ", b"  ", b", ", b",", b":", b";", b"#", b'"', b"\\", b"\t", b"(", b")", b"\0", b"\x7f"]
+for i in range(12):
+    text = b""
+    for j in range(random.randrange(20)):
+        text += b"%d at " % j + b"".join(random.choice(pieces) for _ in range(random.randrange(20))) + b"x:\n"
+        for _ in range(random.randrange(4)):
+            text += b" " + b"".join(random.choice(pieces) for _ in range(random.randrange(50))) + b"\n"
+    first = made(text)
+    (folder / "again.store").write_bytes(first)
+    expect_same(f"seed {seed}, text {i}: printed and made again", made(call(["make-store", "--show", "again.store"])[1]), first)
+
+# the example header; of the refused fields, the words from which they are found, and what stands before the Include
+message = (root / "examples/with-includes.txt").read_bytes()
+lines = [
+    b"From: Ken Davis <KDavis at Other-Host>",
+    b"Reply-To: KSecy at Other-Host",
+    b"To: Gourmets: Pompous Person <WhoZiWhatZit at Cordon-Bleu>, Childs at WGBH, Galloping Gourmet at ANT;, Jones at SEA",
+    b"cc: Standard Distribution: Important folk: Tom Softwood <Balsa at Another-Host>, Sam Irving at Other-Host;, "
+    b':Postal: "Sam Irving, P.O. Box 001, Las Vegas, Nevada", Cheapie at Discount-Liquors, Port at Portugal;',
+]
+nowhere, budget = "an Include leads to no stored list", "a 65th stored list would be opened"
+told = [
+    f"cc: refused 19 at {message.index(b':Include: Non-net')}: {nowhere}; openings before: 0",
+    f"bcc: refused 19 at {message.index(b':Include: nobody')}: {nowhere}; openings before: 0",
+    f"bcc: refused 20 at {message.index(b':Include: mirror')}: {budget}; openings before: 64",
+]
+shown = b"".join(line + b"\n" for line in lines)
+expect_call("the example header", ["expand-header", "--store", "lists.store", root / "examples/with-includes.txt"], b"", 1, shown, told)
+expect_call("from standard input", ["expand-header", "--store=lists.store"], message, 1, shown, told)
+
+
+def expect_expanded(name, store, message, out, err):
+    (folder / "one.store").write_bytes(store)
+    expect_call(name, ["expand-header", "--store", "one.store"], message, 1 if err else 0, out, err)
+
+
+# which fields, and their names as they stand
+one = store_of((b"a at x", b"m@h"))
+every = b"TO \t:u@v\r\nFrom:\r\nreply-TO:a@b\r\nSender: x\r\nDate: x\r\nBcc:,,\r\nCC::include:a@x\r\n\r\nTo: text"
+expect_expanded("names of fields", one, every, b"TO: u at v\nFrom: \nreply-TO: a at b\nBcc: \nCC: m at h\n", [])
+expect_expanded("no field", one, b"", b"", [])
+expect_expanded("an empty store", b"", b"To:u@v\r\ncc: :Include:a@x\r\n", b"To: u at v\n", [f"cc: refused 19 at 12: {nowhere}; openings before: 0"])
+expect_expanded("an LF that is quoted", one, b'To:"a\n"\r\n', b'To: "a\\\n"\n', [])
+
+# refused bodies and headers: the position in the message
+expect_expanded("an open quote", one, b'cc: :Include:a@x\r\nTo:"\r\n', b"cc: m at h\n", ["To: refused 5 at 21: a quoted-string is not closed; openings before: 0"])
+expect_expanded("a symbol too many", one, b"To:a at b c\r\n", b"", ["To: refused 8 at 10: no address list goes on with this symbol; openings before: 0"])
+expect_expanded("a header without colon", one, b"To:a@b\r\nno\r\n", b"", ["the header is refused 2 at 10: a byte that a field name may not have"])
+expect_expanded("a header without end", one, b"To:a@b", b"", ["the header is refused 4 at 6: the header ends without CRLF"])
+expect_expanded("a header too long", one, b"To:" + b" " * 32768 + b"\r\n", b"", ["the header is refused 1 at 32768: the message is over 32,768 bytes"])
+
+# stored lists that are refused: their records
+bad = store_of((b"a at x", b"m@h"), (b'"\x01" at x', b'"'), (b"c at z", b"m"), (b"d at w", b":Include: c at z"))
+told = 'To: refused 5 in record 1, ""\\x01" at x": a quoted-string is not closed; openings before: 1'
+expect_expanded("a list not closed", bad, b'To::Include:a@x,:Include:"\x01"@x\r\n', b"", [told])
+told = 'To: refused 9 in record 2, "c at z": the list ends in the middle of an address; openings before: 1'
+expect_expanded("by another list", bad, b"To: :Include: d at w\r\n", b"", [told])
+
+# 10: of the body, of a record, and joined, also where the Include's place is the number of a record that is refused by 10
+deep = "addresses nest deeper than 64 levels; openings before: 0"
+levels64, levels65 = b"<" * 64 + b">" * 64, b"<" * 65 + b">" * 65
+included = b"To:<:Include: a at x>\r\n"
+expect_expanded("10 of the body", one, b"To:" + levels65 + b"\r\n", b"", [f"To: refused 10 at 67: {deep}"])
+expect_expanded("10 of a record", store_of((b"", b""), (b"a at x", levels65)), included, b"", [f'To: refused 10 in record 1, "a at x": {deep}'])
+expect_expanded("10 joined", store_of((b"a at x", levels64)), included, b"", [f"To: refused 10 at 4: {deep}"])
+expect_expanded("10 joined, beside a record", store_of((b"a at x", levels64), (b"b at y", levels65)), included, b"", [f"To: refused 10 at 4: {deep}"])
+opened = store_of((b"a at x", b"<:Include: b at y>"), (b"b at y", levels64))
+told = "To: refused 10 at 3: addresses nest deeper than 64 levels; openings before: 1"
+expect_expanded("10 joined, at the number of a record that was opened", opened, b"To::Include: a at x\r\n", b"", [told])
+
+# thousands of records, the last one found
+many = store_of(*((b"n%d at x" % i, b"m%d@h" % i) for i in range(6000)))
+expect_expanded("6,000 records", many, b"To: :Include: n5999@x, :Include: n0@x\r\n", b"To: m5999 at h, m0 at h\n", [])
+
+# any bytes in message and store: it ends with 0 or 1, and every line has a form
+TOLD = re.compile(
+    rb"expand-header: (the header is refused \d+ at \d+: [ -~]+"
+    rb'|[!-~][\t -~]*: refused \d+ (at \d+|in record \d+, "[ -~]*"): [ -~]+; openings before: \d+)\n'
+)
+include_words = words + [b":Include:a at a", b"a at a", b":Include:"]
+for i in range(40):
+    message = b"To:" + b"".join(random.choice(include_words) for _ in range(random.randrange(40))) + b"\r\n"
+    store = bytes(random.randrange(256) for _ in range(random.randrange(700)))
+    if i % 2:
+        store = store_of((b"a at a", random.choice([b"a at", b"a at a", b":Include:a at a", message[3:300]]))) + store
+    (folder / "one.store").write_bytes(store)
+    status, out, err = call(["expand-header", "--store", "one.store"], message)
+    seen += 1
+    if status not in (0, 1) or TOLD.sub(b"", err) != b"" or (status == 1) != (err != b""):
+        faults.append(f"seed {seed}, message {i}: exit {status}, {err!r}: {message!r}")
+
+# wrong use: told, and 2
+for tool in ("make-store", "expand-header"):
+    status, out, err = call([tool, "--help"])
+    expect_same(f"{tool} --help", (status, out.startswith(f"usage: ./{tool} ".encode()), err), (0, True, b""))
+for wrong in (
+    ["make-store"],
+    ["make-store", "text"],
+    ["make-store", "--none", "text"],
+    ["make-store", "text", "made.store", "more"],
+    ["make-store", "text", "-"],
+    ["expand-header"],
+    ["expand-header", "--none"],
+    ["expand-header", "--store"],
+    ["expand-header", "--store", "one.store", "text", "text"],
+):
+    status, out, err = call(wrong)
+    expect_same(f"{wrong}", (status, out, f"usage: ./{wrong[0]} ".encode() in err), (2, b"", True))
+expect_call("no such store", ["expand-header", "--store", "none"], b"", 2, b"", ["none cannot be read"])
+expect_call("no such message", ["expand-header", "--store", "one.store", "none"], b"", 2, b"", ["none cannot be read"])
+
+# standard input that is closed
+for words in ("make-store - made.store", "expand-header --store one.store"):
+    done = subprocess.run(["sh", "-c", f'"{root}"/{words} <&-'], capture_output=True, timeout=60, cwd=folder)
+    tool = words.split()[0]
+    expect_same(f"{tool}, closed", (done.returncode, done.stdout, done.stderr), (2, b"", f"{tool}: standard input cannot be read\n".encode()))
+
+# a copy of the program without the library
+(folder / "python").mkdir()
+shutil.copy(root / "expand-header", folder)
+shutil.copy(root / "python/rfc733.py", folder / "python")
+expect_call("no library", ["expand-header", "--store", "one.store"], b"To:a@b\r\n", 2, b"", ["the shared library is not built: run ./build-library first"], folder)
+
 for fault in faults:
     print(fault)
-print(f"messages run: {seen}")
+print(f"tests run: {seen}")
 sys.exit(1 if faults or not seen else 0)

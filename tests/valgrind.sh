@@ -1,6 +1,6 @@
 #!/usr/bin/env bash
-# The C example under valgrind, with either address reader and touching a byte: no fault of memory on lists that are
-# accepted, refused, empty, deep and long.
+# The C example under valgrind, with either address reader, touching a byte and expanding: no fault of memory on lists
+# that are accepted, refused, empty, deep and long.
 set -u
 cd "$(dirname "$0")/.." || exit 2
 if ! command -v valgrind >/dev/null 2>&1; then
@@ -57,6 +57,42 @@ run "touched, empty" 1 --touch 0 ''
 run "touched, far outside" 1 --touch 18446744073709551615 'a@b'
 run "touched, last of 2,048" 0 --touch 6142 "$(times '"",' 2048)"
 run "touched, more addresses than the table holds" 1 --touch 0 "$(times '"",' 2049)"
+
+# A record of a store: the name padded with zeros, the list with spaces.
+record() {
+    printf '%s' "$1"
+    head -c $((64 - ${#1})) /dev/zero
+    printf '%-448s' "$2"
+}
+
+store=$(mktemp)
+trap 'rm -f "$store"' EXIT
+{
+    record 'a at x' 'm@h, A: <n@h>;'
+    record 'itself at x' ':Include: itself at x'
+    record 'deeper at x' '<:Include: deeper at x>'
+    record 'full at x' "$(times '<' 64)$(times '>' 64)"
+    record 'refused at x' 'a at b c'
+    record "$(times n 59) at h" "$(times x 446)@h"
+    record 'b at y' ''
+} >"$store"
+run "expanded" 0 --expand "$store" 'u@v, : :Include: L <z@z, a@x>;, :Include: full at x'
+run "expanded, nothing" 0 --expand "$store" ''
+run "expanded, name and list of full length" 0 --expand "$store" ":Include: $(times n 59)@h"
+run "expanded, 64 openings" 0 --expand "$store" "$(times ':Include: a@x,' 64)"
+run "expanded, 65 openings" 1 --expand "$store" "$(times ':Include: a@x,' 65)"
+run "expanded, opens itself" 1 --expand "$store" ':Include: itself at x'
+run "expanded, 65 levels together" 1 --expand "$store" '<:Include: full at x>'
+run "expanded, deeper and deeper" 1 --expand "$store" ':Include: deeper at x'
+run "expanded, list refused" 1 --expand "$store" ':Include: refused at x'
+run "expanded, unknown name" 1 --expand "$store" ":Include: $(times n 3000)@h"
+run "expanded, body refused" 1 --expand "$store" ':Include: a at x ('
+run "expanded, long" 0 --expand "$store" "$(times 'Al Neuman at Mad-Host, ' 1400)$(times ':Include: full at x,' 20)"
+run "expanded, last record" 0 --expand "$store" ':Include: b at y'
+head -c -1 "$store" >"$store.short" && mv "$store.short" "$store"
+run "expanded, last record short by a byte" 1 --expand "$store" ':Include: b at y'
+: >"$store"
+run "expanded, empty store" 1 --expand "$store" ':Include: a at x'
 
 echo "runs under valgrind: $seen"
 [ "$faults" -eq 0 ]

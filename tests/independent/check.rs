@@ -450,6 +450,301 @@ fn touched_paths(tally: &mut Tally) {
     tally.same("64 levels", touch(deep.as_bytes(), 65), (word(65), climb));
 }
 
+/// A record of a store: the name padded with zeros, the list with spaces.
+fn record(name: &[u8], list: &[u8]) -> Vec<u8> {
+    let mut out = name.to_vec();
+    out.resize(64, 0);
+    out.extend_from_slice(list);
+    out.resize(512, b' ');
+    out
+}
+
+/// A store of such records.
+fn store(records: &[(&str, &str)]) -> Vec<u8> {
+    records.iter().flat_map(|(name, list)| record(name.as_bytes(), list.as_bytes())).collect()
+}
+
+/// Expands a body that is a whole message: the answer, the openings, and the
+/// bytes that changed in a text with much room.
+fn expand(body: &str, store: &[u8]) -> (Told, u64, String) {
+    let mut text = vec![0xA5; 50_000];
+    let (answer, openings) = reader::expand(body.as_bytes(), 0, body.len(), store, &mut text);
+    let changed = text.iter().take_while(|byte| **byte != 0xA5).copied().collect();
+    (answer, openings, String::from_utf8(changed).unwrap_or_default())
+}
+
+/// What is wanted of an expanded body, and of a refused one.
+fn opened(text: &str, openings: u64) -> (Told, u64, String) {
+    (told(0, 0, text.len() as u64), openings, text.to_string())
+}
+
+fn halted(number: u64, position: u64, openings: u64) -> (Told, u64, String) {
+    (told(number, position, 0), openings, String::new())
+}
+
+/// The Include that most of these examples are made with.
+const X: &str = ":Include: a at x";
+
+/// So many angle brackets around a text.
+fn angles(levels: usize, inner: &str) -> String {
+    ["<".repeat(levels).as_str(), inner, &">".repeat(levels)].concat()
+}
+
+/// Where the addresses of a stored list go, X leading to the list.
+fn joined_lists(tally: &mut Tally) {
+    let cases = [
+        ("u@v,:Include: a at x,w@y", "", "u at v, w at y"),
+        ("u@v,:Include: a at x,w@y", " ,(c),, ", "u at v, w at y"),
+        ("u@v,:Include: a at x", ",i@j,,k@l,", "u at v, i at j, k at l"),
+        (": :Include: a at x, A: b@c;;", ",", ":, A: b at c;;"),
+        (": :Include: a at x;", "A: i@j;", ":, A: i at j;;"),
+        (": :Include: a at x;", "\"A\": i@j;", ": \"A\": i at j;;"),
+        (": :Include: a at x;", "A B: i@j;", ": A B: i at j;;"),
+        (": :Include: a at x, A:;;", "\"q\"", ": \"q\", A:;;"),
+        ("n: :Include: a at x;", "A: i@j;", "n: A: i at j;;"),
+        ("n: :Include: a at x;", "", "n:;"),
+        (": :Include: a at x;", "", ":;"),
+        ("p <:Include: a at x>", "", "p <>"),
+        ("<:Include: a at x>", "i@j", "<i at j>"),
+        (":Include: a at x", "", ""),
+        (":Postal: <:Include: a at x>", "m@h, <>", ":Postal: <m at h, <>>"),
+        (":Postal: g: :Include: a at x;", "m@h", ":Postal: g: m at h;"),
+        ("g: <\"q\", :Include: a at x>, \"r\";", "m@h", "g: <\"q\", m at h>, \"r\";"),
+        (":Include: a at x", ":Postal: \"\\\\\\a\"", ":Postal: \"\\\\a\""),
+        (":iNCLUDE:(c)\r\n a(d)@x(e)", "(f) m\r\n\t@h", "m at h"),
+        (":Include: Our Lists <a at x>", "m@h", "m at h"),
+        (":Include: \"Our\" <,a at x,,>", "m@h", "m at h"),
+        (":Include: <u@v, a@x, a@x>", "m@h", "m at h"),
+    ];
+    for (body, list, wanted) in cases {
+        tally.same(body, expand(body, &store(&[("a at x", list)])), opened(wanted, 1));
+    }
+    let unchanged = [
+        ("", ""),
+        (",", ""),
+        ("a@x,,a@x", "a at x, a at x"),
+        (":Includes: a at x", ":Includes: a at x"),
+        (":Postal: a at x", ":Postal: a at x"),
+        (": Include <a at x>;", ": Include <a at x>;"),
+        (": \"Include\": a at x;;", ": \"Include\": a at x;;"),
+    ];
+    for (body, wanted) in unchanged {
+        tally.same(body, expand(body, &store(&[("a at x", "m@h")])), opened(wanted, 0));
+    }
+}
+
+/// Includes that lead to no stored list, X leading to one.
+fn unled_includes(tally: &mut Tally) {
+    let cases = [
+        (":Include: u at u", 0),
+        ("\"q\", :Include: u at u", 5),
+        (":Include: a at x at x", 0),
+        (":Include: A at x", 0),
+        (":Include: \"a\" at x", 0),
+        (":Include: <>", 0),
+        (":Include: <u@u,v@v>", 0),
+        (":Include: \"a at x\"", 0),
+        (":Include: g: a at x;", 0),
+        (":Include: :a at x;", 0),
+        (":Include: <<a at x>>", 0),
+        (":Include: <a at x,\"q\">", 0),
+        (":Include: <\"q\",a at x>", 0),
+        (":Include: <a at x, :Include: a at x>", 0),
+        (":Include: :Postal: a at x", 0),
+        (":Include: :Include: a at x", 0),
+        (":Postal: :Include: a at x", 9),
+        (":Other: :Include: a at x", 8),
+        (":Postal: :Other: :Include: a at x", 17),
+        ("<:Postal: :Include: a at x>", 10),
+    ];
+    let led = store(&[("a at x", "m@h")]);
+    for (body, place) in cases {
+        tally.same(body, expand(body, &led), halted(19, place, 0));
+        let behind = [X, ",", body].concat();
+        tally.same(&behind, expand(&behind, &led), halted(19, place + 17, 1));
+        let stored = store(&[("b at y", body), ("a at x", "m@h")]);
+        tally.same(body, expand("\"\", :Include: b at y", &stored), halted(19, 4, 1));
+    }
+    let complex = "D::Include:</main/std at Oh, \"<J>s\" at T>, :Postal::Include: N@O;";
+    let all = [("/main/std at Oh", "a@b"), ("\"<J>s\" at T", "c@d"), ("N at O", "\"e\"")];
+    tally.same("RFC 733, V.D.3", expand(complex, &store(&all)), halted(19, 51, 1));
+}
+
+/// Which record an Include leads to, by the names of the store.
+fn stored_names(tally: &mut Tally) {
+    let two = store(&[("a at x", "p@p"), ("b at y", "q@q"), ("a at x", "r@r")]);
+    tally.same("lowest record", expand(X, &two), opened("p at p", 1));
+    tally.same("first mailbox", expand(":Include:<b@y,a@x>", &two), opened("q at q", 1));
+    tally.same("first that is named", expand(":Include:<c@z,b@y>", &two), opened("q at q", 1));
+    let unopened = store(&[("b at y", "x"), ("a at x", "m@h"), ("a at x", "\"")]);
+    tally.same("records not opened", expand(X, &unopened), opened("m at h", 1));
+    let unlike: [&[u8]; 12] = [
+        b"a at x ", b" a at x", b"a at  x", b"a@x", b"A at x", b"a at X", b"\"a\" at x", b"a at",
+        b"a at xx", b"a at x\0 ", b"a\0 at x", b"\0a at x",
+    ];
+    for name in unlike {
+        tally.same("another name", expand(X, &record(name, b"m@h")), halted(19, 0, 0));
+    }
+    let atom = |length: usize| "n".repeat(length - 5);
+    let body = |length: usize| format!(":Include: {} at h", atom(length));
+    let name = |length: usize| format!("{} at h", atom(length));
+    let full = record(name(64).as_bytes(), b"m@h");
+    tally.same("64 bytes of name", expand(&body(64), &full), opened("m at h", 1));
+    tally.same("63 bytes of name", expand(&body(63), &full), halted(19, 0, 0));
+    let cut = record(&name(65).as_bytes()[..64], b"m@h");
+    tally.same("65 bytes of name", expand(&body(65), &cut), halted(19, 0, 0));
+    let zero = record(b"\"\0\" at h", b"m@h");
+    tally.same("zero within", expand(":Include: \"\0\" at h", &zero), opened("m at h", 1));
+    tally.same("zero left out", expand(":Include: \"\" at h", &zero), halted(19, 0, 0));
+    let quoted = record(b"\"a b\\\"\" c at \"at\"", b"m@h");
+    let spelt = ":Include: \"\\a\r\n b\\\"\"\tc @ \"at\"";
+    tally.same("quoted words", expand(spelt, &quoted), opened("m at h", 1));
+    let whole = record(b"a at x", b"m@h");
+    tally.same("store of nothing", expand(X, b""), halted(19, 0, 0));
+    tally.same("tail only", expand(X, &whole[..511]), halted(19, 0, 0));
+    let tailed = [&whole[..], &whole[..511]].concat();
+    tally.same("tail behind", expand(X, &tailed), opened("m at h", 1));
+    let other = [&record(b"b at y", b"")[..], &whole[..511]].concat();
+    tally.same("name in the tail", expand(X, &other), halted(19, 0, 0));
+}
+
+/// Stored lists that are refused, and lists that fill their record.
+fn refused_lists(tally: &mut Tally) {
+    let filled = |list: &str, last: &str| {
+        [list, &" ".repeat(448 - list.len() - last.len()), last].concat()
+    };
+    let cases = [
+        ("i@j (".to_string(), 6),
+        ("\"".to_string(), 5),
+        ("i@j\0".to_string(), 7),
+        (filled("i@j", "\r\n"), 7),
+        (filled("i@j", "\""), 5),
+        ("x".to_string(), 9),
+        ("a at b c".to_string(), 8),
+        (";".to_string(), 8),
+        (">,<".to_string(), 8),
+        (angles(65, ""), 10),
+        (angles(64, "\u{7F}"), 7),
+        ("\u{A3}".to_string(), 3),
+    ];
+    for (list, number) in cases {
+        let lists = store(&[("b at y", ""), ("c at z", ""), ("a at x", &list)]);
+        let behind = ":Include:b@y,:Include:a@x";
+        for (body, openings) in [(X, 0), ("<:Include: a at x>", 0), (behind, 1)] {
+            tally.same(&list, expand(body, &lists), halted(number, 2, openings));
+        }
+        let led = store(&[("a at x", "i@j, :Include: b at y"), ("b at y", &list)]);
+        tally.same(&list, expand(X, &led), halted(number, 1, 1));
+    }
+    let nul = [&record(b"b at y", b"")[..], &record(b"a at x", b"i@j")[..67], &[0; 445]].concat();
+    tally.same("padded with NUL", expand(X, &nul), halted(7, 1, 0));
+    for last in ["m@h", "\r\n ", "(c)"] {
+        let list = filled("i@j,", last);
+        let wanted = if last == "m@h" { "i at j, m at h" } else { "i at j" };
+        tally.same("448 bytes", expand(X, &store(&[("a at x", &list)])), opened(wanted, 1));
+    }
+    let next = store(&[("a at x", &filled("i@j", "\"")), ("\" at x", "")]);
+    tally.same("a list of its own", expand(X, &next), halted(5, 0, 0));
+}
+
+/// How often lists are opened, in which order, and who answers first.
+fn budget(tally: &mut Tally) {
+    let itself = store(&[("a at x", X)]);
+    tally.same("itself", expand(X, &itself), halted(20, 0, 64));
+    tally.same("itself, behind", expand("\"q\",<:Include: a at x>", &itself), halted(20, 5, 64));
+    let many = |times: usize, last: &str| [&[X, ","].concat().repeat(times), last].concat();
+    let lists = store(&[("a at x", ""), ("b at y", "x"), ("c at z", &angles(65, ""))]);
+    tally.same("64 openings", expand(&many(64, ""), &lists), opened("", 64));
+    tally.same("65 openings", expand(&many(65, ""), &lists), halted(20, 1_088, 64));
+    tally.same("19 first", expand(&many(64, ":Include: u at u"), &lists), halted(19, 1_088, 64));
+    tally.same("20 next", expand(&many(64, ":Include: b at y"), &lists), halted(20, 1_088, 64));
+    tally.same("20 next", expand(&many(64, ":Include: c at z"), &lists), halted(20, 1_088, 64));
+    tally.same("own number next", expand(&many(63, ":Include: b at y"), &lists), halted(9, 1, 63));
+    let doubling: Vec<u8> = (0..6)
+        .flat_map(|i| {
+            let twice = format!(":Include:{0}@t, \"q\", :Include:{0}@t", i + 1);
+            let list = if i < 5 { twice.as_str() } else { "" };
+            record(format!("{i} at t").as_bytes(), list.as_bytes())
+        })
+        .collect();
+    // 1 + 2 + 4 + 8 + 16 + 32 openings
+    let quoted = ["\"q\""; 31].join(", ");
+    tally.same("doubling", expand(":Include: 0 at t", &doubling), opened(&quoted, 63));
+    let more = ":Include: 5 at t, :Include: 0 at t";
+    tally.same("doubling, one more", expand(more, &doubling), opened(&quoted, 64));
+    let most = [":Include: 5 at t, ", more].concat();
+    tally.same("doubling, two more", expand(&most, &doubling), halted(20, 36, 64));
+    let order = store(&[
+        ("a at x", "1@t, :Include: b at y, 2@t, :Include: c at z, 3@t"),
+        ("b at y", ": :Include: c at z;"),
+        ("c at z", "\"c\", \"d\""),
+    ]);
+    let wanted = "1 at t, : \"c\", \"d\";, 2 at t, \"c\", \"d\", 3 at t, 4 at t, \"c\", \"d\"";
+    let body = ":Include: a at x, 4@t, :Include: c@z";
+    tally.same("depth first", expand(body, &order), opened(wanted, 5));
+    let early = store(&[("a at x", ":Include: b at y"), ("b at y", "x")]);
+    let body = "\"q\", :Include: a at x, :Include: u at u";
+    tally.same("first in text order", expand(body, &early), halted(9, 1, 1));
+}
+
+/// Levels of the body and of a stored list, together.
+fn joined_levels(tally: &mut Tally) {
+    let one = |list: &str| store(&[("a at x", list), ("b at y", "m@h")]);
+    let within = one("<:Include: a at x>");
+    tally.same("deeper and deeper", expand("\"\", :Include: a at x", &within), halted(10, 4, 63));
+    let typed = store(&[("a at x", ":P: <:Include: a at x>")]);
+    tally.same("by two levels", expand(X, &typed), halted(10, 0, 31));
+    let last = angles(64, "");
+    tally.same("64 levels", expand(X, &one(&last)), opened(&last, 1));
+    tally.same("64 levels in one", expand("<:Include: a at x>", &one(&last)), halted(10, 1, 0));
+    tally.same("64 in a group", expand("g: :Include: a at x;", &one(&last)), halted(10, 3, 0));
+    let own = store(&[("b at y", ""), ("c at z", ""), ("a at x", &angles(65, ""))]);
+    tally.same("65 levels", expand(X, &own), halted(10, 2, 0));
+    tally.same("own number first", expand("<:Include: a at x>", &own), halted(10, 2, 0));
+    let deep = angles(63, X);
+    tally.same("angle list unopened", expand(&deep, &one(":Include:<b at y>")), halted(10, 63, 0));
+    let wanted = opened(&angles(63, "m at h"), 2);
+    tally.same("mailbox unopened", expand(&deep, &one(":Include:b at y")), wanted);
+    tally.same("no level", expand(&deep, &one("m@h")), opened(&angles(63, "m at h"), 1));
+    tally.same("one level", expand(&deep, &one("<>")), opened(&angles(64, ""), 1));
+    tally.same("two levels", expand(&deep, &one("m@h,<>,<:;>")), halted(10, 63, 0));
+    tally.same("typed level", expand(&deep, &one(":P:<>")), halted(10, 63, 0));
+    let nested = store(&[("a at x", &angles(62, ":Include: b at y")), ("b at y", "<<>>")]);
+    let wanted = opened(&angles(64, ""), 2);
+    tally.same("met inside", expand(",:Include: a at x", &nested), wanted);
+    tally.same("met inside, one more", expand(",<:Include: a at x>", &nested), halted(10, 2, 1));
+    tally.same("65 levels of a body", expand(&angles(64, X), &one("")), halted(10, 64, 0));
+    tally.same("first list", expand(&format!("{X}, {deep}"), &one("<<>>")), halted(10, 81, 1));
+}
+
+/// Refused bodies, parts of a message, and rooms.
+fn expanded_rooms(tally: &mut Tally) {
+    let lists = store(&[("a at x", "m@h")]);
+    tally.same("refused behind", expand(":Include: a at x, x", &lists), halted(9, 19, 0));
+    tally.same("refused before", expand("x, :Include: u at u", &lists), halted(8, 1, 0));
+    tally.same("scanning first", expand(":Include: u at u \"", &lists), halted(5, 17, 0));
+    tally.same("too long", expand(&" ".repeat(32_769), &lists), halted(1, 32_768, 0));
+    let message = b"zz<:Include: a at x,:Include: u at u>";
+    let part = |start, end| reader::expand(message, start, end, &lists, &mut [0; 9]);
+    tally.same("part of a message", part(3, 19), (told(0, 0, 6), 1));
+    tally.same("place in a message", part(2, 37), (told(19, 20, 0), 1));
+    tally.same("out of order", part(4, 3), (told(13, 0, 0), 0));
+    tally.same("behind the message", part(3, 38), (told(13, 0, 0), 0));
+    for room in 0..9 {
+        let mut text = vec![7; room];
+        let answer = reader::expand(X.as_bytes(), 0, 16, &lists, &mut text);
+        let number = if room < 6 { 11 } else { 0 };
+        tally.same("room", answer, (told(number, 0, 6), 1));
+        let wanted = if room < 6 { vec![7; room] } else { [b"m at h", &[7; 9][6..room]].concat() };
+        tally.same("text", text, wanted);
+    }
+    let none = reader::expand(X.as_bytes(), 0, 16, &record(b"a at x", b","), &mut []);
+    tally.same("no room needed", none, (told(0, 0, 0), 1));
+    let long = ["\"\",".repeat(10_000), X.to_string()].concat();
+    let answer = reader::expand(long.as_bytes(), 0, long.len(), &lists, &mut [0; 40_005]);
+    tally.same("longer than a message", answer, (told(11, 0, 40_006), 1));
+}
+
 fn splitting(tally: &mut Tally) {
     let cases: [(&[u8], Told); 13] = [
         (b"", told(0, 0, 0)),
@@ -517,6 +812,13 @@ fn main() {
     touched_bytes(&mut tally);
     touched_in_vain(&mut tally);
     touched_paths(&mut tally);
+    joined_lists(&mut tally);
+    unled_includes(&mut tally);
+    stored_names(&mut tally);
+    refused_lists(&mut tally);
+    budget(&mut tally);
+    joined_levels(&mut tally);
+    expanded_rooms(&mut tally);
     splitting(&mut tally);
     dates(&mut tally);
     println!("{} checks, {} failed", tally.run, tally.failed);

@@ -48,16 +48,17 @@ pub enum Kind {
     Name,
     Exchange,
     Pair,
+    Expansion,
 }
 
-pub const KINDS: [Kind; 15] = [
+pub const KINDS: [Kind; 16] = [
     Kind::Bytes, Kind::Tokens, Kind::Symbols, Kind::List, Kind::Mutant, Kind::Deep,
     Kind::Waves, Kind::Long, Kind::Header, Kind::Date, Kind::DateMutant, Kind::Reply,
-    Kind::Name, Kind::Exchange, Kind::Pair,
+    Kind::Name, Kind::Exchange, Kind::Pair, Kind::Expansion,
 ];
 
 /// How often each kind is made, of 1,000.
-const WEIGHTS: [usize; 15] = [40, 110, 130, 95, 134, 75, 60, 3, 78, 50, 50, 18, 7, 80, 70];
+const WEIGHTS: [usize; 16] = [40, 95, 110, 85, 114, 75, 60, 3, 68, 45, 45, 18, 7, 80, 65, 90];
 
 /// Chooses the place of a kind in `KINDS`.
 pub fn choose(rng: &mut Rng) -> usize {
@@ -95,6 +96,7 @@ pub fn body(rng: &mut Rng, kind: Kind) -> Vec<u8> {
         Kind::Name => name(rng),
         Kind::Exchange => commented(rng),
         Kind::Pair => pair(rng).0,
+        Kind::Expansion => expansion(rng).0,
     }
 }
 
@@ -179,6 +181,10 @@ type Tokens = Vec<Vec<u8>>;
 
 fn add(out: &mut Tokens, token: &[u8]) {
     out.push(token.to_vec());
+}
+
+fn add_each(out: &mut Tokens, tokens: &[&[u8]]) {
+    tokens.iter().for_each(|token| add(out, token));
 }
 
 fn add_list(rng: &mut Rng, out: &mut Tokens, budget: &mut usize, depth: usize) {
@@ -873,6 +879,363 @@ fn alter_angle(rng: &mut Rng, tokens: &mut Tokens, i: usize) {
     } else {
         tokens[i] = b":".to_vec();
         tokens[close] = b";".to_vec();
+    }
+}
+
+// ------------------------------------------------------------ expansion
+
+/// What the body and the stored lists of one input have in common.
+struct Scene {
+    /// Mailboxes that Includes hold and records are named by.
+    names: Vec<Tokens>,
+    /// Whether a list holds Includes of any name, or only of later ones.
+    circular: bool,
+    /// Once in so many times an Include or a record's name is at fault.
+    faults: usize,
+    /// Once in so many times a stored list is.
+    list_faults: usize,
+    /// Levels of a deep body; a deep list has about those that are left.
+    levels: usize,
+}
+
+/// A body with many Includes, and a store.
+pub fn expansion(rng: &mut Rng) -> (Vec<u8>, Vec<u8>) {
+    let scene = Scene {
+        names: (0..1 + rng.below(6)).map(|_| list_name(rng)).collect(),
+        circular: rng.once_in(5),
+        faults: [8, 30, 200, 100_000][rng.below(4)],
+        list_faults: [4, 20, 100, 100_000][rng.below(4)],
+        levels: if rng.once_in(2) { 1 + rng.below(64) } else { 60 + rng.below(5) },
+    };
+    let body = including_body(rng, &scene);
+    let store = store(rng, &scene);
+    (body, store)
+}
+
+/// The mailbox that names a list: short, of any words, or of about 64 bytes.
+fn list_name(rng: &mut Rng) -> Tokens {
+    let mut out = Tokens::new();
+    match rng.below(12) {
+        0..=5 => {
+            let words: [&[u8]; 5] = [b"a", b"b", b"A", b"\"a\"", b"c"];
+            add_each(&mut out, &[rng.pick(&words), b"@", rng.pick(&words)]);
+        }
+        6 => {
+            let nodes: [&[u8]; 2] = [b"h", b"\"\\\r\""];
+            let node = rng.pick(&nodes);
+            let text = 62 + rng.below(4) - 4 - node.len();
+            add_each(&mut out, &[&vec![b'n'; text], b"@", node]);
+        }
+        _ => add_mailbox(rng, &mut out),
+    }
+    out
+}
+
+/// The plain text of a mailbox.
+fn mailbox_text(tokens: &Tokens) -> Vec<u8> {
+    let mut words = Tokens::new();
+    for token in tokens {
+        if is_at(token) {
+            add(&mut words, b"at");
+        } else if is_quoted(token) {
+            let escaped = data(token).into_iter().flat_map(|byte| match byte {
+                b'"' | b'\\' | b'\r' | b'\n' => vec![b'\\', byte],
+                _ => vec![byte],
+            });
+            words.push([vec![b'"'], escaped.collect(), vec![b'"']].concat());
+        } else {
+            add(&mut words, token);
+        }
+    }
+    words.join(&b' ')
+}
+
+// -- Includes
+
+/// Adds an Include that most often leads to one of the names.
+fn add_include(rng: &mut Rng, out: &mut Tokens, names: &[Tokens], faults: usize) {
+    let types: [&[u8]; 5] = [b"Include", b"Include", b"include", b"INCLUDE", b"iNcLuDe"];
+    add_each(out, &[b":", rng.pick(&types), b":"]);
+    let name = &names[rng.below(names.len())];
+    if rng.once_in(faults) {
+        add_unled(rng, out, name);
+    } else if rng.once_in(2) {
+        out.extend_from_slice(name);
+    } else {
+        add_phrase(rng, out, true);
+        add(out, b"<");
+        while rng.once_in(4) {
+            add_mailbox(rng, out);
+            add(out, b",");
+        }
+        out.extend_from_slice(name);
+        while rng.once_in(3) {
+            add(out, b",");
+            out.extend_from_slice(&names[rng.below(names.len())]);
+        }
+        add(out, b">");
+    }
+}
+
+/// Adds what an Include may not hold, or a mailbox that is near the name.
+fn add_unled(rng: &mut Rng, out: &mut Tokens, name: &Tokens) {
+    let around: [(&[u8], &[u8]); 8] = [
+        (b"g:", b";"), (b"<<", b">>"), (b"<\"q\",", b">"), (b"<", b",\"q\">"), (b":Postal:", b""),
+        (b":Include:", b""), (b"<", b",<>>"), (b"<:Include:", b">"),
+    ];
+    match rng.below(6) {
+        0 => add(out, b"<>"),
+        1 => out.push(quote(rng, &mailbox_text(name))),
+        2 => {
+            let mut near = name.clone();
+            let word = find(rng, near.len(), &|i| is_word(&name[i]));
+            alter_word(rng, &mut near[word.unwrap_or(0)]);
+            out.append(&mut near);
+        }
+        3 => add_mailbox(rng, out),
+        _ => {
+            let (before, behind) = around[rng.below(around.len())];
+            add(out, before);
+            out.extend_from_slice(name);
+            add(out, behind);
+        }
+    }
+}
+
+/// Adds a list with Includes of the names; of none if there are none.
+fn add_including_list(
+    rng: &mut Rng, out: &mut Tokens, names: &[Tokens], faults: usize, budget: &mut usize,
+) {
+    while rng.once_in(6) {
+        add(out, b",");
+    }
+    for _ in 0..rng.below(4) {
+        add_including(rng, out, names, faults, budget);
+        add(out, b",");
+    }
+    if rng.once_in(2) {
+        add_including(rng, out, names, faults, budget);
+    }
+}
+
+/// Adds one address of such a list.
+fn add_including(
+    rng: &mut Rng, out: &mut Tokens, names: &[Tokens], faults: usize, budget: &mut usize,
+) {
+    *budget = budget.saturating_sub(1);
+    let types: [&[u8]; 3] = [b"Postal", b"File", b"x"];
+    match if *budget == 0 { rng.below(6) } else { rng.below(11) } {
+        0..=3 if !names.is_empty() => add_include(rng, out, names, faults),
+        0 => add(out, rng.pick(&QUOTED)),
+        1..=3 => add_mailbox(rng, out),
+        4 | 5 => add_each(out, &[b"A", b":", b";"]),
+        6 | 7 => {
+            add_phrase(rng, out, true);
+            add(out, b"<");
+            add_including_list(rng, out, names, faults, budget);
+            add(out, b">");
+        }
+        8 | 9 => {
+            add_phrase(rng, out, true);
+            add(out, b":");
+            add_including_list(rng, out, names, faults, budget);
+            add(out, b";");
+        }
+        _ => {
+            add_each(out, &[b":", rng.pick(&types), b":"]);
+            if rng.once_in(faults) && !names.is_empty() {
+                add_include(rng, out, names, faults);
+                return;
+            }
+            add(out, b"<");
+            add_including_list(rng, out, names, faults, budget);
+            add(out, b">");
+        }
+    }
+}
+
+/// So many levels around the tokens, in few bytes if so asked.
+fn nested(rng: &mut Rng, levels: usize, inner: Tokens, brief: bool) -> Tokens {
+    let mut climb = Climb::default();
+    while brief && climb.open.len() + 1 < levels {
+        let level = if rng.once_in(3) { LEVELS[2] } else { LEVELS[0] };
+        climb.open(rng, level);
+    }
+    climb.rise(rng, levels.saturating_sub(1));
+    if levels > 0 {
+        climb.open(rng, LEVELS[0]);
+    }
+    climb.tokens.extend(inner);
+    climb.ended = true;
+    while !climb.open.is_empty() {
+        if !brief && rng.once_in(12) {
+            climb.member(rng);
+        }
+        climb.close(rng);
+    }
+    climb.tokens
+}
+
+/// Adds about 64 Includes, the last of which may be at fault, of any name, or
+/// in many levels.
+fn add_many_includes(rng: &mut Rng, out: &mut Tokens, scene: &Scene) {
+    let names = &scene.names[..];
+    let last = &names[names.len() - 1..];
+    for _ in 0..[62, 63, 64, 64, 64, 65, 66][rng.below(7)] {
+        let of = if rng.once_in(60) { names } else { last };
+        add_include(rng, out, of, 10 * scene.faults);
+        add(out, b",");
+    }
+    let mut include = Tokens::new();
+    match rng.below(6) {
+        0 => add_include(rng, out, last, 1),
+        1 | 2 => add_include(rng, out, names, scene.faults),
+        3 => {
+            add_include(rng, &mut include, names, scene.faults);
+            out.append(&mut nested(rng, scene.levels - 1, include, false));
+        }
+        _ => {}
+    }
+}
+
+/// A body whose Includes lead to stored lists; now and then any other body.
+fn including_body(rng: &mut Rng, scene: &Scene) -> Vec<u8> {
+    let (names, faults) = (&scene.names[..], scene.faults);
+    let mut out = Tokens::new();
+    match rng.below(16) {
+        0..=5 => add_including_list(rng, &mut out, names, faults, &mut 8),
+        6 | 7 => add_include(rng, &mut out, names, faults),
+        8..=10 => {
+            add_include(rng, &mut out, names, faults);
+            let levels = scene.levels - rng.below(2);
+            out = nested(rng, levels, out, false);
+        }
+        11..=13 => add_many_includes(rng, &mut out, scene),
+        14 => {
+            add_including_list(rng, &mut out, names, faults, &mut 8);
+            let whole = spelt(rng, &out);
+            return mutate(rng, whole);
+        }
+        _ => {
+            let kinds = [Kind::Tokens, Kind::Symbols, Kind::List, Kind::Deep, Kind::Waves];
+            let kind = if rng.once_in(100) { Kind::Long } else { kinds[rng.below(5)] };
+            return body(rng, kind);
+        }
+    }
+    if rng.once_in(3) { spelt(rng, &out) } else { glue(rng, &out, true) }
+}
+
+// -- stores
+
+/// A store with a record of each name, some twice, some of near names, in
+/// any order, and now and then a tail short of a record.
+fn store(rng: &mut Rng, scene: &Scene) -> Vec<u8> {
+    let mut records: Vec<Vec<u8>> = Vec::new();
+    let turns = if rng.once_in(12) { 1 + rng.below(8) } else { 1 + rng.below(2) };
+    for _ in 0..turns {
+        for number in 0..scene.names.len() {
+            if !rng.once_in(scene.faults) {
+                let at = rng.below(records.len() + 1);
+                records.insert(at, record(rng, scene, number));
+            }
+        }
+    }
+    if rng.once_in(30) {
+        records.clear();
+    }
+    let mut store = records.concat();
+    if rng.once_in(scene.faults) {
+        store.pop();
+    }
+    if rng.once_in(3) {
+        let number = rng.below(scene.names.len());
+        let tail = record(rng, scene, number);
+        let length = if rng.once_in(2) { 511 } else { rng.below(512) };
+        store.extend_from_slice(&tail[..length]);
+    }
+    store
+}
+
+/// The record of a name: 64 bytes of name and 448 of list.
+fn record(rng: &mut Rng, scene: &Scene, number: usize) -> Vec<u8> {
+    let mut name = mailbox_text(&scene.names[number]);
+    if rng.once_in(scene.faults.min(12)) {
+        let at = rng.below(name.len());
+        match rng.below(8) {
+            0 => name.push(b' '),
+            1 => flip_case(rng, &mut name),
+            2 => name.push(b'x'),
+            3 => drop(name.pop()),
+            4 => name.insert(at, 0),
+            5 => name.resize(64, b' '),
+            6 => name.insert(0, b' '),
+            _ => name.extend_from_slice(b"\0 "),
+        }
+    }
+    name.resize(64, 0);
+    let mut list = stored_list(rng, scene, number);
+    list.truncate(448);
+    let missing = 448 - list.len();
+    let pad = if rng.once_in(5 * scene.list_faults) { 0 } else { b' ' };
+    let before = if rng.once_in(4) { missing } else { 0 };
+    list.splice(0..0, vec![pad; before]);
+    list.resize(448, pad);
+    [name, list].concat()
+}
+
+/// A list to be stored under a name.
+fn stored_list(rng: &mut Rng, scene: &Scene, number: usize) -> Vec<u8> {
+    let names = if scene.circular { &scene.names[..] } else { &scene.names[number + 1..] };
+    let mut out = Tokens::new();
+    if rng.once_in(scene.list_faults) {
+        return refused_list(rng);
+    }
+    match rng.below(12) {
+        0 | 1 => {
+            let empty: [&[u8]; 5] = [b"", b",", b" , ,", b"(c)", b"\r\n ,(\\))"];
+            return rng.pick(&empty).to_vec();
+        }
+        2 | 3 => {
+            let starts: [&[u8]; 7] = [
+                b"A:;", b"A: i@j;, B:;", b"\"A\":;", b"A B: i@j;", b":A:<>", b",,A <>", b":,A:;;",
+            ];
+            return rng.pick(&starts).to_vec();
+        }
+        4 => return list(rng),
+        5 | 6 => {
+            let left = 65usize.saturating_sub(scene.levels);
+            let levels = (left + rng.below(3)).saturating_sub(1);
+            if names.is_empty() || rng.once_in(2) {
+                add_mailbox(rng, &mut out);
+            } else {
+                add_include(rng, &mut out, names, scene.faults);
+            }
+            out = nested(rng, levels, out, levels > 20);
+        }
+        7 if !names.is_empty() => {
+            for _ in 0..2 + rng.below(2) {
+                add_include(rng, &mut out, names, scene.faults);
+                add(&mut out, b",");
+            }
+        }
+        _ => add_including_list(rng, &mut out, names, scene.faults, &mut 4),
+    }
+    if rng.once_in(3) { spelt(rng, &out) } else { glue(rng, &out, true) }
+}
+
+/// A list that is most often refused.
+fn refused_list(rng: &mut Rng) -> Vec<u8> {
+    match rng.below(8) {
+        0 => bytes(rng, 40),
+        1 => tokens(rng),
+        2 => symbols(rng),
+        3 => [b"<".repeat(65), b">".repeat(65)].concat(),
+        4 => b"<\"q\",".repeat(90),
+        5 => {
+            let valid = list(rng);
+            mutate(rng, valid)
+        }
+        _ => [&list(rng)[..], b",", rng.pick(&FAULTS)].concat(),
     }
 }
 

@@ -39,6 +39,12 @@ extern "C" {
         text: *mut u8, text_len: usize,
         told: *mut u64, told_len: usize,
     );
+    fn rfc733_expand(
+        message: *const u8, message_len: usize, start: usize, end: usize,
+        store: *const u8, store_len: usize,
+        text: *mut u8, text_len: usize,
+        told: *mut u64, told_len: usize,
+    );
     fn rfc733_touch(
         message: *const u8, message_len: usize, start: usize, end: usize, place: usize,
         path: *mut u64, path_len: usize,
@@ -119,6 +125,15 @@ mod proved {
         unsafe { rfc733_touch(m, message.len(), start, end, place, p, path.len(), t, told.len()) }
     }
 
+    /// Fills the lent text and the lent array of numbers told.
+    pub fn expand(
+        message: &[u8], start: usize, end: usize, store: &[u8], text: &mut [u8], told: &mut [u64],
+    ) {
+        let (m, s) = ((message.as_ptr(), message.len()), (store.as_ptr(), store.len()));
+        let (out, t) = ((text.as_mut_ptr(), text.len()), (told.as_mut_ptr(), told.len()));
+        unsafe { rfc733_expand(m.0, m.1, start, end, s.0, s.1, out.0, out.1, t.0, t.1) }
+    }
+
     pub fn reply(reply: &[u8], from: &[u8]) -> u32 {
         unsafe { rfc733_reply(reply.as_ptr(), reply.len(), from.as_ptr(), from.len()) }
     }
@@ -136,6 +151,9 @@ const PATTERN: u8 = 0xA5;
 
 /// Bytes of the longest message, and of the longest plain text read back.
 const LONGEST: usize = 32_768;
+
+/// Every answer number is below this.
+const NUMBERS: usize = 21;
 
 /// Seconds after which every tally must have counted.
 const LONG_ENOUGH: u64 = 5;
@@ -273,6 +291,62 @@ fn compare_touch(rng: &mut Rng, case: &Case, listed: u64, seen: &mut Touches) {
             differ(case, &format!("touch at {place}"), path_length, &proved, &wanted);
         }
         seen.count(told, listed, path_length);
+    }
+}
+
+/// Expands a body and compares all that is told and the whole text, with
+/// rooms around what is needed; the store stays as it is.
+fn compare_expanded(rng: &mut Rng, case: &Case, store: &[u8], seen: &mut Expansions) -> u64 {
+    let (message, start, end) = (case.message, case.start, case.end);
+    let needed = reader::expand(message, start, end, store, &mut []).0.count as usize;
+    let guess = if needed > 0 { needed } else { rng.below(6) };
+    let mut answer = 0;
+    for (lent, told_length) in [(room(rng, guess, 1), rng.below(7)), (needed, 4)] {
+        let untouched = inputs::numbers(rng, told_length);
+        let kept = store.to_vec();
+        let mut proved = (untouched.clone(), vec![PATTERN; lent]);
+        proved::expand(message, start, end, &kept, &mut proved.1, &mut proved.0);
+        let mut wanted = (untouched, vec![PATTERN; lent]);
+        let (told, openings) = reader::expand(message, start, end, store, &mut wanted.1);
+        let all = [told.number, told.position, told.count, openings];
+        wanted.0.iter_mut().zip(all).for_each(|(slot, number)| *slot = number);
+        if proved != wanted || kept != store {
+            show_store(store);
+            println!("store left as it was: {}", kept == store);
+            let shown = |lent: &(Vec<u64>, Vec<u8>)| (lent.0.clone(), escaped(&lent.1));
+            differ(case, "expand", lent, &shown(&proved), &shown(&wanted));
+        }
+        seen.count(case, store, all, &wanted.1);
+        answer = told.number;
+    }
+    if answer == 0 {
+        expanded_laws(case, store, needed);
+    }
+    answer
+}
+
+/// What is expanded, read again: no Include, and the same text. A body
+/// without Include is written plainly.
+fn expanded_laws(case: &Case, store: &[u8], length: usize) {
+    let (message, start, end) = (case.message, case.start, case.end);
+    let mut text = vec![PATTERN; length];
+    proved::expand(message, start, end, store, &mut text, &mut []);
+    let include = |records: &[u8]| records.chunks(12).any(|record| record[0] == 5);
+    if !include(&proved_records(message, start, end)) {
+        agree(case, "expanded, no Include", 0, &text, &proved_plain(message, start, end));
+    }
+    if length <= LONGEST {
+        let left = include(&proved_records(&text, 0, length));
+        let again = proved_plain(&text, 0, length);
+        agree(case, "expanded, read again", 0, (left, again), (false, text));
+    }
+}
+
+/// Prints the records of a store, and its tail.
+fn show_store(store: &[u8]) {
+    for (number, record) in store.chunks(512).enumerate() {
+        let (name, list) = record.split_at(record.len().min(64));
+        println!("record {number}: b\"{}\" b\"{}\"", escaped(name), escaped(list));
     }
 }
 
@@ -419,11 +493,90 @@ impl Touches {
     }
 }
 
+/// How often bodies were expanded, by what was told.
+#[derive(Default)]
+struct Expansions {
+    /// Accepted with no opening, one, some, 64; and so 19 and 11.
+    accepted: [u64; 4],
+    unled: [u64; 4],
+    roomless: [u64; 4],
+    /// By 20; by 10 at the Include, with no opening and with some.
+    spent: u64,
+    too_deep: [u64; 2],
+    /// By a stored list's own number; and with openings before it.
+    own: [u64; NUMBERS],
+    own_later: u64,
+    /// Bodies that are refused themselves.
+    unread: u64,
+    /// Accepted with a comma that only the expanded list needs.
+    commas: u64,
+}
+
+impl Expansions {
+    fn count(&mut self, case: &Case, store: &[u8], told: [u64; 4], text: &[u8]) {
+        let [number, position, _, openings] = told;
+        let some = usize::from(openings > 0);
+        let many = some + usize::from(openings > 1) + usize::from(openings == 64);
+        let body = reader::addresses(case.message, case.start, case.end, &mut []).number;
+        if body != 0 && body != 11 {
+            self.unread += 1;
+            return;
+        }
+        match number {
+            0 => self.accepted[many] += 1,
+            11 => self.roomless[many] += 1,
+            19 => self.unled[many] += 1,
+            20 => self.spent += 1,
+            10 if !is_refused(store, position as usize, 10) => self.too_deep[some] += 1,
+            _ => {
+                self.own[number as usize] += 1;
+                self.own_later += some as u64;
+            }
+        }
+        let comma = |text: &[u8]| text.windows(3).any(|part| part == b":, ");
+        let before = comma(&proved_plain(case.message, case.start, case.end));
+        self.commas += u64::from(number == 0 && comma(text) && !before);
+    }
+
+    /// Each tally with its name.
+    fn tallies(&self) -> Vec<(String, u64)> {
+        let mut all = vec![
+            ("expanded, body refused".to_string(), self.unread),
+            ("expanded, comma put in".to_string(), self.commas),
+            ("expanded, refused 20".to_string(), self.spent),
+            ("expanded, too deep, no opening".to_string(), self.too_deep[0]),
+            ("expanded, too deep, some openings".to_string(), self.too_deep[1]),
+            ("expanded, own number, some openings".to_string(), self.own_later),
+        ];
+        let openings = ["no opening", "1 opening", "some openings", "64 openings"];
+        let answers = ["accepted", "refused 11", "refused 19"];
+        for (answer, times) in answers.iter().zip([self.accepted, self.roomless, self.unled]) {
+            for (openings, times) in openings.iter().zip(times) {
+                all.push((format!("expanded, {answer}, {openings}"), times));
+            }
+        }
+        for number in [3, 5, 6, 7, 8, 9, 10] {
+            all.push((format!("expanded, own number {number}"), self.own[number]));
+        }
+        all
+    }
+}
+
+/// Whether a record's list is refused by that number.
+fn is_refused(store: &[u8], record: usize, number: u64) -> bool {
+    if record >= store.len() / 512 {
+        return false;
+    }
+    let list = reader::stored_list(store, record);
+    reader::addresses(list, 0, list.len(), &mut []).number == number
+}
+
 /// How often the laws of equal addresses and the limit of levels were tried,
 /// and on what.
 #[derive(Default)]
 struct Seen {
     touches: Touches,
+    expansions: Expansions,
     /// Exchanges of comments by the answer number of the body.
     exchanged: [u64; 15],
     /// Exchanges of a comment that lies in another.
@@ -466,6 +619,7 @@ impl Seen {
             all.push((format!("typed ones ended together, by {end}"), times));
         }
         all.extend(self.touches.tallies());
+        all.extend(self.expansions.tallies());
         all
     }
 
@@ -484,7 +638,7 @@ impl Seen {
     fn print(&self) -> bool {
         let all = self.tallies();
         for (name, times) in &all {
-            println!("{name:<34} {times:>9}");
+            println!("{name:<36} {times:>9}");
         }
         all.iter().all(|tally| tally.1 > 0)
     }
@@ -552,16 +706,28 @@ fn compare_pair(rng: &mut Rng, seed: u64, seen: &mut Seen) -> u64 {
     if numbers.0 != 0 { numbers.0 } else { numbers.1 }
 }
 
+/// Compares a body by itself, and expanded with a store.
+fn compare_expansion(rng: &mut Rng, seed: u64, seen: &mut Seen) -> u64 {
+    let (body, store) = inputs::expansion(rng);
+    let (message, start, end) = inputs::place(rng, body);
+    let case = Case { seed, kind: Kind::Expansion, message: &message, start, end };
+    compare_body(rng, &case, seen);
+    compare_expanded(rng, &case, &store, &mut seen.expansions)
+}
+
 /// Numbers given per kind: inputs, and how often each answer number came.
 struct Counts {
     inputs: u64,
-    numbers: [u64; 15],
+    numbers: [u64; NUMBERS],
 }
 
 /// Makes one input of the kind, compares, and gives the answer number.
 fn one_input(rng: &mut Rng, seed: u64, kind: Kind, seen: &mut Seen) -> u64 {
     if kind == Kind::Pair {
         return compare_pair(rng, seed, seen);
+    }
+    if kind == Kind::Expansion {
+        return compare_expansion(rng, seed, seen);
     }
     let body = inputs::body(rng, kind);
     let whole = Case { seed, kind, message: &body, start: 0, end: body.len() };
@@ -611,7 +777,7 @@ fn main() {
     println!("seed {seed}, {seconds} seconds");
     let mut rng = Rng::new(seed);
     let mut counts: Vec<Counts> =
-        inputs::KINDS.iter().map(|_| Counts { inputs: 0, numbers: [0; 15] }).collect();
+        inputs::KINDS.iter().map(|_| Counts { inputs: 0, numbers: [0; NUMBERS] }).collect();
     let mut seen = Seen::default();
     let begin = Instant::now();
     let mut total = 0u64;

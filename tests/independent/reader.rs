@@ -533,6 +533,7 @@ impl<'a> Machine<'a> {
 }
 
 /// What was read of an accepted body.
+#[derive(Default)]
 struct Reading {
     symbols: Vec<Symbol>,
     tree: Vec<Address>,
@@ -806,6 +807,151 @@ pub fn plain(message: &[u8], start: usize, end: usize, text: &mut [u8]) -> Told 
         Err(fault) => refused(fault),
         Ok(reading) => hand_over(&list_text(&reading, &reading.roots), 1, text),
     }
+}
+
+// ------------------------------------------------------------- expansion
+
+const STORE_RECORD: usize = 512;
+const STORE_NAME: usize = 64;
+const MOST_OPENINGS: u64 = 64;
+
+/// The list of a record of the store.
+pub fn stored_list(store: &[u8], record: usize) -> &[u8] {
+    &store[record * STORE_RECORD..(record + 1) * STORE_RECORD][STORE_NAME..]
+}
+
+/// The name of a record of the store, without the zeros at its end.
+fn stored_name(record: &[u8]) -> &[u8] {
+    let name = &record[..STORE_NAME];
+    let zeros = name.iter().rev().take_while(|byte| **byte == 0).count();
+    &name[..STORE_NAME - zeros]
+}
+
+/// The record that an Include leads to. `None` if it leads to none, holds
+/// another kind, or stands directly inside a typed address.
+fn led_to(store: &[u8], reading: &Reading, include: &Address) -> Option<usize> {
+    let form = |number: &usize| reading.tree[*number].form;
+    let held = &include.members[0];
+    let mailboxes = match form(held) {
+        Form::Angle => &reading.tree[*held].members,
+        _ => &include.members,
+    };
+    let inside_typed = include.parent.as_ref().map(form) == Some(Form::Typed);
+    if inside_typed || mailboxes.iter().any(|mailbox| form(mailbox) != Form::Mailbox) {
+        return None;
+    }
+    let record_of = |text: Vec<u8>| {
+        store.chunks_exact(STORE_RECORD).position(|record| stored_name(record) == text)
+    };
+    mailboxes.iter().find_map(|mailbox| record_of(address_text(reading, *mailbox)))
+}
+
+/// A list to be expanded: the body, or a stored list.
+struct Source {
+    reading: Reading,
+    /// How many symbols of the result stand before those of this list.
+    shift: usize,
+    /// Of a stored list: where the Include is in the body that led to it.
+    place: Option<usize>,
+}
+
+/// An expansion in the making.
+struct Expansion<'a> {
+    store: &'a [u8],
+    openings: u64,
+    /// The expanded addresses, and the symbols of all lists they come from.
+    result: Reading,
+}
+
+impl Expansion<'_> {
+    /// Takes the symbols of a list over; its addresses follow.
+    fn source(&mut self, reading: Reading, place: Option<usize>) -> Source {
+        let shift = self.result.symbols.len();
+        self.result.symbols.extend_from_slice(&reading.symbols);
+        Source { reading, shift, place }
+    }
+
+    /// Levels open inside an address of the result; none outside of all.
+    fn levels_in(&self, outer: Option<usize>) -> usize {
+        outer.map_or(0, |number| self.result.tree[number].depth + 1)
+    }
+
+    /// Adds addresses of a list, expanded, to an address of the result.
+    fn add_all(
+        &mut self, from: &Source, numbers: &[usize], outer: Option<usize>,
+    ) -> Result<(), Fault> {
+        for number in numbers {
+            let address = &from.reading.tree[*number];
+            if kind(&from.reading, address) == 5 {
+                self.open(from, address, outer)?;
+            } else {
+                let added = self.add(from.shift, address, outer);
+                self.add_all(from, &address.members, Some(added))?;
+            }
+        }
+        Ok(())
+    }
+
+    /// Adds one address, yet without members.
+    fn add(&mut self, shift: usize, address: &Address, outer: Option<usize>) -> usize {
+        let number = self.result.tree.len();
+        match outer {
+            Some(outer) => self.result.tree[outer].members.push(number),
+            None => self.result.roots.push(number),
+        }
+        self.result.tree.push(Address {
+            form: address.form,
+            depth: self.levels_in(outer),
+            parent: outer,
+            first: address.first + shift,
+            last: address.last + shift,
+            name: address.name.map(|(from, behind)| (from + shift, behind + shift)),
+            nodes: address.nodes.iter().map(|node| node + shift).collect(),
+            members: vec![],
+        });
+        number
+    }
+
+    /// Adds the addresses of the stored list that an Include leads to.
+    fn open(
+        &mut self, from: &Source, include: &Address, outer: Option<usize>,
+    ) -> Result<(), Fault> {
+        let place = from.place.unwrap_or(from.reading.symbols[include.first].start);
+        let record = led_to(self.store, &from.reading, include).ok_or((19, place))?;
+        if self.openings == MOST_OPENINGS {
+            return Err((20, place));
+        }
+        let list = stored_list(self.store, record);
+        let reading = read(list, 0, list.len()).map_err(|(number, _)| (number, record))?;
+        if self.levels_in(outer) + levels(list, 0, list.len()).most > LEVELS {
+            return Err((10, place));
+        }
+        self.openings += 1;
+        let stored = self.source(reading, Some(place));
+        self.add_all(&stored, &stored.reading.roots, outer)
+    }
+}
+
+/// Writes an address list plainly, each Include in it replaced by a stored
+/// list: the answer, and how many stored lists were opened.
+pub fn expand(
+    message: &[u8],
+    start: usize,
+    end: usize,
+    store: &[u8],
+    text: &mut [u8],
+) -> (Told, u64) {
+    let reading = match read(message, start, end) {
+        Err(fault) => return (refused(fault), 0),
+        Ok(reading) => reading,
+    };
+    let mut expansion = Expansion { store, openings: 0, result: Reading::default() };
+    let body = expansion.source(reading, None);
+    let told = match expansion.add_all(&body, &body.reading.roots, None) {
+        Err(fault) => refused(fault),
+        Ok(()) => hand_over(&list_text(&expansion.result, &expansion.result.roots), 1, text),
+    };
+    (told, expansion.openings)
 }
 
 // ------------------------------------------------------- equal addresses

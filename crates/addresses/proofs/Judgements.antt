@@ -6,14 +6,15 @@ use native.Mathlib.Omega.{arith}
 use lib.ListN.{length, take}
 use Rattle.octets.specs.Numbers.{messageLimit, levelLimit}
 use Rattle.octets.specs.declared.answers.Answer.the-variants.{Accepted, Refused}
+use Rattle.scanner.specs.Symbols.{Symbol}
 use Rattle.scanner.specs.Scanning.{scan}
 use Rattle.scanner.specs.Answers.{faultOf, bodyScanned}
 use Rattle.scanner.specs.declared.Class.{Class}
 use Rattle.scanner.proofs.BodyChecks.{in-order, unless-refused, unless-none, Clean, refused-body, clean-body, body-case, when-refused}
-use Rattle.grammar.specs.Language.{Verdict, accepted, refused, number, positionOf}
+use Rattle.grammar.specs.Language.{Refusal, Verdict, accepted, refused, number, positionOf}
 use Rattle.grammar.specs.Rfc733.{Derivation}
 use Rattle.grammar.proofs.Condition3.{answer, answer-accepts, answer-derives}
-use Rattle.addresses.specs.Outcome.{Outcome, refusal, decidedBy, bodySymbols, outcomeBy}
+use Rattle.addresses.specs.Outcome.{byVerdict, bodySymbols, readWithin, bodyRead}
 use Rattle.addresses.specs.Condition3.{IsList}
 
 -- a body within its message that scans without fault to a list with this derivation
@@ -24,24 +25,33 @@ pub record ListBody (message : List ℕ) (start end : ℕ) (k : Derivation) : Ty
   pub faultless : faultOf (scan (take end message) start) ≡ Accepted 0
   pub list : IsList (bodySymbols message start end) k
 
-pub data Judged (message : List ℕ) (start end : ℕ) : Type 0 where
-  refusedAt : (n p : ℕ) → ((written : List ℕ → Derivation → Outcome) (lent : List ℕ) → outcomeBy written message start end lent ≡ refusal lent n p) → Judged message start end
+-- a body that is refused with this number at this position, whatever is answered of it
+abbrev pub RefusedBody : List ℕ → ℕ → ℕ → ℕ → ℕ → Type 1
+RefusedBody message start end n p = (A : Type 0) (refuse : ℕ → ℕ → A) (derive : Derivation → A) → bodyRead refuse derive message start end ≡ refuse n p
+
+-- refused, or a list
+pub data Judged (message : List ℕ) (start end : ℕ) : Type 1 where
+  refusedAt : (n p : ℕ) → RefusedBody message start end n p → Judged message start end
   listed : (k : Derivation) → ListBody message start end k → Judged message start end
 
 module _ (message : List ℕ) (start end : ℕ) (short : length message ≤ messageLimit) (ordered : start ≤ end) (inside : end ≤ length message) where
   -- a fault of scanning is refused ..
-  pub faulty-outcome : {n p : ℕ} → Refused n p ≡ faultOf (scan (take end message) start) → (written : List ℕ → Derivation → Outcome) (lent : List ℕ) → outcomeBy written message start end lent ≡ refusal lent n p
-  faulty-outcome e written lent = in-order (refusal lent) message start end _ short ordered inside ∙ unless-refused (refusal lent) (scan (take end message) start) _ e
+  pub faulty-read : {n p : ℕ} → Refused n p ≡ faultOf (scan (take end message) start) → RefusedBody message start end n p
+  faulty-read e A refuse derive = in-order refuse message start end _ short ordered inside ∙ unless-refused refuse (scan (take end message) start) _ e
 
-  -- .. and where there is none, the verdict on the symbols decides
-  pub decided-outcome : faultOf (scan (take end message) start) ≡ Accepted 0 → {v : Verdict Class Derivation} → answer levelLimit (bodySymbols message start end) ≡ v
-      → (written : List ℕ → Derivation → Outcome) (lent : List ℕ) → outcomeBy written message start end lent ≡ decidedBy written end lent v
-  decided-outcome f e written lent =
-      in-order (refusal lent) message start end _ short ordered inside ∙ unless-none (refusal lent) (scan (take end message) start) _ f ∙ ap (decidedBy written end lent) e
+  -- .. and where there is none, the verdict on the symbols decides, with any limit of levels
+  pub decided-read : (limit : ℕ) → faultOf (scan (take end message) start) ≡ Accepted 0 → {v : Verdict Class Derivation} → answer limit (bodySymbols message start end) ≡ v
+      → {A : Type 0} (refuse : ℕ → ℕ → A) (derive : Derivation → A) → readWithin limit refuse derive message start end ≡ byVerdict refuse derive end v
+  decided-read limit f e refuse derive =
+      in-order refuse message start end _ short ordered inside ∙ unless-none refuse (scan (take end message) start) _ f ∙ ap (byVerdict refuse derive end) e
 
--- of a list it is written what is to be written of its derivation
-pub listed-outcome : {message : List ℕ} {start end : ℕ} {k : Derivation} → ListBody message start end k → (written : List ℕ → Derivation → Outcome) (lent : List ℕ) → outcomeBy written message start end lent ≡ written lent k
-listed-outcome {message} {start} {end} b written lent = decided-outcome message start end (b .short) (b .ordered) (b .inside) (b .faultless) (answer-accepts levelLimit (b .list .derived) (b .list .within)) written lent
+  -- a refusal by the verdict
+  pub refused-read : faultOf (scan (take end message) start) ≡ Accepted 0 → {why : Refusal} {rest : List (Symbol Class)} → answer levelLimit (bodySymbols message start end) ≡ refused why rest → RefusedBody message start end (number why) (positionOf end rest)
+  refused-read f e A refuse derive = decided-read levelLimit f e refuse derive
+
+-- of a list it is answered what is to be answered of its derivation
+pub listed-read : {message : List ℕ} {start end : ℕ} {k : Derivation} → ListBody message start end k → {A : Type 0} (refuse : ℕ → ℕ → A) (derive : Derivation → A) → bodyRead refuse derive message start end ≡ derive k
+listed-read {message} {start} {end} b refuse derive = decided-read message start end (b .short) (b .ordered) (b .inside) levelLimit (b .faultless) (answer-accepts levelLimit (b .list .derived) (b .list .within)) refuse derive
 
 -- a refusal is no acceptance
 never : {n p m : ℕ} → Refused n p ≡ Accepted m → ⊥
@@ -54,10 +64,10 @@ module _ (message : List ℕ) (start end : ℕ) where
 
   by-verdict : Clean message start end → (v : Verdict Class Derivation) → answer levelLimit (bodySymbols message start end) ≡ v → Judged message start end
   by-verdict x (accepted k) e = let d = answer-derives levelLimit {xs = bodySymbols message start end} e in listed k (list-body x (record { derived = d .0; within = d .1 }))
-  by-verdict x (refused why rest) e = refusedAt (number why) (positionOf end rest) (decided-outcome message start end (x .short) (x .ordered) (x .inside) (x .faultless) e)
+  by-verdict x (refused why rest) e = refusedAt (number why) (positionOf end rest) (refused-read message start end (x .short) (x .ordered) (x .inside) (x .faultless) e)
 
   pub judged : Judged message start end
-  judged = elim (body-case message start end) [ refused-body n p e ↦ refusedAt n p (λ written lent. when-refused message start end (refusal lent) _ e) | clean-body x ↦ by-verdict x _ refl ]
+  judged = elim (body-case message start end) [ refused-body n p e ↦ refusedAt n p (λ A refuse derive. when-refused message start end refuse _ e) | clean-body x ↦ by-verdict x _ refl ]
 
   -- a body that passes the checks and scans without fault
   pub scanned-body : bodyScanned message start end ≡ Accepted 0 → {k : Derivation} → IsList (bodySymbols message start end) k → ListBody message start end k

@@ -10,5 +10,7 @@ pub mod ListLaws
 pub mod NamedLaws
 pub mod WholeLaws
 pub mod Judgements
+pub mod WithinLaws
 pub mod BodyRecords
 pub mod RecordsRead
+pub mod Told

@@ -16,9 +16,9 @@ use Rattle.grammar.specs.Records.{AddressRecord, noRecord, count, records, reco
 use Rattle.grammar.specs.Rfc733.{Derivation}
 use Rattle.grammar.proofs.Order.{Lies, lies-at}
 use Rattle.grammar.proofs.Records.{length-records, length-recordBytes, parent-smaller}
-use Rattle.addresses.specs.Outcome.{Outcome, derived, outcome}
+use Rattle.addresses.specs.Outcome.{Outcome, refusal, derived, outcome}
 use Rattle.addresses.proofs.BodyRecords.{records-half, records-in-order}
-use Rattle.addresses.proofs.Judgements.{ListBody, Judged, refusedAt, listed, listed-outcome, judged}
+use Rattle.addresses.proofs.Judgements.{ListBody, Judged, refusedAt, listed, listed-read, judged}
 
 -- the bytes of a table of records are joined
 table-joined : (rs : List AddressRecord) → tableBytes rs ≡ joined recordBytes rs
@@ -60,17 +60,17 @@ AcceptedList message start end table n =
 module _ (message : List ℕ) (start end : ℕ) (table : List ℕ) (n : ℕ) (e : outcome message start end table .answer ≡ Accepted n) where
   by-room : (k : Derivation) → ListBody message start end k → (test : Bool) → ltb (roomFor addressRecordSize table) (count k) ≡ test → AcceptedList message start end table n
   by-room k b true t =
-      let f : outcome message start end table .answer ≡ NoRoom (count k) = ap (λ (o : Outcome). o .answer) (listed-outcome b derived table) ∙ rw t in
+      let f : outcome message start end table .answer ≡ NoRoom (count k) = ap (λ (o : Outcome). o .answer) (listed-read b (refusal table) (derived table)) ∙ rw t in
       absurd (let z : _≡_ {A = ℕ} 0 1 = cc in omega arith)
   by-room k b false t =
-      let f : outcome message start end table .answer ≡ Accepted (count k) = ap (λ (o : Outcome). o .answer) (listed-outcome b derived table) ∙ rw t in
-      let g : outcome message start end table .table ≡ sets table 0 (tableBytes (records k)) = ap (λ (o : Outcome). o .table) (listed-outcome b derived table) ∙ rw t in
+      let f : outcome message start end table .answer ≡ Accepted (count k) = ap (λ (o : Outcome). o .answer) (listed-read b (refusal table) (derived table)) ∙ rw t in
+      let g : outcome message start end table .table ≡ sets table 0 (tableBytes (records k)) = ap (λ (o : Outcome). o .table) (listed-read b (refusal table) (derived table)) ∙ rw t in
       let c : n ≡ count k = cc in
       (k, b, c, omega (arith, ltb-false (roomFor addressRecordSize table) (count k) t), g)
 
   by-judgement : Judged message start end → AcceptedList message start end table n
   by-judgement (refusedAt m p f) =
-      let g = ap (λ (o : Outcome). o .answer) (f derived table) in
+      let g = ap (λ (o : Outcome). o .answer) (f Outcome (refusal table) (derived table)) in
       absurd (let z : _≡_ {A = ℕ} 0 1 = cc in omega arith)
   by-judgement (listed k b) = by-room k b _ refl
 

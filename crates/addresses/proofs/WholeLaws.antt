@@ -1,8 +1,9 @@
 -- A whole body: the verdict, and what follows from it for the answer and the table. Assumes nothing.
 use mathlib.Core.Path.{_≡_, refl, sym, ap, _∙_}
-use mathlib.Core.Bool.{Bool, true, false, true≢false}
+use mathlib.Core.Bool.{true≢false}
 use mathlib.Core.List.{List, [], _∷_}
 use Prim.Native.Nat.{ℕ, _/_, _≤_, _<_}
+use native.Mathlib.Nat.{zero-add}
 use native.Mathlib.Omega.{arith}
 use borrow.Author.Tests.{lt-ltb, le-ltb}
 use lib.ListN.{length, take}
@@ -15,68 +16,72 @@ use Rattle.octets.specs.declared.answers.Answer.the-variants.{Accepted, Refused
 use Rattle.scanner.specs.Scanning.{scan}
 use Rattle.scanner.specs.Answers.{unlessFault}
 use Rattle.scanner.specs.declared.Next.{Next}
-use Rattle.scanner.specs.declared.Next.the-variants.{Found, Ended, Fault}
-use Rattle.scanner.proofs.BodyChecks.{in-order, unless-none}
-use Rattle.grammar.specs.Grammar.{levels}
-use Rattle.grammar.specs.Language.{Refusal, unfit, Verdict, accepted, refused, number, positionOf}
+use Rattle.scanner.specs.declared.Next.the-variants.{Found}
+use Rattle.scanner.proofs.BodyChecks.{in-order}
+use Rattle.grammar.specs.Language.{unfit, Verdict, accepted, refused}
 use Rattle.grammar.specs.Records.{count, records, tableBytes}
-use Rattle.grammar.specs.Rfc733.{Derivation, DerivedList, RightVerdict}
+use Rattle.grammar.specs.Rfc733.{Derivation}
 use Rattle.grammar.proofs.Condition3.{asRows, answer, answer-right, answer-accepts, answer-derives}
 use Rattle.grammar.proofs.Rows.{asRow}
 use Rattle.grammar.proofs.Trees.{Class, Atom, Quoted, At, LessThan, GreaterThan, Comma, Semicolon, Colon, Stray, Lexeme, Sym, of, AddressList}
-use Rattle.grammar.proofs.AddressMachine.{top, start, run, judge, read}
+use Rattle.grammar.proofs.AddressMachine.{top, run, judge}
 use Rattle.grammar.proofs.Complete.{doneList, complete-doneList}
 use Rattle.grammar.proofs.Readers.{ListEnds}
-use Rattle.grammar.proofs.TreeRecords.{listCount, tree-records, tree-count}
+use Rattle.grammar.proofs.TreeRecords.{tree-records, tree-count}
 use Rattle.addresses.specs.Outcome.{Outcome, refusal, derived, decided, bodySymbols, outcome}
-use Rattle.addresses.specs.Condition3.{IsList, RightlyRefused, Settled, Condition3}
+use Rattle.addresses.specs.Condition3.{IsList, Settled, Condition3}
 use Rattle.addresses.specs.Steps.{symbolsFrom, symbolsAhead, lexemeAt, ListRead, ListStops}
 use Rattle.addresses.specs.Whole.{IsListed, IsRefused, TwiceIs, TextIs}
 use Rattle.addresses.specs.declared.Frame.{Frame}
+use Rattle.addresses.proofs.Judgements.{decided-read}
 
--- the outermost list
-abbrev pub outermost : Frame
-outermost = record { levels = 64; parent = 0; number = 0 }
+-- the outermost list, of at most so many levels
+abbrev pub outermost : ℕ → Frame
+outermost limit = record { levels = limit; parent = 0; number = 0 }
 
 -- ---- the verdict
 
-at-the-end : (l : AddressList) → judge (run 64 (doneList top l) []) ≡ accepted l
-at-the-end l = rw (complete-doneList top l)
+at-the-end : (limit : ℕ) (l : AddressList) → judge (run limit (doneList top l) []) ≡ accepted l
+at-the-end limit l = rw (complete-doneList top l)
 
 -- a closing mark closes nothing there
-not-closed : (l : AddressList) (class : Class) (u : Lexeme) (ys : List Sym) → ListEnds (of class u ∷ ys) → judge (run 64 (doneList top l) (of class u ∷ ys)) ≡ refused unfit (of class u ∷ ys)
-not-closed l Atom u ys v = absurd (true≢false (sym v))
-not-closed l Quoted u ys v = absurd (true≢false (sym v))
-not-closed l At u ys v = absurd (true≢false (sym v))
-not-closed l LessThan u ys v = absurd (true≢false (sym v))
-not-closed l GreaterThan u ys v = rw (complete-doneList top l)
-not-closed l Comma u ys v = absurd (true≢false (sym v))
-not-closed l Semicolon u ys v = rw (complete-doneList top l)
-not-closed l Colon u ys v = absurd (true≢false (sym v))
-not-closed l Stray u ys v = absurd (true≢false (sym v))
+not-closed : (limit : ℕ) (l : AddressList) (class : Class) (u : Lexeme) (ys : List Sym) → ListEnds (of class u ∷ ys) → judge (run limit (doneList top l) (of class u ∷ ys)) ≡ refused unfit (of class u ∷ ys)
+not-closed limit l Atom u ys v = absurd (true≢false (sym v))
+not-closed limit l Quoted u ys v = absurd (true≢false (sym v))
+not-closed limit l At u ys v = absurd (true≢false (sym v))
+not-closed limit l LessThan u ys v = absurd (true≢false (sym v))
+not-closed limit l GreaterThan u ys v = rw (complete-doneList top l)
+not-closed limit l Comma u ys v = absurd (true≢false (sym v))
+not-closed limit l Semicolon u ys v = rw (complete-doneList top l)
+not-closed limit l Colon u ys v = absurd (true≢false (sym v))
+not-closed limit l Stray u ys v = absurd (true≢false (sym v))
 
 module _ (classes text : List ℕ) where
-  pub whole-listed : {at last free : ℕ} {table after : List ℕ} (ahead : Next) → ListRead classes text at outermost table after ahead last free → symbolsAhead classes text ahead ≡ [] → IsListed classes text at table after free
+  -- of a list from a position on, with so many levels
+  module _ (limit at : ℕ) where
+    pub verdict-listed : {last free : ℕ} {table after : List ℕ} (ahead : Next) (l : ListRead classes text at (outermost limit) table after ahead last free) → symbolsAhead classes text ahead ≡ [] → answer limit (symbolsFrom classes text at) ≡ accepted (asRow (l .tree))
+    verdict-listed ahead l e = ap asRows (ap judge (rw (zero-add limit) at (l .reads top tt) ∙ ap (run limit (doneList top (l .tree))) e) ∙ at-the-end limit (l .tree))
+
+    pub verdict-stops : {number-told place : ℕ} (s : ListStops classes text at (outermost limit) number-told place) → answer limit (symbolsFrom classes text at) ≡ refused (s .why) (s .rest)
+    verdict-stops s = ap asRows (rw (zero-add limit) at (s .stops top tt))
+
+    pub verdict-closed : {last free a b : ℕ} {class : Class} {table after : List ℕ} → ListRead classes text at (outermost limit) table after (Found class a b) last free → answer limit (symbolsFrom classes text at) ≡ refused unfit (symbolsAhead classes text (Found class a b))
+    verdict-closed {a = a} {b = b} {class = class} l = ap asRows (ap judge (rw (zero-add limit) at (l .reads top tt)) ∙ not-closed limit (l .tree) class (lexemeAt classes text class a b) (symbolsFrom classes text b) (l .ends))
+
+  pub whole-listed : {at last free : ℕ} {table after : List ℕ} (ahead : Next) → ListRead classes text at (outermost 64) table after ahead last free → symbolsAhead classes text ahead ≡ [] → IsListed classes text at table after free
   whole-listed {at} {table = table} ahead l e =
       record {
         derivation = asRow (l .tree);
-        verdict = ap asRows (ap judge (l .reads top tt ∙ ap (run 64 (doneList top (l .tree))) e) ∙ at-the-end (l .tree));
+        verdict = verdict-listed 64 at ahead l e;
         count-is = omega (arith, l .count, tree-count (l .tree));
         stored = l .stored ∙ ap (λ rs. sets table 0 (tableBytes rs)) (sym (tree-records (l .tree)));
       }
 
-  pub whole-stops : {at number-told place : ℕ} → ListStops classes text at outermost number-told place → IsRefused classes text at number-told place
-  whole-stops s = record { why = s .why; rest = s .rest; verdict = ap asRows (s .stops top tt); number-is = s .number-is; place-is = s .place-is }
+  pub whole-stops : {at number-told place : ℕ} → ListStops classes text at (outermost 64) number-told place → IsRefused classes text at number-told place
+  whole-stops {at} s = record { why = s .why; rest = s .rest; verdict = verdict-stops 64 at s; number-is = s .number-is; place-is = s .place-is }
 
-  pub whole-closed : {at last free a b : ℕ} {class : Class} {table after : List ℕ} → ListRead classes text at outermost table after (Found class a b) last free → IsRefused classes text at noListGoesOn a
-  whole-closed {a = a} {b = b} {class = class} l =
-      record {
-        why = unfit;
-        rest = symbolsAhead classes text (Found class a b);
-        verdict = ap asRows (ap judge (l .reads top tt) ∙ not-closed (l .tree) class (lexemeAt classes text class a b) (symbolsFrom classes text b) (l .ends));
-        number-is = refl;
-        place-is = refl;
-      }
+  pub whole-closed : {at last free a b : ℕ} {class : Class} {table after : List ℕ} → ListRead classes text at (outermost 64) table after (Found class a b) last free → IsRefused classes text at noListGoesOn a
+  whole-closed {at} l = record { why = unfit; rest = _; verdict = verdict-closed 64 at l; number-is = refl; place-is = refl }
 
   -- ---- the outcome
 
@@ -133,7 +138,7 @@ pub settles : (message : List ℕ) (start end : ℕ) (table : List ℕ) (r : Ans
     → Condition3 message start end table r after
 settles message start end table r after e f h k l n =
     let o : outcome message start end table ≡ decided end table (answer levelLimit (bodySymbols message start end)) =
-    in-order (refusal table) message start end _ h k l ∙ unless-none (refusal table) (scan (take end message) start) _ n in
+    decided-read message start end h k l levelLimit n refl (refusal table) (derived table) in
     rw (e, f, o) (by-verdict (bodySymbols message start end) end table (answer levelLimit (bodySymbols message start end)) refl)
 
 -- the two promises of the entry point

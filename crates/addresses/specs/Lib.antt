@@ -1,5 +1,6 @@
 -- Document 01, "Addresses": what the address reader answers, and condition 3.
 pub mod Outcome
 pub mod Condition3
+pub mod Within
 pub mod Steps
 pub mod Whole

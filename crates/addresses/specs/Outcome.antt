@@ -34,24 +34,31 @@ derived table k =
     pick (ltb (roomFor addressRecordSize table) (count k)) (record { answer = NoRoom (count k); table = table })
     (record { answer = Accepted (count k); table = sets table 0 (tableBytes (records k)) })
 
--- a verdict on a body with this end: what is written of a derivation, or the refusal
-abbrev pub decidedBy : (List ℕ → Derivation → Outcome) → ℕ → List ℕ → Verdict Class Derivation → Outcome
-decidedBy written end lent (accepted k) = written lent k
-decidedBy written end lent (refused why rest) = refusal lent (number why) (positionOf end rest)
+-- a verdict on a body with this end: what is answered of a derivation, or the refusal
+abbrev pub byVerdict : {A : Type 0} → (ℕ → ℕ → A) → (Derivation → A) → ℕ → Verdict Class Derivation → A
+byVerdict refuse derive end (accepted k) = derive k
+byVerdict refuse derive end (refused why rest) = refuse (number why) (positionOf end rest)
 
 -- .. where its records are written
 abbrev pub decided : ℕ → List ℕ → Verdict Class Derivation → Outcome
-decided end table verdict = decidedBy derived end table verdict
+decided end table verdict = byVerdict (refusal table) (derived table) end verdict
 
 -- the symbols of the body of a message from `start` up to `end`
 abbrev pub bodySymbols : List ℕ → ℕ → ℕ → List (Symbol Class)
 bodySymbols message start end = symbolsOf (scan (take end message) start)
 
+-- what is answered for any message and positions, of a list of at most so many levels or of a refusal
+abbrev pub readWithin : {A : Type 0} → ℕ → (ℕ → ℕ → A) → (Derivation → A) → List ℕ → ℕ → ℕ → A
+readWithin limit refuse derive message start end =
+    bodyChecked refuse message start end (unlessFault refuse (scan (take end message) start) (byVerdict refuse derive end (answer limit (bodySymbols message start end))))
+
+-- .. of at most 64 levels
+abbrev pub bodyRead : {A : Type 0} → (ℕ → ℕ → A) → (Derivation → A) → List ℕ → ℕ → ℕ → A
+bodyRead refuse derive message start end = readWithin levelLimit refuse derive message start end
+
 -- the outcome for any message, positions and lent bytes, where this is written of a derivation
 abbrev pub outcomeBy : (List ℕ → Derivation → Outcome) → List ℕ → ℕ → ℕ → List ℕ → Outcome
-outcomeBy written message start end lent =
-    bodyChecked (refusal lent) message start end
-    (unlessFault (refusal lent) (scan (take end message) start) (decidedBy written end lent (answer levelLimit (bodySymbols message start end))))
+outcomeBy written message start end lent = bodyRead (refusal lent) (written lent) message start end
 
 -- the outcome for any message, positions and table
 abbrev pub outcome : List ℕ → ℕ → ℕ → List ℕ → Outcome

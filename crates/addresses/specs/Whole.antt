@@ -1,5 +1,6 @@
 -- What the functions that read a whole body answer. Nothing here needs to be believed.
 use mathlib.Core.Path.{_≡_}
+use mathlib.Core.Bool.{Bool, true, false}
 use mathlib.Core.List.{List}
 use Prim.Native.Nat.{ℕ, _≤_}
 use lib.ListN.{length}
@@ -13,7 +14,7 @@ use Rattle.grammar.specs.Records.{count, records, tableBytes}
 use Rattle.grammar.specs.Rfc733.{Derivation}
 use Rattle.grammar.proofs.Condition3.{answer}
 use Rattle.grammar.proofs.Trees.{Sym}
-use Rattle.addresses.specs.Outcome.{refusal, decided}
+use Rattle.addresses.specs.Outcome.{refusal, byVerdict, decided}
 use Rattle.addresses.specs.Steps.{symbolsFrom, Faultless}
 use Rattle.grammar.specs.declared.Whole.{Whole}
 use Rattle.grammar.specs.declared.Whole.the-variants.{Listed, Refused}
@@ -40,6 +41,10 @@ module _ (classes text : List ℕ) where
   abbrev pub WholeIs : ℕ → List ℕ → List ℕ → Whole → Type 0
   WholeIs at table after (Listed n) = IsListed at table after n
   WholeIs at table after (Refused number-told place) = IsRefused at number-told place
+
+  -- the symbols from a position on are a list of at most so many levels
+  abbrev pub endsWithin : ℕ → ℕ → Bool
+  endsWithin limit at = byVerdict (λ n p. false) (λ k. true) (length text) (answer limit (symbolsFrom classes text at))
 
   -- what is decided of the symbols from a position on
   pub record TwiceIs (at : ℕ) (table after : List ℕ) (r : Answer) : Type 0 where

@@ -9,8 +9,9 @@ ghost use Rattle.octets.specs.Text.{part};
 ghost use Rattle.octets.specs.Numbers.{messageLimit};
 ghost use Rattle.grammar.specs.Records.{recordBy, recordBytes};
 ghost use Rattle.addresses.specs.Steps.{isWord, isQuoted, endsAddressNext, refusedNext, closing, enclosureKind, Faultless, Standing, Reached, WordsIs, NodesIs, TypedAtomIs, Opened, MailboxIs, Lone, LoneIs, CloseIs, Entered, ListIs, BeginsAddress, AddressAt, NamedFirst, EnclosedIs, ColonFirst, TypedFirst};
-ghost use Rattle.addresses.specs.Whole.{Body, WholeIs, TwiceIs, TextIs};
+ghost use Rattle.addresses.specs.Whole.{Body, WholeIs, endsWithin, TwiceIs, TextIs};
 ghost use Rattle.addresses.specs.Outcome.{outcome};
+ghost use Rattle.addresses.specs.Within.{listWithin};
 ghost use Rattle.addresses.specs.Condition3.{Condition3};
 ghost use Rattle.grammar.specs.Rfc733.{sameClass};
 ghost use Rattle.scanner.specs.declared.Class.the-variants.{Colon};
@@ -601,4 +602,40 @@ pub fn read_addresses(message: &[u8], start: usize, end: usize, table: &mut [u8]
     }
     let classes = &CLASSES;
     read_text(classes, &message[..end], table, start)
+}
+
+// Whether a text without fault is, whole, a list of at most so many levels.
+fn ends_within(classes: &[u8; 256], text: &[u8], levels: usize) -> bool
+    requires { ⌜ Body (now classes) (now text) 0 × (levels ≤ 64) ⌝ }
+    ensures { λ r. ⌜ r ≡ endsWithin (now (classes .entry)) (now (text .entry)) levels 0 ⌝ }
+{
+    let mut none: [u8; 1] = [0; 1];
+    let frame = Frame {
+        levels,
+        parent: 0,
+        number: 0,
+    };
+    match read_list(classes, text, &mut none[..0], 0, frame) {
+        Reading::Refused(_, _) => false,
+        Reading::Read(ahead, _, _) => {
+            let Next::Found(_, _, _) = ahead else {
+                return true;
+            };
+            false
+        }
+    }
+}
+
+// Whether a text is, whole, an address list of at most so many levels; never of more than 64.
+pub fn is_list_within(text: &[u8], levels: usize) -> bool
+    ensures { λ r. ⌜ r ≡ listWithin levels (now (text .entry)) ⌝ }
+{
+    if let Answer::Refused(_, _) = scanner::scan_body(text, 0, text.len()) {
+        return false;
+    }
+    let classes = &CLASSES;
+    if LEVEL_LIMIT < levels {
+        return ends_within(classes, text, LEVEL_LIMIT);
+    }
+    ends_within(classes, text, levels)
 }

@@ -17,6 +17,10 @@ use Rattle.touch.specs.declared.Touched.{Touched}
 abbrev pub told : List ℕ → Answer → List ℕ
 told lent answer = sets lent 0 (numberOf answer ∷ positionOf answer ∷ countOf answer ∷ [])
 
+-- of an expansion: the openings, too
+abbrev pub toldExpanded : List ℕ → Answer → ℕ → List ℕ
+toldExpanded lent answer openings = sets lent 0 (numberOf answer ∷ positionOf answer ∷ countOf answer ∷ openings ∷ [])
+
 -- the same of a date's answer
 abbrev pub toldDate : List ℕ → DateAnswer → List ℕ
 toldDate lent answer = sets lent 0 (date.numberOf answer ∷ date.positionOf answer ∷ date.countOf answer ∷ [])

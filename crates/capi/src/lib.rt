@@ -1,6 +1,6 @@
 // The libraries for C: lent memory is a pointer with a length, and answers are numbers. Each function refuses as the library does.
 //
-// `told` is an array of three: an answer's number, position and count; of five for a touched byte. Of a shorter one the front is filled.
+// `told` is an array of three: an answer's number, position and count; of four for an expansion, of five for a touched byte. Of a shorter one the front is filled.
 ghost use mathlib.Core.Path.{_≡_};
 ghost use mathlib.Core.List.{_∷_, []};
 ghost use lib.Seq.{sets};
@@ -11,8 +11,10 @@ ghost use Rattle.header.specs.Split.{splitAnswer, splitTable};
 ghost use Rattle.addresses.specs.Outcome.{outcome};
 ghost use Rattle.dates.specs.Answers.{dateAnswer, valueOf};
 ghost use Rattle.plain.specs.Written.{plainOutcome};
+ghost use Rattle.expansion.specs.Outcome.{expandOutcome};
 ghost use Rattle.touch.specs.Touched.{touched};
-ghost use Rattle.capi.specs.Told.{told, toldDate, toldTouched, knownNumber, replyNumber};
+ghost use Rattle.capi.specs.Told.{told, toldExpanded, toldDate, toldTouched, knownNumber, replyNumber};
+use expansion::Expanded;
 use header::names::Known;
 use octets::answers::Answer;
 use octets::stored::store_number;
@@ -45,6 +47,15 @@ fn tell_touched(array: &mut [u64], answer: Touched)
     put_three(array, number, position, touch::count(answer));
     store_number(array, 3, touch::category(answer) as u64);
     store_number(array, 4, touch::names(answer) as u64);
+}
+
+// The number, position and count of an expansion, then its openings.
+fn tell_expanded(array: &mut [u64], expanded: Expanded)
+    ensures { λ _. ⌜ now (array .exit) ≡ toldExpanded (now (array .entry)) (expanded .answer) (expanded .openings) ⌝ }
+{
+    let answer = expanded.answer;
+    tell(array, answer);
+    store_number(array, 3, expanded.openings as u64);
 }
 
 // Split a message into fields: records of 8 bytes in the table.
@@ -155,6 +166,21 @@ pub extern "C" fn rfc733_plain(
     ensures { λ _. ⌜ (now (text .exit) ≡ plainOutcome (now (message .entry)) start end (now (text .entry)) .table) × (now (array .exit) ≡ told (now (array .entry)) (plainOutcome (now (message .entry)) start end (now (text .entry)) .answer)) ⌝ }
 {
     tell(array, plain::write_plain(message, start, end, text));
+}
+
+// Write plainly the address list in the body of a message from start up to end, with the lists of a store in place of its Includes.
+#[no_mangle]
+pub extern "C" fn rfc733_expand(
+    message: &[u8],
+    start: usize,
+    end: usize,
+    store: &[u8],
+    text: &mut [u8],
+    array: &mut [u64],
+)
+    ensures { λ _. ⌜ (now (text .exit) ≡ expandOutcome (now (message .entry)) start end (now (store .entry)) (now (text .entry)) .text) × (now (array .exit) ≡ toldExpanded (now (array .entry)) (expandOutcome (now (message .entry)) start end (now (store .entry)) (now (text .entry)) .answer) (expandOutcome (now (message .entry)) start end (now (store .entry)) (now (text .entry)) .openings)) ⌝ }
+{
+    tell_expanded(array, expansion::expand(message, start, end, store, text));
 }
 
 // Which of two bodies to reply to: 0 for Reply-To's, 1 for From's.

@@ -19,8 +19,8 @@ use Rattle.grammar.specs.Rfc733.{Derivation}
 use Rattle.grammar.proofs.Condition3.{answer, answer-derives}
 use Rattle.grammar.proofs.Trees.{Class, Sym}
 use Rattle.addresses.specs.Condition3.{IsList}
-use Rattle.addresses.specs.Outcome.{Outcome, refusal, derived, bodySymbols, outcomeBy, outcome}
-use Rattle.addresses.proofs.Judgements.{ListBody, faulty-outcome, decided-outcome, listed-outcome}
+use Rattle.addresses.specs.Outcome.{Outcome, refusal, derived, bodySymbols, outcome}
+use Rattle.addresses.proofs.Judgements.{ListBody, RefusedBody, faulty-read, refused-read, listed-read}
 use Rattle.plain.specs.Meaning.{meaning}
 use Rattle.plain.specs.PlainText.{plainText, addressesText}
 use Rattle.plain.specs.Written.{written, plainOutcome}
@@ -68,13 +68,9 @@ pub record Checked (message : List ℕ) (start end : ℕ) : Type 0 where
   pub ordered : start ≤ end
   pub inside : end ≤ length message
 
--- it is refused with this number at this place, whatever would be written of a derivation
-abbrev RefusedAt : List ℕ → ℕ → ℕ → ℕ → ℕ → Type 0
-RefusedAt message start end n p = (w : List ℕ → Derivation → Outcome) (lent : List ℕ) → outcomeBy w message start end lent ≡ refusal lent n p
-
 -- both are refused with one number, or both are lists of the same addresses
-pub data Alike (message : List ℕ) (start end : ℕ) (other : List ℕ) (start′ end′ : ℕ) : Type 0 where
-  both-refused : (n p q : ℕ) → RefusedAt message start end n p → RefusedAt other start′ end′ n q → Alike message start end other start′ end′
+pub data Alike (message : List ℕ) (start end : ℕ) (other : List ℕ) (start′ end′ : ℕ) : Type 1 where
+  both-refused : (n p q : ℕ) → RefusedBody message start end n p → RefusedBody other start′ end′ n q → Alike message start end other start′ end′
   both-listed : (k j : Derivation) → ListBody message start end k → ListBody other start′ end′ j → meaning j ≡ meaning k → count j ≡ count k → Alike message start end other start′ end′
 
 module _ {message other : List ℕ} {start end start′ end′ : ℕ} (c : Checked message start end) (d : Checked other start′ end′) (a : AlikeScans (scan (take end message) start) (scan (take end′ other) start′)) where
@@ -94,11 +90,11 @@ module _ {message other : List ℕ} {start end start′ end′ : ℕ} (c : Check
       both-listed k j (record { short = c .short; ordered = c .ordered; inside = c .inside; faultless = f; list = l }) b m n
   by-verdict f g (refused why rest) e =
       let (place, e′) = refused-alike levelLimit (alike-symbols a) why rest e in
-      both-refused (number why) (positionOf end rest) (positionOf end′ place) (decided-outcome message start end (c .short) (c .ordered) (c .inside) f e) (decided-outcome other start′ end′ (d .short) (d .ordered) (d .inside) g e′)
+      both-refused (number why) (positionOf end rest) (positionOf end′ place) (refused-read message start end (c .short) (c .ordered) (c .inside) f e) (refused-read other start′ end′ (d .short) (d .ordered) (d .inside) g e′)
 
   by-faults : AlikeFaults (scan (take end message) start) (scan (take end′ other) start′) → Alike message start end other start′ end′
   by-faults (faultless f g) = by-verdict f g _ refl
-  by-faults (faulty n p q f g) = both-refused n p q (faulty-outcome message start end (c .short) (c .ordered) (c .inside) f) (faulty-outcome other start′ end′ (d .short) (d .ordered) (d .inside) g)
+  by-faults (faulty n p q f g) = both-refused n p q (faulty-read message start end (c .short) (c .ordered) (c .inside) f) (faulty-read other start′ end′ (d .short) (d .ordered) (d .inside) g)
 
   pub alike : Alike message start end other start′ end′
   alike = by-faults (alike-faults a)
@@ -112,18 +108,18 @@ answer-of true n table u v = record { number = refl; count = refl }
 answer-of false n table u v = record { number = refl; count = refl }
 
 pub same-read : {message other : List ℕ} {start end start′ end′ : ℕ} → Alike message start end other start′ end′ → (table : List ℕ) → SameAnswer (outcome message start end table) (outcome other start′ end′ table)
-same-read (both-refused n p q f g) table = rw (f derived table, g derived table) (record { number = refl; count = refl })
+same-read (both-refused n p q f g) table = rw (f Outcome (refusal table) (derived table), g Outcome (refusal table) (derived table)) (record { number = refl; count = refl })
 same-read (both-listed k j b b′ m n) table =
-    rw (listed-outcome b derived table, listed-outcome b′ derived table, n) (answer-of (ltb (roomFor addressRecordSize table) (count k)) (count k) table (sets table 0 (tableBytes (records k))) (sets table 0 (tableBytes (records j))))
+    rw (listed-read b (refusal table) (derived table), listed-read b′ (refusal table) (derived table), n) (answer-of (ltb (roomFor addressRecordSize table) (count k)) (count k) table (sets table 0 (tableBytes (records k))) (sets table 0 (tableBytes (records j))))
 
 -- the plain text of the same addresses
 pub same-plain : (k j : Derivation) → meaning j ≡ meaning k → plainText j ≡ plainText k
 same-plain k j m = ap (λ l. addressesText l []) m
 
 pub same-written : {message other : List ℕ} {start end start′ end′ : ℕ} → Alike message start end other start′ end′ → (lent : List ℕ) → SameAnswer (plainOutcome message start end lent) (plainOutcome other start′ end′ lent)
-same-written (both-refused n p q f g) lent = rw (f written lent, g written lent) (record { number = refl; count = refl })
-same-written (both-listed k j b b′ m n) lent = rw (listed-outcome b written lent, listed-outcome b′ written lent, same-plain k j m) (record { number = refl; count = refl })
+same-written (both-refused n p q f g) lent = rw (f Outcome (refusal lent) (written lent), g Outcome (refusal lent) (written lent)) (record { number = refl; count = refl })
+same-written (both-listed k j b b′ m n) lent = rw (listed-read b (refusal lent) (written lent), listed-read b′ (refusal lent) (written lent), same-plain k j m) (record { number = refl; count = refl })
 
 pub same-text : {message other : List ℕ} {start end start′ end′ : ℕ} → Alike message start end other start′ end′ → (lent : List ℕ) → plainOutcome message start end lent .table ≡ plainOutcome other start′ end′ lent .table
-same-text (both-refused n p q f g) lent = rw (f written lent, g written lent)
-same-text (both-listed k j b b′ m n) lent = rw (listed-outcome b written lent, listed-outcome b′ written lent, same-plain k j m)
+same-text (both-refused n p q f g) lent = rw (f Outcome (refusal lent) (written lent), g Outcome (refusal lent) (written lent))
+same-text (both-listed k j b b′ m n) lent = rw (listed-read b (refusal lent) (written lent), listed-read b′ (refusal lent) (written lent), same-plain k j m)

@@ -6,7 +6,8 @@ use borrow.Author.Tests.{le-leb}
 use lib.ListN.{length, drop}
 use lib.Seq.{take-append-seam}
 use Rattle.grammar.specs.Rfc733.{Derivation}
-use Rattle.addresses.proofs.Judgements.{listed-outcome, scanned-body}
+use Rattle.addresses.specs.Outcome.{refusal}
+use Rattle.addresses.proofs.Judgements.{listed-read, scanned-body}
 use Rattle.plain.specs.Meaning.{Word, atom, quotedString, Words, noWord, andWord, Addresses, noAddress, andAddress, Address, address}
 use Rattle.plain.specs.PlainText.{plainText}
 use Rattle.plain.specs.RoundTrip.{AcceptedBody}
@@ -67,7 +68,7 @@ equal-texts message other start end start′ end′ k j a b = (λ e. equal-lists
 card-is : (lent : List ℕ) {message : List ℕ} {start end : ℕ} {k : Derivation} → AcceptedBody message start end k → length (plainText k) ≤ length lent → card (plainOutcome message start end lent) ≡ plainText k
 card-is lent {message} {start} {end} {k} a h =
     let b = scanned-body message start end (a .scans) (record { derived = a .derived; within = a .within }) in
-    ap card (listed-outcome b written lent) ∙ rw (le-leb (length (plainText k)) (length lent) h) (take-append-seam (plainText k) (drop (length (plainText k)) lent))
+    ap card (listed-read b (refusal lent) (written lent)) ∙ rw (le-leb (length (plainText k)) (length lent) h) (take-append-seam (plainText k) (drop (length (plainText k)) lent))
 
 pub equal-cards : EqualCardsMeanEqualAddresses
 equal-cards message other start end start′ end′ k j a b lent lent′ h h′ =

@@ -25,8 +25,8 @@ use Rattle.header.proofs.names.Known.{the-type}
 use Rattle.grammar.specs.Records.{noRecord, count, records, tableBytes, recordIn}
 use Rattle.grammar.specs.Rfc733.{Derivation}
 use Rattle.grammar.proofs.Records.{length-records}
-use Rattle.addresses.specs.Outcome.{Outcome, derived, outcomeBy, outcome}
-use Rattle.addresses.proofs.Judgements.{ListBody, Judged, refusedAt, listed as list-body, listed-outcome, judged}
+use Rattle.addresses.specs.Outcome.{Outcome, refusal, derived, outcome}
+use Rattle.addresses.proofs.Judgements.{ListBody, Judged, refusedAt, listed as list-body, listed-read, judged}
 use Rattle.addresses.proofs.RecordsRead.{record-read}
 use Rattle.dates.specs.declared.DateAnswer.{DateAnswer}
 use Rattle.dates.specs.declared.DateAnswer.the-variants as date
@@ -62,7 +62,7 @@ module _ (message : List ℕ) (start end : ℕ) (table : List ℕ) (size : 24576
 
   -- what is printed of a list
   of-list : (k : Derivation) → ListBody message start end k → (rest : List ℕ) (o : Outcome) → listed rest k ≡ o → text-of o ≡ addressBody message start end rest
-  of-list k b rest o e = ap text-of (sym (listed-outcome b listed rest ∙ e))
+  of-list k b rest o e = ap text-of (sym (listed-read b (refusal rest) (listed rest) ∙ e))
 
   in-room : (k : Derivation) → ListBody message start end k → (t : Bool) → ltb tableRecords (count k) ≡ t → PrintedOf (derived table k)
   in-room k b true e =
@@ -75,8 +75,8 @@ module _ (message : List ℕ) (start end : ℕ) (table : List ℕ) (size : 24576
       (few, λ rest. ap (λ l. each addressLine l rest) (records-in k b few) ∙ of-list k b rest (record { answer = Accepted (count k); table = each addressLine (records k) rest }) (rw e))
 
   by-case : Judged message start end → PrintedOf (outcome message start end table)
-  by-case (refusedAt n p f) = subst (λ (o : Outcome). PrintedOf o) (sym (f derived table)) (λ rest. ap text-of (sym (f listed rest)))
-  by-case (list-body k b) = subst (λ (o : Outcome). PrintedOf o) (sym (listed-outcome b derived table)) (in-room k b _ refl)
+  by-case (refusedAt n p f) = subst (λ (o : Outcome). PrintedOf o) (sym (f Outcome (refusal table) (derived table))) (λ rest. ap text-of (sym (f Outcome (refusal rest) (listed rest))))
+  by-case (list-body k b) = subst (λ (o : Outcome). PrintedOf o) (sym (listed-read b (refusal table) (derived table))) (in-room k b _ refl)
 
   pub printed : {r : Answer} {after : List ℕ} → r ≡ outcome message start end table .answer → after ≡ outcome message start end table .table → Printed r after
   printed e f = rw (e, f) (by-case (judged message start end))

@@ -1,4 +1,4 @@
--- Document 01, "Sizes" and "Answer numbers": each limit and each number by a name.
+-- Document 01, "Sizes" and "Answer numbers", and what document 02 adds: each limit and each number by a name.
 use Prim.Native.Nat.{ℕ}
 
 -- the most bytes that a message has
@@ -20,6 +20,17 @@ addressRecordSize = 12
 -- the records that a table holds which the program or a tool keeps itself
 abbrev pub tableRecords : ℕ
 tableRecords = 2048
+
+-- the bytes of a record of the store of lists, and of the name in it
+abbrev pub storeRecordSize : ℕ
+storeRecordSize = 512
+
+abbrev pub storeNameSize : ℕ
+storeNameSize = 64
+
+-- the most openings of stored lists
+abbrev pub openingLimit : ℕ
+openingLimit = 64
 
 -- the bytes of a position, and of any other number of a record but kind and depth
 abbrev pub numberWidth : ℕ
@@ -84,3 +95,11 @@ bodyOutOfOrder = 13
 -- 14: date of right form, impossible
 abbrev pub dateImpossible : ℕ
 dateImpossible = 14
+
+-- 19: Include that leads to no stored list
+abbrev pub leadsNowhere : ℕ
+leadsNowhere = 19
+
+-- 20: opening number 65
+abbrev pub tooManyOpenings : ℕ
+tooManyOpenings = 20

@@ -1,4 +1,4 @@
-// Document 01's limits and answer numbers, each by its name.
+// The limits and answer numbers of documents 01 and 02, each by its name.
 
 // The most bytes that a message has.
 pub const MESSAGE_LIMIT: usize = 32768;
@@ -10,6 +10,12 @@ pub const FIELD_RECORD_SIZE: usize = 8;
 pub const ADDRESS_RECORD_SIZE: usize = 12;
 // The records of a table that the program or a tool keeps itself.
 pub const TABLE_RECORDS: usize = 2048;
+// The bytes of a record of the store of lists.
+pub const STORE_RECORD_SIZE: usize = 512;
+// The bytes of the name in it.
+pub const STORE_NAME_SIZE: usize = 64;
+// The most openings of stored lists.
+pub const OPENING_LIMIT: usize = 64;
 
 pub const ACCEPTED: u8 = 0;
 
@@ -40,3 +46,7 @@ pub const DATE_FORM: u8 = 12;
 pub const BODY_OUT_OF_ORDER: u8 = 13;
 
 pub const DATE_IMPOSSIBLE: u8 = 14;
+
+pub const LEADS_NOWHERE: u8 = 19;
+
+pub const TOO_MANY_OPENINGS: u8 = 20;

@@ -11,3 +11,4 @@ pub mod Examples
 pub mod QuotedData
 pub mod WalkSteps
 pub mod PlainLaws
+pub mod CanWrite

@@ -29,21 +29,21 @@ use Rattle.plain.proofs.Walks.{walk-plain}
 use Rattle.plain.proofs.ScannedWords.{WritableSymbols, writable-symbols, writable-list}
 
 -- the text scans without fault to symbols with a derivation of this meaning
-record Reread (t : List ℕ) (m : Addresses) : Type 0 where
-  again : Derivation
-  faultless : faultOf (scan t 0) ≡ Accepted 0
-  derived : DerivedList again (symbolsOf (scan t 0))
-  means : meaning again ≡ m
-  deep : levels again ≡ addressesDepth m
+pub record Reread (t : List ℕ) (m : Addresses) : Type 0 where
+  pub again : Derivation
+  pub faultless : faultOf (scan t 0) ≡ Accepted 0
+  pub derived : DerivedList again (symbolsOf (scan t 0))
+  pub means : meaning again ≡ m
+  pub deep : levels again ≡ addressesDepth m
 
-reread-writable : (w : WritableList) → Reread (addressesText (listOf w) []) (listOf w)
+pub reread-writable : (w : WritableList) → Reread (addressesText (listOf w) []) (listOf w)
 reread-writable w =
     let v = reads-plain w .from 0 in
     let (t, d, e, n) = grown w _ (seen-marks v) in
     record { again = asRow t; faultless = seen-faultless v; derived = row-derived d; means = meaning-row t ∙ e; deep = row-levels t ∙ n }
 
 -- the symbols of any text, if they are derived
-reread : (text : List ℕ) (at : ℕ) {k : Derivation} → DerivedList k (symbolsOf (scan text at)) → Reread (plainText k) (meaning k) × (levels k ≡ addressesDepth (meaning k))
+pub reread : (text : List ℕ) (at : ℕ) {k : Derivation} → DerivedList k (symbolsOf (scan text at)) → Reread (plainText k) (meaning k) × (levels k ≡ addressesDepth (meaning k))
 reread text at {k} d =
     let (l, e, d′) = tree-derived d in
     let m : meaning k ≡ listMeaning l = ap meaning e ∙ meaning-row l in

@@ -267,22 +267,22 @@ writable-symbols text at = good-from (charactersAt text at) outside (known chara
 
 -- ---- trees
 
-word-fine : (w : trees.Word) (xs : List Sym) → WritableSymbols (wordSymbol w ∷ xs) → WritableWord (wordMeaning w) × WritableSymbols xs
+pub word-fine : (w : trees.Word) (xs : List Sym) → WritableSymbols (wordSymbol w ∷ xs) → WritableWord (wordMeaning w) × WritableSymbols xs
 word-fine (atomWord t) xs g = g
 word-fine (quotedWord t) xs g = g
 
-phrase-fine : (p : Phrase) (xs : List Sym) → WritableSymbols (phraseThen p xs) → WritablePhrase (phraseMeaning p) × WritableWords (phraseMeaning p) × WritableSymbols xs
+pub phrase-fine : (p : Phrase) (xs : List Sym) → WritableSymbols (phraseThen p xs) → WritablePhrase (phraseMeaning p) × WritableWords (phraseMeaning p) × WritableSymbols xs
 phrase-fine (one w) xs g = let (f, h) = word-fine w xs g in ((tt, f), (tt, f), h)
 phrase-fine (more p w) xs g =
     let (e, f, h) = phrase-fine p (wordSymbol w ∷ xs) g in
     let (f′, h′) = word-fine w xs h in
     ((f, f′), (f, f′), h′)
 
-name-fine : (o : Option Phrase) (xs : List Sym) → WritableSymbols (nameThen o xs) → WritableWords (nameMeaning o) × WritableSymbols xs
+pub name-fine : (o : Option Phrase) (xs : List Sym) → WritableSymbols (nameThen o xs) → WritableWords (nameMeaning o) × WritableSymbols xs
 name-fine none xs g = (tt, g)
 name-fine (some p) xs g = let (e, f, h) = phrase-fine p xs g in (f, h)
 
-nodes-fine : (m : Nodes) (xs : List Sym) → WritableSymbols (nodesThen m xs) → WritablePhrase (nodesMeaning m) × WritableWords (nodesMeaning m) × WritableSymbols xs
+pub nodes-fine : (m : Nodes) (xs : List Sym) → WritableSymbols (nodesThen m xs) → WritablePhrase (nodesMeaning m) × WritableWords (nodesMeaning m) × WritableSymbols xs
 nodes-fine (first t w) xs g = let (f, h) = word-fine w xs (g .1) in ((tt, f), (tt, f), h)
 nodes-fine (trees.next m t w) xs g =
     let (e, f, h) = nodes-fine m (of At t ∷ wordSymbol w ∷ xs) g in

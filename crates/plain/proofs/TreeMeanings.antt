@@ -71,13 +71,13 @@ of-typed P i p o letters = by (sameLetters letters (bytes "Include")) (sameLette
 
 -- ---- the words of a tree's symbols
 
-words-phrase : (p : Phrase) (xs : List Sym) → wordsAfter noWord (phraseThen p xs) ≡ wordsAfter (phraseMeaning p) xs
+pub words-phrase : (p : Phrase) (xs : List Sym) → wordsAfter noWord (phraseThen p xs) ≡ wordsAfter (phraseMeaning p) xs
 words-phrase (one (atomWord t)) xs = refl
 words-phrase (one (quotedWord t)) xs = refl
 words-phrase (more p (atomWord t)) xs = words-phrase p _
 words-phrase (more p (quotedWord t)) xs = words-phrase p _
 
-words-nodes : (m : Nodes) (xs : List Sym) → wordsAfter noWord (nodesThen m xs) ≡ wordsAfter (nodesMeaning m) xs
+pub words-nodes : (m : Nodes) (xs : List Sym) → wordsAfter noWord (nodesThen m xs) ≡ wordsAfter (nodesMeaning m) xs
 words-nodes (first t (atomWord w)) xs = refl
 words-nodes (first t (quotedWord w)) xs = refl
 words-nodes (next m t (atomWord w)) xs = words-nodes m _
@@ -92,37 +92,37 @@ first-nodes : (m : Nodes) (k : Derivation) → partOf 0 (nodesRow m k) ≡ nodes
 first-nodes (first t w) k = nodes-yield (first t w) nil []
 first-nodes (next m t w) k = nodes-yield (next m t w) nil []
 
-name-words : (p : Phrase) (k : Derivation) → wordsOf (partOf 0 (phraseRow p k)) ≡ phraseMeaning p
+pub name-words : (p : Phrase) (k : Derivation) → wordsOf (partOf 0 (phraseRow p k)) ≡ phraseMeaning p
 name-words p k = ap wordsOf (part-phrase p k) ∙ words-phrase p []
 
-node-words : (p : Phrase) (m : Nodes) (k : Derivation) → wordsOf (partOf 1 (phraseRow p (nodesRow m k))) ≡ nodesMeaning m
+pub node-words : (p : Phrase) (m : Nodes) (k : Derivation) → wordsOf (partOf 1 (phraseRow p (nodesRow m k))) ≡ nodesMeaning m
 node-words p m k = ap wordsOf (second-part p _ ∙ first-nodes m k) ∙ words-nodes m []
 
-no-typed-nodes : (letters : List ℕ) (parts : Derivation) → nodesOf (kindNumber (typedKind letters)) parts ≡ noWord
+pub no-typed-nodes : (letters : List ℕ) (parts : Derivation) → nodesOf (kindNumber (typedKind letters)) parts ≡ noWord
 no-typed-nodes letters parts = of-typed (λ kind. nodesOf kind parts ≡ noWord) refl refl refl letters
 
 -- ---- words and phrases hold no address
 
-after-word : (w : trees.Word) (before : Addresses) (k : Derivation) → addressesAfter before (wordRow w k) ≡ addressesAfter before k
+pub after-word : (w : trees.Word) (before : Addresses) (k : Derivation) → addressesAfter before (wordRow w k) ≡ addressesAfter before k
 after-word (atomWord t) before k = refl
 after-word (quotedWord t) before k = refl
 
-after-phrase : (p : Phrase) (before : Addresses) (k : Derivation) → addressesAfter before (phraseRow p k) ≡ addressesAfter before k
+pub after-phrase : (p : Phrase) (before : Addresses) (k : Derivation) → addressesAfter before (phraseRow p k) ≡ addressesAfter before k
 after-phrase (one w) before k = ap (λ b. addressesAfter b k) (after-word w before nil)
 after-phrase (more p w) before k = ap (λ b. addressesAfter b k) (after-phrase p before (wordRow w nil) ∙ after-word w before nil)
 
-after-nodes : (m : Nodes) (before : Addresses) (k : Derivation) → addressesAfter before (nodesRow m k) ≡ addressesAfter before k
+pub after-nodes : (m : Nodes) (before : Addresses) (k : Derivation) → addressesAfter before (nodesRow m k) ≡ addressesAfter before k
 after-nodes (first t w) before k = ap (λ b. addressesAfter b k) (after-word w before nil)
 after-nodes (next m t w) before k = ap (λ b. addressesAfter b k) (after-nodes m before _ ∙ after-word w before nil)
 
 -- ---- the addresses of a row are those of the tree
 
-typed-address : (atom′ : Lexeme) (kind : ℕ) (name nodes nodes′ : Words) (members members′ : Addresses) → kind ≡ kindNumber (typedKind (atom′ .meaning)) → nodes ≡ nodes′ → members ≡ members′
+pub typed-address : (atom′ : Lexeme) (kind : ℕ) (name nodes nodes′ : Words) (members members′ : Addresses) → kind ≡ kindNumber (typedKind (atom′ .meaning)) → nodes ≡ nodes′ → members ≡ members′
     → address kind name nodes members ≡ address (kindNumber (typedKind (atom′ .meaning))) name nodes′ members′
 typed-address atom′ kind name nodes nodes′ members members′ e f g = cc
 
 mutual
-  after-place : (r : Place) (k : Derivation) → addressesAfter noAddress (placeRow r k) ≡ addressesAfter (placeMeaning r) k
+  pub after-place : (r : Place) (k : Derivation) → addressesAfter noAddress (placeRow r k) ≡ addressesAfter (placeMeaning r) k
   after-place empty k = refl
   after-place (comma l t) k = ap (λ b. addressesAfter b k) (after-list l _)
 
@@ -130,7 +130,7 @@ mutual
   after-list (idle r) k = ap (λ b. addressesAfter b k) (after-place r nil)
   after-list (full r a) k = ap (λ b. addressesAfter b k) (after-place r _ ∙ after-address a (placeMeaning r) nil)
 
-  after-address : (a : trees.Address) (before : Addresses) (k : Derivation) → addressesAfter before (addressRow a k) ≡ addressesAfter (andAddress before (addressMeaning a)) k
+  pub after-address : (a : trees.Address) (before : Addresses) (k : Derivation) → addressesAfter before (addressRow a k) ≡ addressesAfter (andAddress before (addressMeaning a)) k
   after-address (mailbox p m) before k =
       let row = phraseRow p (nodesRow m nil) in
       let n : wordsOf (partOf 0 row) ≡ phraseMeaning p = name-words p _ in
@@ -171,7 +171,7 @@ abbrev mutual
   pub addressDepth : Address → ℕ
   addressDepth (address kind name nodes members) = pick (either (eqb kind (kindNumber rfc733.mailbox)) (eqb kind (kindNumber rfc733.quoted))) 0 (suc (addressesDepth members))
 
-typed-depth : (letters : List ℕ) (member : Address) → addressDepth (typedMeaning letters member) ≡ suc (addressDepth member)
+pub typed-depth : (letters : List ℕ) (member : Address) → addressDepth (typedMeaning letters member) ≡ suc (addressDepth member)
 typed-depth letters member =
     of-typed (λ kind. addressDepth (address kind (andWord noWord (atom letters)) noWord (andAddress noAddress member)) ≡ suc (addressDepth member)) (omega arith) (omega arith) (omega arith) letters
 
@@ -191,7 +191,7 @@ mutual
   address-depth (quoted t) = refl
   address-depth (typed t a u b) = ap suc (address-depth b) ∙ sym (typed-depth (a .meaning) (addressMeaning b))
 
-typed-no-group : (letters : List ℕ) (member : Address) → atomGroup (typedMeaning letters member) ≡ false
+pub typed-no-group : (letters : List ℕ) (member : Address) → atomGroup (typedMeaning letters member) ≡ false
 typed-no-group letters member = of-typed (λ kind. atomGroup (address kind (andWord noWord (atom letters)) noWord (andAddress noAddress member)) ≡ false) refl refl refl letters
 
 -- a group named by a single atom

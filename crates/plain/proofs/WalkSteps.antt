@@ -29,7 +29,7 @@ use Rattle.plain.specs.declared.places.Place.the-variants.{Start}
 
 -- ---- the next symbol
 
-colon-of : (s : Scanned) → isColon (nextOf s) ≡ colonNext (symbolsOf s)
+pub colon-of : (s : Scanned) → isColon (nextOf s) ≡ colonNext (symbolsOf s)
 unfolding symbolsOf
 colon-of ended = refl
 colon-of (next x rest) = refl
@@ -81,16 +81,20 @@ behind length′ (Found class start end) = suc length′ - start
 behind length′ Ended = 0
 behind length′ (Fault number p) = 0
 
-less-by : {classes text : List ℕ} {at : ℕ} {class : Class} {first end : ℕ} → SymbolAt classes text at class first end → Unfolded classes text end
-    → behind (length text) (nextOf (scanBy classes text end)) < suc (length text) - first
-less-by x (no-symbol e) = rw e (omega (arith, x .starts, x .within))
-less-by x (a-symbol y) = rw (y .same) (omega (arith, x .starts, x .within, y .from, y .starts, y .within))
-less-by x (a-fault e) = rw e (omega (arith, x .starts, x .within))
+less-by : {classes text : List ℕ} {at : ℕ} {class : Class} {first end : ℕ} (later : ℕ) → SymbolAt classes text at class first end → end ≤ later → Unfolded classes text later
+    → behind (length text) (nextOf (scanBy classes text later)) < suc (length text) - first
+less-by later x h (no-symbol e) = rw e (omega (arith, x .starts, x .within))
+less-by later x h (a-symbol y) = rw (y .same) (omega (arith, x .starts, x .within, y .from, y .starts, y .within, h))
+less-by later x h (a-fault e) = rw e (omega (arith, x .starts, x .within))
 
--- it falls
+-- it falls, behind a symbol or further on
+pub behind-falls : {classes text : List ℕ} {at : ℕ} {class : Class} {first end : ℕ} {coming next′ : Next} (later : ℕ) → SymbolAt classes text at class first end → end ≤ later → coming ≡ Found class first end
+    → next′ ≡ nextOf (scanBy classes text later) → behind (length text) next′ < behind (length text) coming
+behind-falls {classes} {text} later x h e k = rw (e, k) (less-by later x h (unfolded classes text later))
+
 pub behind-less : {classes text : List ℕ} {at : ℕ} {class : Class} {first end : ℕ} {coming later : Next} → SymbolAt classes text at class first end → coming ≡ Found class first end
     → later ≡ nextOf (scanBy classes text end) → behind (length text) later < behind (length text) coming
-behind-less {classes} {text} {end = end} x e k = rw (e, k) (less-by x (unfolded classes text end))
+behind-less {end = end} x e k = behind-falls end x (omega arith) e k
 
 -- ---- a gap, and what stands behind it
 

@@ -23,21 +23,21 @@ use Rattle.plain.proofs.TreeMeanings.{wordMeaning, phraseMeaning, nodes
 -- ---- words
 
 -- a word after a word
-walk-word : (w : trees.Word) (xs : List Sym) → walkText Word (wordSymbol w ∷ xs) ≡ 32 ∷ wordText (wordMeaning w) (walkText Word xs)
+pub walk-word : (w : trees.Word) (xs : List Sym) → walkText Word (wordSymbol w ∷ xs) ≡ 32 ∷ wordText (wordMeaning w) (walkText Word xs)
 walk-word (atomWord t) xs = refl
 walk-word (quotedWord t) xs = refl
 
 -- a node
-walk-node : (w : trees.Word) (xs : List Sym) → walkText Node (wordSymbol w ∷ xs) ≡ 32 ∷ wordText (wordMeaning w) (walkText Word xs)
+pub walk-node : (w : trees.Word) (xs : List Sym) → walkText Node (wordSymbol w ∷ xs) ≡ 32 ∷ wordText (wordMeaning w) (walkText Word xs)
 walk-node (atomWord t) xs = refl
 walk-node (quotedWord t) xs = refl
 
 -- behind a phrase stands SPACE
-space-behind : (p : Phrase) (r : List ℕ) → spaceBehind (phraseMeaning p) r ≡ 32 ∷ r
+pub space-behind : (p : Phrase) (r : List ℕ) → spaceBehind (phraseMeaning p) r ≡ 32 ∷ r
 space-behind (one w) r = refl
 space-behind (more p w) r = refl
 
-walk-phrase : (p : Phrase) (place : Place) (xs : List Sym) → afterAtom place (both (oneAtom p) (colonNext xs)) ≡ Word
+pub walk-phrase : (p : Phrase) (place : Place) (xs : List Sym) → afterAtom place (both (oneAtom p) (colonNext xs)) ≡ Word
     → walkText place (phraseThen p xs) ≡ gapText (gapBefore place (both (oneAtom p) (colonNext xs))) (phraseText (phraseMeaning p) (walkText Word xs))
 walk-phrase (one (atomWord t)) place xs h = rw h
 walk-phrase (one (quotedWord t)) place xs h = refl
@@ -49,25 +49,25 @@ walk-phrase (more p (quotedWord t)) place xs h =
     ∙ rw (oneAtom-false p) (ap (λ r. gapText (gapBefore place false) (phraseText (phraseMeaning p) r)) (sym (space-behind p _)))
 
 -- a phrase before no ":", and before ":"
-walk-name : (p : Phrase) (place : Place) (xs : List Sym) → colonNext xs ≡ false → afterAtom place false ≡ Word
+pub walk-name : (p : Phrase) (place : Place) (xs : List Sym) → colonNext xs ≡ false → afterAtom place false ≡ Word
     → walkText place (phraseThen p xs) ≡ gapText (gapBefore place false) (phraseText (phraseMeaning p) (walkText Word xs))
 walk-name p place xs z h = walk-phrase p place xs (rw (z, oneAtom-false p) h) ∙ rw (z, oneAtom-false p)
 
-walk-group-name : (p : Phrase) (place : Place) (xs : List Sym) → colonNext xs ≡ true → afterAtom place (oneAtom p) ≡ Word
+pub walk-group-name : (p : Phrase) (place : Place) (xs : List Sym) → colonNext xs ≡ true → afterAtom place (oneAtom p) ≡ Word
     → walkText place (phraseThen p xs) ≡ gapText (gapBefore place (oneAtom p)) (phraseText (phraseMeaning p) (walkText Word xs))
 walk-group-name p place xs z h = walk-phrase p place xs (rw (z, oneAtom-true p) h) ∙ rw (z, oneAtom-true p)
 
-no-colon-nodes : (m : Nodes) (xs : List Sym) → colonNext (nodesThen m xs) ≡ false
+pub no-colon-nodes : (m : Nodes) (xs : List Sym) → colonNext (nodesThen m xs) ≡ false
 no-colon-nodes (first t w) xs = refl
 no-colon-nodes (next m t w) xs = no-colon-nodes m (of At t ∷ wordSymbol w ∷ xs)
 
-walk-nodes : (m : Nodes) (xs : List Sym) → walkText Word (nodesThen m xs) ≡ nodesText (nodesMeaning m) (walkText Word xs)
+pub walk-nodes : (m : Nodes) (xs : List Sym) → walkText Word (nodesThen m xs) ≡ nodesText (nodesMeaning m) (walkText Word xs)
 walk-nodes (first t w) xs = ap (λ r. bytes " at" ++ r) (walk-node w xs)
 walk-nodes (next m t w) xs = walk-nodes m (of At t ∷ wordSymbol w ∷ xs) ∙ ap (λ r. nodesText (nodesMeaning m) (bytes " at" ++ r)) (walk-node w xs)
 
 -- ---- places behind trees
 
-abbrev behind : trees.Address → Place
+abbrev pub behind : trees.Address → Place
 behind (mailbox p m) = Word
 behind (angle o t l u) = Closed
 behind (group o t l u) = Closed
@@ -75,47 +75,47 @@ behind (quoted t) = Word
 behind (typed t a u b) = behind b
 
 abbrev mutual
-  behindPlace : Place → trees.Place → Place
+  pub behindPlace : Place → trees.Place → Place
   behindPlace place trees.empty = place
   behindPlace place (comma l t) = afterComma (behindList place l)
 
-  behindList : Place → AddressList → Place
+  pub behindList : Place → AddressList → Place
   behindList place (idle r) = behindPlace place r
   behindList place (full r a) = behind a
 
 -- how a list begins: at the start or behind "<"; behind the ":" of a nameless group; behind that of a named one
-data Begin : Type 0 where
+pub data Begin : Type 0 where
   plainly barely namely : Begin
 
-abbrev opened : Begin → Place
+abbrev pub opened : Begin → Place
 opened plainly = Start
 opened barely = Bare
 opened namely = Named
 
-abbrev front : Begin → Addresses → List ℕ → List ℕ
+abbrev pub front : Begin → Addresses → List ℕ → List ℕ
 front k noAddress r = r
 front plainly (andAddress l a) r = r
 front barely (andAddress l a) r = groupGap noWord (andAddress l a) r
 front namely (andAddress l a) r = 32 ∷ r
 
-abbrev spot : Begin → Addresses → Bool → Place
+abbrev pub spot : Begin → Addresses → Bool → Place
 spot k (andAddress l a) c = Parted
 spot plainly noAddress c = Start
 spot barely noAddress c = pick c BareComma Bare
 spot namely noAddress c = Named
 
-abbrev hasComma : trees.Place → Bool
+abbrev pub hasComma : trees.Place → Bool
 hasComma trees.empty = false
 hasComma (comma l t) = true
 
-comma-spot : (k : Begin) (m : Addresses) (c : Bool) → afterComma (spot k m c) ≡ spot k m true
+pub comma-spot : (k : Begin) (m : Addresses) (c : Bool) → afterComma (spot k m c) ≡ spot k m true
 comma-spot k (andAddress l a) c = refl
 comma-spot plainly noAddress c = refl
 comma-spot barely noAddress true = refl
 comma-spot barely noAddress false = refl
 comma-spot namely noAddress c = refl
 
-comma-behind : (a : trees.Address) → afterComma (behind a) ≡ Parted
+pub comma-behind : (a : trees.Address) → afterComma (behind a) ≡ Parted
 comma-behind (mailbox p m) = refl
 comma-behind (angle o t l u) = refl
 comma-behind (group o t l u) = refl
@@ -123,18 +123,18 @@ comma-behind (quoted t) = refl
 comma-behind (typed t a u b) = comma-behind b
 
 mutual
-  place-spot : (r : trees.Place) (k : Begin) → behindPlace (opened k) r ≡ spot k (placeMeaning r) (hasComma r)
+  pub place-spot : (r : trees.Place) (k : Begin) → behindPlace (opened k) r ≡ spot k (placeMeaning r) (hasComma r)
   place-spot trees.empty plainly = refl
   place-spot trees.empty barely = refl
   place-spot trees.empty namely = refl
   place-spot (comma l t) k = list-spot l k
 
-  list-spot : (l : AddressList) (k : Begin) → afterComma (behindList (opened k) l) ≡ spot k (listMeaning l) true
+  pub list-spot : (l : AddressList) (k : Begin) → afterComma (behindList (opened k) l) ≡ spot k (listMeaning l) true
   list-spot (idle r) k = ap afterComma (place-spot r k) ∙ comma-spot k (placeMeaning r) (hasComma r)
   list-spot (full r a) k = comma-behind a
 
 -- places where an address can begin
-abbrev Opens : Place → Type 0
+abbrev pub Opens : Place → Type 0
 Opens Start = Unit {0}
 Opens Bare = Unit {0}
 Opens BareComma = Unit {0}
@@ -145,14 +145,14 @@ Opens Node = ⊥
 Opens Closed = ⊥
 Opens Parted = Unit {0}
 
-spot-opens : (k : Begin) (m : Addresses) (c : Bool) → Opens (spot k m c)
+pub spot-opens : (k : Begin) (m : Addresses) (c : Bool) → Opens (spot k m c)
 spot-opens k (andAddress l a) c = tt
 spot-opens plainly noAddress c = tt
 spot-opens barely noAddress true = tt
 spot-opens barely noAddress false = tt
 spot-opens namely noAddress c = tt
 
-walk-colon : (place : Place) (t : Lexeme) (xs : List Sym) → Opens place → walkText place (of Colon t ∷ xs) ≡ gapText (gapBefore place false) (58 ∷ walkText Bare xs)
+pub walk-colon : (place : Place) (t : Lexeme) (xs : List Sym) → Opens place → walkText place (of Colon t ∷ xs) ≡ gapText (gapBefore place false) (58 ∷ walkText Bare xs)
 walk-colon Start t xs h = refl
 walk-colon Bare t xs h = refl
 walk-colon BareComma t xs h = refl
@@ -164,33 +164,33 @@ walk-colon Closed t xs h = absurd h
 walk-colon Parted t xs h = refl
 
 -- behind a nameless ":" no atom and ":" stand
-abbrev Clear : Begin → Bool → Type 0
+abbrev pub Clear : Begin → Bool → Type 0
 Clear plainly x = Unit {0}
 Clear barely x = x ≡ false
 Clear namely x = Unit {0}
 
-spot-word : (k : Begin) (m : Addresses) (x : Bool) → afterAtom (spot k m true) x ≡ Word
+pub spot-word : (k : Begin) (m : Addresses) (x : Bool) → afterAtom (spot k m true) x ≡ Word
 spot-word k (andAddress l a) x = refl
 spot-word plainly noAddress x = refl
 spot-word barely noAddress x = refl
 spot-word namely noAddress x = refl
 
-clear-word : (k : Begin) (r : trees.Place) (x : Bool) → Clear k (placeAtomGroup r x) → afterAtom (spot k (placeMeaning r) (hasComma r)) x ≡ Word
+pub clear-word : (k : Begin) (r : trees.Place) (x : Bool) → Clear k (placeAtomGroup r x) → afterAtom (spot k (placeMeaning r) (hasComma r)) x ≡ Word
 clear-word plainly trees.empty x h = refl
 clear-word barely trees.empty x h = rw h
 clear-word namely trees.empty x h = refl
 clear-word k (comma l t) x h = spot-word k (listMeaning l) x
 
-bare-word : (x : Bool) (r : List ℕ) → pick x Typing Word ≡ Word → gapText (gapBefore Bare x) r ≡ pick x (bytes ", ") (bytes " ") ++ r
+pub bare-word : (x : Bool) (r : List ℕ) → pick x Typing Word ≡ Word → gapText (gapBefore Bare x) r ≡ pick x (bytes ", ") (bytes " ") ++ r
 bare-word true r h = absurd (let o : _≡_ {A = ℕ} 0 1 = cc in omega arith)
 bare-word false r h = refl
 
-bare-comma : (x : Bool) (r : List ℕ) → gapText (gapBefore BareComma x) r ≡ pick x (bytes ", ") (bytes " ") ++ r
+pub bare-comma : (x : Bool) (r : List ℕ) → gapText (gapBefore BareComma x) r ≡ pick x (bytes ", ") (bytes " ") ++ r
 bare-comma true r = refl
 bare-comma false r = refl
 
 -- one more address
-joint : (k : Begin) (m : Addresses) (c : Bool) (a : Address) (r : List ℕ) → afterAtom (spot k m c) (atomGroup a) ≡ Word
+pub joint : (k : Begin) (m : Addresses) (c : Bool) (a : Address) (r : List ℕ) → afterAtom (spot k m c) (atomGroup a) ≡ Word
     → front k m (addressesText m (gapText (gapBefore (spot k m c) (atomGroup a)) r)) ≡ front k (andAddress m a) (addressesText m (commaBehind m r))
 joint plainly noAddress c a r h = refl
 joint barely noAddress true a r h = bare-comma (atomGroup a) r
@@ -200,28 +200,28 @@ joint plainly (andAddress l b) c a r h = refl
 joint barely (andAddress l b) c a r h = refl
 joint namely (andAddress l b) c a r h = refl
 
-front-named : (p : Phrase) (m : Addresses) (r : List ℕ) → front namely m r ≡ groupGap (phraseMeaning p) m r
+pub front-named : (p : Phrase) (m : Addresses) (r : List ℕ) → front namely m r ≡ groupGap (phraseMeaning p) m r
 front-named p noAddress r = refl
 front-named (one w) (andAddress l a) r = refl
 front-named (more p w) (andAddress l a) r = refl
 
-front-bare : (m : Addresses) (r : List ℕ) → front barely m r ≡ groupGap noWord m r
+pub front-bare : (m : Addresses) (r : List ℕ) → front barely m r ≡ groupGap noWord m r
 front-bare noAddress r = refl
 front-bare (andAddress l a) r = refl
 
-front-plain : (m : Addresses) (r : List ℕ) → front plainly m r ≡ r
+pub front-plain : (m : Addresses) (r : List ℕ) → front plainly m r ≡ r
 front-plain noAddress r = refl
 front-plain (andAddress l a) r = refl
 
 -- ---- lists and addresses
 
 mutual
-  walk-place : (e : trees.Place) (k : Begin) (x : Bool) (xs : List Sym) → placeLawful e → Clear k (placeAtomGroup e x)
+  pub walk-place : (e : trees.Place) (k : Begin) (x : Bool) (xs : List Sym) → placeLawful e → Clear k (placeAtomGroup e x)
       → walkText (opened k) (placeThen e xs) ≡ front k (placeMeaning e) (addressesText (placeMeaning e) (walkText (behindPlace (opened k) e) xs))
   walk-place trees.empty k x xs o c = refl
   walk-place (comma l t) k x xs o c = walk-list l k (of Comma t ∷ xs) o c
 
-  walk-list : (l : AddressList) (k : Begin) (xs : List Sym) → listLawful l → Clear k (listAtomGroup l)
+  pub walk-list : (l : AddressList) (k : Begin) (xs : List Sym) → listLawful l → Clear k (listAtomGroup l)
       → walkText (opened k) (listThen l xs) ≡ front k (listMeaning l) (addressesText (listMeaning l) (walkText (behindList (opened k) l) xs))
   walk-list (idle e) k xs o c = walk-place e k false xs o c
   walk-list (full e a) k xs o c =
@@ -233,7 +233,7 @@ mutual
       ∙ ap (λ r. front k (placeMeaning e) (addressesText (placeMeaning e) r)) (f ∙ rw (atom-group a))
       ∙ joint k (placeMeaning e) (hasComma e) (addressMeaning a) (addressText (addressMeaning a) (walkText (behind a) xs)) (rw (atom-group a) at h)
 
-  walk-address : (a : trees.Address) (place : Place) (xs : List Sym) → addressLawful a → Opens place → afterAtom place (house.atomGroup a) ≡ Word
+  pub walk-address : (a : trees.Address) (place : Place) (xs : List Sym) → addressLawful a → Opens place → afterAtom place (house.atomGroup a) ≡ Word
       → walkText place (addressThen a xs) ≡ gapText (gapBefore place (house.atomGroup a)) (addressText (addressMeaning a) (walkText (behind a) xs))
   walk-address (mailbox p m) place xs o n h =
       walk-name p place (nodesThen m xs) (no-colon-nodes m xs) h ∙ ap (λ r. gapText (gapBefore place false) (phraseText (phraseMeaning p) r)) (walk-nodes m xs)

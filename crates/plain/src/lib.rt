@@ -16,7 +16,7 @@ ghost use Rattle.scanner.proofs.Meanings.{dataAt, meaningAt};
 ghost use Rattle.plain.specs.PlainText.{needsBackslash, backslashText, dataText, quotedText};
 ghost use Rattle.plain.specs.Walking.{gapText, symbolText, writtenText};
 ghost use Rattle.plain.specs.Written.{plainOutcome, Condition2};
-ghost use Rattle.plain.specs.Writing.{textLimit, roleOf, isColon};
+ghost use Rattle.plain.specs.Writing.{textLimit, roleOf, isColon, canWrite, symbolIf};
 use octets::answers::Answer;
 use octets::classes::BACKSLASH;
 use octets::classes::CLASSES;
@@ -26,7 +26,12 @@ use places::Place;
 use scanner::Class;
 use scanner::Next;
 
-mod places;
+pub mod places;
+
+// The most bytes of a text whose symbols are written, and the most that are written before one.
+const TEXT_LIMIT: usize = 1073741824;
+
+const WRITTEN_LIMIT: usize = 4611686018427387904;
 
 // What a character is in a quoted-string.
 enum Role {
@@ -229,8 +234,44 @@ fn put_symbol(
     }
 }
 
+// Whether a symbol from start to end stands in a text, and a count holds the text written from n on.
+fn can_write(text: &[u8], start: usize, end: usize, n: usize) -> bool
+    ensures { λ r. ⌜ r ≡ canWrite (now (text .entry)) start end n ⌝ }
+{
+    if end <= start {
+        return false;
+    }
+    if text.len() < end {
+        return false;
+    }
+    if TEXT_LIMIT < text.len() {
+        return false;
+    }
+    n <= WRITTEN_LIMIT
+}
+
+// A symbol with what stands before it, as far as there is room: the next place. Nothing, where it cannot be written.
+pub fn write_symbol(
+    classes: &[u8; 256],
+    text: &[u8],
+    class: Class,
+    start: usize,
+    end: usize,
+    place: Place,
+    colon: bool,
+    out: &mut [u8],
+    n: usize,
+) -> usize
+    ensures { λ r. ⌜ Wrote (symbolIf (canWrite (now (text .entry)) start end n) class (meaningAt (now (classes .entry)) (now (text .entry)) class start end) place colon) (now (out .entry)) n (now (out .exit)) r × (r ≤ n + 2 * length (now (text .entry)) + 3) ⌝ }
+{
+    if can_write(text, start, end, n) {
+        return put_symbol(classes, text, class, start, end, place, colon, out, n);
+    }
+    n
+}
+
 // Whether a symbol is ":".
-fn is_colon(next: Next) -> bool
+pub fn is_colon(next: Next) -> bool
     ensures { λ r. ⌜ r ≡ isColon next ⌝ }
 {
     let Next::Found(class, start, end) = next else {

@@ -26,7 +26,7 @@ use Rattle.addresses.specs.Outcome.{derived, bodySymbols, outcome}
 use Rattle.addresses.specs.Outcome as addresses
 use Rattle.addresses.specs.Condition3.{IsList}
 use Rattle.addresses.proofs.BodyRecords.{in-body}
-use Rattle.addresses.proofs.Judgements.{ListBody, list-body, decided-outcome}
+use Rattle.addresses.proofs.Judgements.{ListBody, list-body, decided-read}
 use Rattle.addresses.proofs.RecordsRead.{record-read}
 use Rattle.expected.specs.Things.{sumOf}
 use Rattle.expected.specs.Named.{named, expectedIn}
@@ -159,9 +159,9 @@ module _ (message : List ℕ) (start end place : ℕ) (path : List ℕ) where
     by-verdict x (accepted k) e =
         let d = answer-derives levelLimit {xs = symbols} e in
         let b : ListBody message start end k = list-body message start end x (record { derived = d .0; within = d .1 }) in
-        subst (λ (o : addresses.Outcome). MeansOf o) (sym (decided-outcome message start end (x .short) (x .ordered) (x .inside) (x .faultless) e derived table)) (by-room k b (read x e) _ refl)
+        subst (λ (o : addresses.Outcome). MeansOf o) (sym (decided-read message start end (x .short) (x .ordered) (x .inside) levelLimit (x .faultless) e (addresses.refusal table) (derived table))) (by-room k b (read x e) _ refl)
     by-verdict x (refused why rest) e =
-        subst (λ (o : addresses.Outcome). MeansOf o) (sym (decided-outcome message start end (x .short) (x .ordered) (x .inside) (x .faultless) e derived table)) (read x e)
+        subst (λ (o : addresses.Outcome). MeansOf o) (sym (decided-read message start end (x .short) (x .ordered) (x .inside) levelLimit (x .faultless) e (addresses.refusal table) (derived table))) (read x e)
 
     pub means : Clean message start end → {r : Answer} {after : List ℕ} → r ≡ outcome message start end table .answer → after ≡ outcome message start end table .table → Means r after
     means x e f = rw (e, f) (by-verdict x _ refl)

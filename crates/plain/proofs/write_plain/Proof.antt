@@ -4,7 +4,8 @@ use mathlib.Core.Path.{_≡_, sym}
 use lib.Seq.{length-take-le}
 use Rattle.octets.specs.Classes.{classOf, classTable}
 use Rattle.octets.proofs.Parts.{no-front}
-use Rattle.plain.proofs.PlainLaws.{SomeList, some-list, refused-promised, list-promised}
+use Rattle.addresses.proofs.Told.{some-list}
+use Rattle.plain.proofs.PlainLaws.{refused-promised, list-promised}
 use borrow.Author.Needs.{needs}
 use Rattle.plain.proofs.write_plain.Statement.{statement}
 use Rattle.plain.proofs.write_plain.Tie as tie

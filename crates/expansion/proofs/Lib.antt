@@ -1,0 +1,16 @@
+-- Laws of expansion.
+pub mod TreeExpansion
+pub mod ExpansionLaws
+pub mod WithoutInclude
+pub mod Seeking
+pub mod WalkThrough
+pub mod WalkLaws
+pub mod StoreLaws
+pub mod SeekSteps
+pub mod LevelLaws
+pub mod AddressTexts
+pub mod Examples
+pub mod IncludeLaws
+pub mod OpeningLaws
+pub mod WalkRuns
+pub mod EntryLaws
