@@ -24,7 +24,7 @@ use Rattle.plain.proofs.PlainLaws.{accepted-list}
 use Rattle.expansion.specs.Expansion.{Expansion, stopped, reached, expansion}
 use Rattle.expansion.specs.Outcome.{Outcome, refusal, expanded, expandOutcome, Answered}
 use Rattle.expansion.specs.Promises.{Promises}
-use Rattle.expansion.specs.Walk.{Trail, halted, wrote, walked}
+use Rattle.expansion.specs.Walk.{halted, wrote, walked}
 use Rattle.expansion.specs.Steps.{symbolsFrom, TextWalked, BodyWent, BodyWalked, trailOutcome, ListExpanded}
 use Rattle.expansion.specs.declared.Around.the-variants.{Body}
 use Rattle.expansion.specs.declared.Expanded.{Expanded}

@@ -1,7 +1,7 @@
 -- What an expansion reaches: no Include, at most 64 levels, and words that a plain text can hold. Assumes nothing.
-use Prim.Native.Nat.{ℕ, zero, suc, _+_, _≤_, max}
+use Prim.Native.Nat.{ℕ, zero, suc, _+_, _≤_}
 use native.Mathlib.Omega.{arith}
-use mathlib.Core.Path.{_≡_, refl, sym, ap, ap₂, _∙_}
+use mathlib.Core.Path.{_≡_, refl, ap, ap₂, _∙_}
 use mathlib.Core.Bool.{Bool, true, false}
 use mathlib.Core.List.{List, [], _∷_}
 use mathlib.Core.Option.{Option, none, some}
@@ -11,28 +11,28 @@ use lib.ListN.{length, take}
 use lib.Seq.{take-length}
 use Rattle.octets.specs.Choice.{pick}
 use Rattle.octets.specs.Numbers.{levelLimit, messageLimit, openingLimit}
-use Rattle.octets.specs.declared.answers.Answer.the-variants.{Accepted, Refused}
+use Rattle.octets.specs.declared.answers.Answer.the-variants.{Refused}
 use Rattle.scanner.specs.Scanning.{scan, symbolsOf}
 use Rattle.scanner.specs.Answers.{faultOf}
 use Rattle.scanner.proofs.BodyChecks.{in-order}
 use Rattle.grammar.specs.Grammar.{levels}
 use Rattle.grammar.specs.Rfc733.{Derivation, DerivedList, kindNumber, typedKind}
 use Rattle.grammar.specs.Rfc733 as rfc733
-use Rattle.grammar.proofs.Trees.{Atom, Colon, Comma, LessThan, GreaterThan, Semicolon, Lexeme, Sym, of, Phrase, Place, empty, comma, AddressList, idle, full, mailbox, angle, group, quoted, typed, phraseThen, nodesThen, nameThen, placeThen, listThen, addressThen, placeLevels, listLevels, addressLevels}
+use Rattle.grammar.proofs.Trees.{Colon, Comma, LessThan, GreaterThan, Semicolon, Sym, of, Place, empty, comma, AddressList, idle, full, mailbox, angle, group, quoted, typed, nodesThen, placeThen, listThen, addressThen, placeLevels, listLevels, addressLevels}
 use Rattle.grammar.proofs.Trees as trees
 use Rattle.grammar.proofs.Rows.{asRow, row-levels, tree-derived}
-use Rattle.plain.specs.Meaning.{atom, Words, noWord, andWord, Addresses, noAddress, andAddress, Address, address, meaning}
+use Rattle.plain.specs.Meaning.{atom, noWord, andWord, Addresses, noAddress, andAddress, Address, address, meaning}
 use Rattle.plain.specs.PlainText.{addressesText}
 use Rattle.plain.specs.RoundTrip.{AcceptedBody}
-use Rattle.plain.proofs.TreeMeanings.{phraseMeaning, nameMeaning, nodesMeaning, placeMeaning, listMeaning, addressMeaning, typedMeaning, meaning-row, of-typed, addressesDepth, addressDepth, typed-depth}
+use Rattle.plain.proofs.TreeMeanings.{phraseMeaning, nameMeaning, nodesMeaning, addressMeaning, typedMeaning, addressesDepth, addressDepth, typed-depth}
 use Rattle.plain.proofs.Writable.{WritableList, WritableAddress, listOf, addressOf}
 use Rattle.plain.proofs.Writable as writable
 use Rattle.plain.proofs.ScannedWords.{WritableSymbols, writable-symbols, phrase-fine, name-fine, nodes-fine}
 use Rattle.plain.proofs.RoundTrips.{reread-writable}
 use Rattle.expansion.specs.Store.{leadsTo, listIn}
 use Rattle.expansion.specs.Expansion.{Expansion, stopped, reached, andThen, Opening, expandInclude, expandRow, expandStored, openedWithin, expansion}
-use Rattle.expansion.specs.Promises.{NoInclude, NotInclude, ReadsBack, ExpandedWell, Promised}
-use Rattle.expansion.proofs.TreeExpansion.{typedExpansion, placeExpansion, listExpansion, addressExpansion, row-expansion}
+use Rattle.expansion.specs.Promises.{NoInclude, NotInclude, ReadsBack, Promised}
+use Rattle.expansion.proofs.TreeExpansion.{placeExpansion, listExpansion, addressExpansion, row-expansion}
 use Rattle.addresses.proofs.Judgements.{Judged, refusedAt, listed, judged, listed-read}
 
 -- ---- the symbols behind a tree

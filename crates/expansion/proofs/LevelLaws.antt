@@ -7,6 +7,7 @@ use mathlib.Core.List.{List, [], _∷_}
 use borrow.Author.Tests.{lt-ltb, le-ltb}
 use lib.ListN.{length}
 use Rattle.octets.specs.Choice.{pick}
+use Rattle.octets.specs.Numbers.{levelLimit}
 use Rattle.scanner.specs.declared.Class.{Class}
 use Rattle.scanner.specs.declared.Class.the-variants.{Atom, Colon}
 use Rattle.plain.specs.declared.places.Place.{Place}
@@ -37,15 +38,15 @@ pub bits-fit : (s : List Bool) → length s < 64 → bitsOf s < 9223372036854775
 bits-fit s h = omega (arith, bits-low s, power-63 (length s) h)
 
 module _ (levels after : Levels) where
-  -- 64 levels stay
-  pub full-levels : levels .many ≡ 64 → after ≡ levels → Follows levels after withList
-  full-levels e f s i = rw (f, le-ltb (length s) 64 (omega (arith, i .many-is, e))) i
+  -- levelLimit levels stay
+  pub full-levels : levels .many ≡ levelLimit → after ≡ levels → Follows levels after withList
+  full-levels e f s i = rw (f, le-ltb (length s) levelLimit (omega (arith, i .many-is, e))) i
 
-  pub list-levels : (levels .many ≡ 64 → ⊥) → after .many ≡ levels .many + 1 → after .typed ≡ levels .typed % 9223372036854775808 * 2 → Follows levels after withList
+  pub list-levels : (levels .many ≡ levelLimit → ⊥) → after .many ≡ levels .many + 1 → after .typed ≡ levels .typed % 9223372036854775808 * 2 → Follows levels after withList
   list-levels n e f s i =
-      let h : length s < 64 = omega (arith, i .many-is, i .few, n) in
+      let h : length s < levelLimit = omega (arith, i .many-is, i .few, n) in
       let b = bits-fit s h in
-      rw (lt-ltb (length s) 64 h) (record { many-is = omega (arith, e, i .many-is); typed-is = omega (arith, f, i .typed-is, b); few = omega (arith, h) })
+      rw (lt-ltb (length s) levelLimit h) (record { many-is = omega (arith, e, i .many-is); typed-is = omega (arith, f, i .typed-is, b); few = omega (arith, h) })
 
   pub none-typed : levels .many ≡ 0 → after ≡ levels → Follows levels after withTyped
   none-typed e f [] i = rw f i
@@ -72,11 +73,11 @@ pub record Left (s : List Bool) (many typed : ℕ) : Type 0 where
   pub rest : List Bool
   pub many-is : many ≡ length rest
   pub typed-is : typed ≡ bitsOf rest
-  pub few : length rest ≤ 64
+  pub few : length rest ≤ levelLimit
   pub same : withoutTyped s ≡ withoutTyped rest
 
 abbrev pub Comes : ℕ → ℕ → ℕ → ℕ → Type 0
-Comes many₀ typed₀ many typed = (s : List Bool) → many₀ ≡ length s → typed₀ ≡ bitsOf s → length s ≤ 64 → Left s many typed
+Comes many₀ typed₀ many typed = (s : List Bool) → many₀ ≡ length s → typed₀ ≡ bitsOf s → length s ≤ levelLimit → Left s many typed
 
 pub comes-first : (many typed : ℕ) → Comes many typed many typed
 comes-first many typed s a b c = record { rest = s; many-is = a; typed-is = b; few = c; same = refl }
@@ -103,7 +104,7 @@ comes-end levels after many typed h e a b s i =
     let l = h s (i .many-is) (i .typed-is) (i .few) in
     left-open after l a b (no-levels (l .rest) (omega (arith, l .many-is, e)))
 
-one-left : (s rest : List Bool) (many typed : ℕ) → many ≡ length rest → typed ≡ bitsOf rest → length rest ≤ 64 → withoutTyped s ≡ withoutTyped rest → 0 < many → (typed % 2 ≡ 0 → ⊥) → Left s (many - 1) (typed / 2)
+one-left : (s rest : List Bool) (many typed : ℕ) → many ≡ length rest → typed ≡ bitsOf rest → length rest ≤ levelLimit → withoutTyped s ≡ withoutTyped rest → 0 < many → (typed % 2 ≡ 0 → ⊥) → Left s (many - 1) (typed / 2)
 one-left s [] many typed a b c d h n = absurd (omega (arith, a, h))
 one-left s (false ∷ r) many typed a b c d h n = absurd (n (omega (arith, b)))
 one-left s (true ∷ r) many typed a b c d h n = record { rest = r; many-is = omega (arith, a); typed-is = omega (arith, b); few = omega (arith, c); same = d }

@@ -1,5 +1,5 @@
 -- What comes of a record that an Include leads to. Assumes nothing.
-use Prim.Native.Nat.{ℕ, zero, suc, _+_, _*_, _-_, _≤_, _<_}
+use Prim.Native.Nat.{ℕ, zero, suc, _+_, _-_, _≤_, _<_}
 use native.Mathlib.Omega.{arith}
 use mathlib.Core.Path.{_≡_, refl, sym, ap, _∙_}
 use mathlib.Core.Bool.{Bool, true, false}
@@ -25,11 +25,11 @@ use Rattle.addresses.proofs.Told.{refused-told, some-list}
 use Rattle.addresses.proofs.WithinLaws.{within-listed, within-not}
 use Rattle.plain.specs.declared.places.Place.{Place}
 use Rattle.expansion.specs.Store.{listIn}
-use Rattle.expansion.specs.Walk.{Trail, halted, writing, walk, walkWithin}
+use Rattle.expansion.specs.Walk.{Trail, halted, walkWithin}
 use Rattle.expansion.specs.Steps.{Continuation, faultIn, walkSymbols, RecordOpens, OpeningIs}
 use Rattle.expansion.specs.declared.Around.the-variants.{Inside}
 use Rattle.expansion.specs.declared.Opening.{Opening}
-use Rattle.expansion.specs.declared.Opening.the-variants.{Opens, Faulty}
+use Rattle.expansion.specs.declared.Opening.the-variants.{Faulty}
 
 -- ---- the fault of a list, by what the reader answers
 

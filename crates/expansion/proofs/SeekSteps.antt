@@ -1,21 +1,19 @@
 -- Symbols sought one after the other, as the code goes. Assumes nothing.
-use Prim.Native.Nat.{ℕ, _-_, _≤_, _<_}
+use Prim.Native.Nat.{ℕ, _-_, _≤_}
 use native.Mathlib.Omega.{arith}
 use mathlib.Core.Path.{_≡_, refl, sym, ap, _∙_}
 use mathlib.Core.List.{List, [], _∷_}
-use lib.ListN.{length}
 use Rattle.scanner.specs.Scanning.{Scanned, ended, next, faultAt, symbolsOf, scanBy, symbol}
 use Rattle.scanner.specs.Answers.{nextOf}
 use Rattle.scanner.specs.declared.Class.{Class}
 use Rattle.scanner.specs.declared.Class.the-variants.{Atom, Quoted, At, LessThan, GreaterThan, Comma, Semicolon, Colon, Stray}
 use Rattle.scanner.specs.declared.Next.{Next}
-use Rattle.scanner.specs.declared.Next.the-variants.{Found, Ended, Fault}
 use Rattle.scanner.proofs.Meanings.{meaningAt}
-use Rattle.scanner.proofs.Unfolding.{SymbolAt, found}
+use Rattle.scanner.proofs.Unfolding.{SymbolAt}
 use Rattle.plain.proofs.WalkSteps.{NoneComes}
 use mathlib.Core.Bool.{Bool, true, false}
 use Rattle.octets.specs.Choice.{pick, both}
-use Rattle.expansion.specs.Walk.{Sym, ends, innerAfter, single, neither, angled, heldFrom, heldBy, Phase, nothing, notWords, withWord, onlyFrom, only, namedBy, firstFrom, firstOf, soughtBy, sought}
+use Rattle.expansion.specs.Walk.{Sym, ends, innerAfter, single, neither, angled, heldFrom, heldBy, Phase, nothing, notWords, only, namedBy, firstFrom, firstOf, soughtBy, sought}
 use Rattle.expansion.specs.Steps.{symbolsFrom, asHeld, sortOf, skipTo, asPhase, onStep, OnlyIs, turnOf, onTurn, namedIf, asRecord}
 use mathlib.Core.Option.{Option, none, some}
 use Rattle.expansion.specs.Store.{orElse}

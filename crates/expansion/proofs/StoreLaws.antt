@@ -2,54 +2,37 @@
 use Prim.Native.Nat.{ℕ, zero, suc, _+_, _*_, _-_, _≤_, _<_}
 use native.Mathlib.Omega.{arith}
 use mathlib.Core.Path.{_≡_, refl, sym, ap, _∙_}
-use mathlib.Core.Bool.{Bool, true, false}
+use mathlib.Core.Bool.{Bool, true, false, true≢false}
 use mathlib.Core.List.{List, [], _∷_, _++_}
-use borrow.Author.Tests.{eq-eqb, ne-eqb}
+use borrow.Author.Tests.{eq-eqb, ne-eqb, eqb-true, eqb-false}
 use lib.Dec.{eqb}
-use lib.ListN.{length, take, drop, getD}
-use lib.Seq.{sets, sets-eq}
-use Rattle.octets.proofs.LetterLaws.{lengths-differ}
+use lib.ListN.{length, take, drop, getD, length-take}
+use lib.Seq.{sets, sets-eq, length-take-le, take-append-seam}
+use Rattle.octets.proofs.LetterLaws.{lengths-differ, same-self, same-bytes}
 use Rattle.octets.specs.Text.{part}
-use Rattle.octets.specs.Numbers.{storeRecordSize}
+use Rattle.octets.specs.Numbers.{storeRecordSize, storeNameSize}
 use Rattle.octets.specs.Stored.{roomFor}
 use Rattle.octets.specs.Choice.{pick}
 use mathlib.Core.Option.{Option, none, some}
 use Rattle.octets.specs.Letters.{sameBytes}
-use Rattle.expansion.specs.Store.{withoutZeros, nameIn, firstNamed, lowest, orElse}
+use Rattle.expansion.specs.Store.{beforeTrimmed, withoutZeros, nameIn, firstNamed, lowest, orElse}
 
--- a byte before bytes without zeros at their end
-abbrev put : ℕ → List ℕ → List ℕ
-put b [] = pick (eqb b 0) [] (b ∷ [])
-put b (c ∷ cs) = b ∷ c ∷ cs
-
-put-is : (b : ℕ) (bs : List ℕ) → withoutZeros (b ∷ bs) ≡ put b (withoutZeros bs)
-put-is b bs = by (withoutZeros bs)
-  where
-    by : (zs : List ℕ) → elim zs [ [] ↦ pick (eqb b 0) [] (b ∷ []) | c ∷ cs ↦ b ∷ c ∷ cs ] ≡ put b zs
-    by [] = refl
-    by (c ∷ cs) = refl
-
-put-more : (b : ℕ) (bs : List ℕ) → (0 < length bs) → put b bs ≡ b ∷ bs
-put-more b [] h = absurd (omega (arith, h))
-put-more b (c ∷ cs) h = refl
-
-length-take-suc : (xs : List ℕ) (n : ℕ) → n < length xs → length (take (suc n) xs) ≡ suc n
-length-take-suc [] n h = absurd (omega (arith, h))
-length-take-suc (x ∷ xs) zero h = refl
-length-take-suc (x ∷ xs) (suc n) h = ap suc (length-take-suc xs n (omega (arith, h)))
+before-more : (b : ℕ) (bs : List ℕ) → (0 < length bs) → beforeTrimmed b bs ≡ b ∷ bs
+before-more b [] h = absurd (omega (arith, h))
+before-more b (c ∷ cs) h = refl
 
 -- a zero at the end does not count
 pub zero-last : (xs : List ℕ) (n : ℕ) → n < length xs → getD xs n 0 ≡ 0 → withoutZeros (take (suc n) xs) ≡ withoutZeros (take n xs)
 zero-last [] n h e = absurd (omega (arith, h))
 zero-last (x ∷ xs) zero h e = rw (eq-eqb x 0 e)
-zero-last (x ∷ xs) (suc n) h e = put-is x (take (suc n) xs) ∙ ap (put x) (zero-last xs n (omega (arith, h)) e) ∙ sym (put-is x (take n xs))
+zero-last (x ∷ xs) (suc n) h e = ap (beforeTrimmed x) (zero-last xs n (omega (arith, h)) e)
 
 -- another byte does
 pub other-last : (xs : List ℕ) (n : ℕ) → n < length xs → (getD xs n 0 ≡ 0 → ⊥) → withoutZeros (take (suc n) xs) ≡ take (suc n) xs
 other-last [] n h e = absurd (omega (arith, h))
 other-last (x ∷ xs) zero h e = rw (ne-eqb x 0 e)
 other-last (x ∷ xs) (suc n) h e =
-    put-is x (take (suc n) xs) ∙ ap (put x) (other-last xs n (omega (arith, h)) e) ∙ put-more x (take (suc n) xs) (omega (arith, length-take-suc xs n (omega (arith, h))))
+    ap (beforeTrimmed x) (other-last xs n (omega (arith, h)) e) ∙ before-more x (take (suc n) xs) (omega (arith, length-take-le (suc n) xs (omega (arith, h))))
 
 -- by the number of bytes
 pub drops-zero : (xs : List ℕ) (n : ℕ) → 0 < n → n ≤ length xs → getD xs (n - 1) 0 ≡ 0 → withoutZeros (take n xs) ≡ withoutZeros (take (n - 1) xs)
@@ -88,40 +71,76 @@ from-first store name many = let e : many ≡ many - 0 = omega arith in ap (λ n
 
 trimmed-length : (xs : List ℕ) → length (withoutZeros xs) ≤ length xs
 trimmed-length [] = omega arith
-trimmed-length (x ∷ xs) = let e = put-is x xs in rw e (by (withoutZeros xs) (trimmed-length xs))
+trimmed-length (x ∷ xs) = by (withoutZeros xs) (trimmed-length xs)
   where
     test : (z : Bool) (ys : List ℕ) → length (pick z [] (x ∷ [])) ≤ 1
     test true ys = omega arith
     test false ys = omega arith
 
-    by : (ys : List ℕ) → length ys ≤ length xs → length (put x ys) ≤ length (x ∷ xs)
+    by : (ys : List ℕ) → length ys ≤ length xs → length (beforeTrimmed x ys) ≤ length (x ∷ xs)
     by [] h = omega (arith, test (eqb x 0) [])
     by (c ∷ cs) h = omega (arith, h)
 
-take-length-le : (n : ℕ) (xs : List ℕ) → length (take n xs) ≤ n
-take-length-le zero xs = omega arith
-take-length-le (suc n) [] = omega arith
-take-length-le (suc n) (x ∷ xs) = omega (arith, take-length-le n xs)
+name-short : (store : List ℕ) (i : ℕ) → length (nameIn store i) ≤ storeNameSize
+name-short store i =
+    omega (arith, trimmed-length (part store (i * storeRecordSize) (i * storeRecordSize + storeNameSize)), length-take (i * storeRecordSize + storeNameSize - i * storeRecordSize) (drop (i * storeRecordSize) store))
 
-name-short : (store : List ℕ) (i : ℕ) → length (nameIn store i) ≤ 64
-name-short store i = omega (arith, trimmed-length (part store (i * 512) (i * 512 + 64)), take-length-le (i * 512 + 64 - i * 512) (drop (i * 512) store))
+pub no-name : (store name : List ℕ) (i : ℕ) → storeNameSize < length name → sameBytes (nameIn store i) name ≡ false
+no-name store name i h = lengths-differ (λ b. b) (nameIn store i) name (λ e. omega (arith, e, name-short store i, h))
 
-never-named : (many : ℕ) (store text : List ℕ) (i : ℕ) → 64 < length text → firstNamed many store text i ≡ none
+never-named : (many : ℕ) (store text : List ℕ) (i : ℕ) → storeNameSize < length text → firstNamed many store text i ≡ none
 never-named zero store text i h = refl
 never-named (suc many) store text i h =
-    ap (λ z. pick z (some i) (firstNamed many store text (suc i))) (lengths-differ (λ b. b) (nameIn store i) text (λ e. omega (arith, e, name-short store i, h))) ∙ never-named many store text (suc i) h
+    ap (λ z. pick z (some i) (firstNamed many store text (suc i))) (no-name store text i h) ∙ never-named many store text (suc i) h
 
-pub too-long : (store text : List ℕ) (n : ℕ) → n ≡ length text → 64 < n → lowest store text ≡ none
-too-long store text n e h = never-named (roomFor 512 store) store text 0 (omega (arith, e, h))
-
-take-all : (xs ys : List ℕ) → take (length xs) (xs ++ ys) ≡ xs
-take-all [] ys = refl
-take-all (x ∷ xs) ys = ap (λ zs. x ∷ zs) (take-all xs ys)
+pub too-long : (store text : List ℕ) (n : ℕ) → n ≡ length text → storeNameSize < n → lowest store text ≡ none
+too-long store text n e h = never-named (roomFor storeRecordSize store) store text 0 (omega (arith, e, h))
 
 -- a text in a buffer of its own
 pub own-text : (text own₀ own : List ℕ) (n : ℕ) → n ≡ length text → own ≡ sets own₀ 0 text → n ≤ length own₀ → take n own ≡ text
 own-text text own₀ own n e f h =
-    rw (e, f ∙ sets-eq text own₀ 0 (omega (arith, e, h))) (take-all text (drop (0 + length text) own₀))
+    rw (e, f ∙ sets-eq text own₀ 0 (omega (arith, e, h))) (take-append-seam text (drop (0 + length text) own₀))
+
+-- ---- a record's name, its front first
+
+front-by : (x : ℕ) (xs : List ℕ) (z : Bool) → take (length (pick z [] (x ∷ []))) (x ∷ xs) ≡ pick z [] (x ∷ [])
+front-by x xs true = refl
+front-by x xs false = refl
+
+trimmed-front : (xs : List ℕ) → take (length (withoutZeros xs)) xs ≡ withoutZeros xs
+trimmed-front [] = refl
+trimmed-front (x ∷ xs) = by (withoutZeros xs) (trimmed-front xs)
+  where
+    by : (ys : List ℕ) → take (length ys) xs ≡ ys → take (length (beforeTrimmed x ys)) (x ∷ xs) ≡ beforeTrimmed x ys
+    by [] e = front-by x xs (eqb x 0)
+    by (c ∷ cs) e = ap (λ zs. x ∷ zs) e
+
+module _ (whole name : List ℕ) where
+  -- the front is another one
+  pub other-front : sameBytes (take (length name) whole) name ≡ false → sameBytes (withoutZeros whole) name ≡ false
+  other-front e = by (sameBytes (withoutZeros whole) name) refl
+    where
+      by : (z : Bool) → sameBytes (withoutZeros whole) name ≡ z → sameBytes (withoutZeros whole) name ≡ false
+      by false f = f
+      by true f =
+          let g : withoutZeros whole ≡ name = same-bytes (withoutZeros whole) name f in
+          let h : take (length name) whole ≡ name = ap (λ z. take (length z) whole) (sym g) ∙ trimmed-front whole ∙ g in
+          absurd (true≢false (sym (ap (λ z. sameBytes z name) h ∙ same-self (λ b. b) name) ∙ e))
+
+  -- the front is this one, and the name is as long, or not
+  module _ (r : ℕ) (e : take r whole ≡ withoutZeros whole) (same : sameBytes (take (length name) whole) name ≡ true) where
+    as-long : r ≡ length name → sameBytes (withoutZeros whole) name ≡ true
+    as-long h = ap (λ z. sameBytes z name) (sym e ∙ ap (λ k. take k whole) h) ∙ same
+
+    not-as-long : r ≤ length whole → (r ≡ length name → ⊥) → sameBytes (withoutZeros whole) name ≡ false
+    not-as-long l n = lengths-differ (λ b. b) (withoutZeros whole) name (λ f. n (sym (length-take-le r whole l) ∙ ap length e ∙ f))
+
+    pub length-tells : r ≤ length whole → eqb r (length name) ≡ sameBytes (withoutZeros whole) name
+    length-tells l = by (eqb r (length name)) refl
+      where
+        by : (z : Bool) → eqb r (length name) ≡ z → eqb r (length name) ≡ sameBytes (withoutZeros whole) name
+        by true f = f ∙ sym (as-long (eqb-true r (length name) f))
+        by false f = f ∙ sym (not-as-long l (eqb-false r (length name) f))
 
 -- ---- what is found is a record of the store
 

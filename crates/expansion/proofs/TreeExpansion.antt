@@ -1,21 +1,21 @@
 -- The expansion of a tree is the expansion of the derivation that it is. Assumes nothing.
-use Prim.Native.Nat.{ℕ, suc, _+_}
-use mathlib.Core.Path.{_≡_, refl, sym, ap, ap₂, _∙_}
+use Prim.Native.Nat.{ℕ, _+_}
+use mathlib.Core.Path.{_≡_, refl, ap, ap₂, _∙_}
 use mathlib.Core.Bool.{Bool, true, false}
-use mathlib.Core.List.{List, [], _∷_, _++_, append-nil}
-use mathlib.Core.Option.{Option, none, some}
+use mathlib.Core.List.{List, append-nil}
+use mathlib.Core.Option.{none, some}
 use lib.Dec.{eqb}
 use Rattle.octets.specs.Choice.{pick}
 use Rattle.grammar.specs.Grammar.{nil, leaf}
 use Rattle.grammar.specs.Records.{partOf}
 use Rattle.grammar.specs.Rfc733.{Derivation, kindNumber, typedKind}
 use Rattle.grammar.specs.Rfc733 as rfc733
-use Rattle.grammar.proofs.Trees.{Atom, Colon, Comma, LessThan, GreaterThan, Semicolon, Lexeme, Sym, of, atomWord, quotedWord, Phrase, one, more, Nodes, first, next, Place, empty, comma, AddressList, idle, full, mailbox, angle, group, quoted, typed, phraseThen, nodesThen}
+use Rattle.grammar.proofs.Trees.{Atom, Colon, Comma, LessThan, GreaterThan, Semicolon, of, atomWord, quotedWord, Phrase, one, more, Nodes, first, next, Place, empty, comma, AddressList, idle, full, mailbox, angle, group, quoted, typed}
 use Rattle.grammar.proofs.Trees as trees
 use Rattle.grammar.proofs.Rows.{wordRow, phraseRow, nodesRow, placeRow, listRow, addressRow, asRow}
-use Rattle.plain.specs.Meaning.{atom, Words, noWord, andWord, Addresses, noAddress, andAddress, Address, address, wordsOf, nodesOf, addressesAfter}
-use Rattle.plain.proofs.TreeMeanings.{phraseMeaning, nameMeaning, nodesMeaning, listMeaning, addressMeaning, of-typed, name-words, node-words, no-typed-nodes, after-address}
-use Rattle.expansion.specs.Expansion.{Expansion, stopped, reached, andThen, Opening, otherType, expandInclude, expandRow, expansion, openedWithin}
+use Rattle.plain.specs.Meaning.{atom, noWord, andWord, Addresses, noAddress, andAddress, Address, address, wordsOf, nodesOf, addressesAfter}
+use Rattle.plain.proofs.TreeMeanings.{phraseMeaning, nameMeaning, nodesMeaning, addressMeaning, of-typed, name-words, node-words, after-address}
+use Rattle.expansion.specs.Expansion.{Expansion, stopped, reached, andThen, Opening, otherType, expandInclude, expandRow, expansion}
 
 -- ---- what comes next
 

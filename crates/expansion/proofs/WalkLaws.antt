@@ -1,36 +1,31 @@
 -- The walk through stored lists writes the plain text of the expansion, with its openings, or stops where it stops. Assumes nothing.
 use Prim.Native.Nat.{ℕ, zero, suc, _+_, _≤_}
 use native.Mathlib.Omega.{arith}
-use mathlib.Core.Path.{_≡_, refl, sym, ap, ap₂, _∙_}
+use mathlib.Core.Path.{_≡_, refl, sym, ap, _∙_}
 use mathlib.Core.Bool.{Bool, true, false}
-use mathlib.Core.List.{List, [], _∷_}
-use lib.Dec.{eqb, ltb, leb}
-use lib.ListN.{length, take}
+use mathlib.Core.List.{List, []}
+use lib.Dec.{ltb, leb}
+use lib.ListN.{length}
 use lib.Seq.{take-length}
-use Rattle.octets.specs.Choice.{pick, either}
+use Rattle.octets.specs.Choice.{pick}
 use Rattle.octets.specs.Numbers.{levelLimit, openingLimit}
-use Rattle.scanner.specs.Scanning.{Scanned, ended, next, faultAt, scan, symbolsOf}
-use Rattle.scanner.specs.Answers.{bodyChecked, unlessFault}
-use Rattle.scanner.specs.declared.Class.{Class}
+use Rattle.scanner.specs.Scanning.{scan, symbolsOf}
 use Rattle.grammar.specs.Grammar.{levels}
-use Rattle.grammar.specs.Language.{Verdict, accepted, refused}
 use Rattle.grammar.specs.Rfc733.{Derivation, DerivedList}
-use Rattle.grammar.proofs.Condition3.{answer}
-use Rattle.grammar.proofs.Trees.{Sym, AddressList, listThen}
+use Rattle.grammar.proofs.Trees.{Sym}
 use Rattle.grammar.proofs.Rows.{asRow, row-levels, tree-derived}
 use Rattle.addresses.specs.Outcome.{bodySymbols, bodyRead}
 use Rattle.addresses.proofs.Judgements.{refusedAt, judged, listed-read}
 use Rattle.addresses.proofs.Judgements as judgements
-use Rattle.plain.specs.Meaning.{Addresses, noAddress, meaning}
+use Rattle.plain.specs.Meaning.{Addresses, noAddress}
 use Rattle.plain.specs.PlainText.{addressesText}
 use Rattle.plain.specs.declared.places.Place.{Place}
-use Rattle.plain.specs.declared.places.Place.the-variants.{Start}
-use Rattle.plain.proofs.Walks.{Begin, plainly, front, spot, comma-spot, front-plain}
+use Rattle.plain.proofs.Walks.{Begin, plainly, spot, comma-spot, front-plain}
 use Rattle.expansion.specs.Store.{listIn}
-use Rattle.expansion.specs.Expansion.{Expansion, stopped, reached, Opening, expandRow, expandStored, openedWithin, expansion}
+use Rattle.expansion.specs.Expansion.{Expansion, stopped, Opening, expandRow, openedWithin, expansion}
 use Rattle.expansion.specs.Walk.{Trail, halted, wrote, before, writing, walk, walkWithin, walked}
 use Rattle.expansion.proofs.TreeExpansion.{listExpansion, row-expansion}
-use Rattle.expansion.proofs.WalkThrough.{onward, listed, Clear, clear-comma, onward-same, unmoved, through-list}
+use Rattle.expansion.proofs.WalkThrough.{onward, listed, clear-comma, onward-same, unmoved, through-list}
 
 -- what holds of both for a refusal and for every list holds for the body
 pair-read : {A B : Type 0} (P : A → B → Type 0) (refuse : ℕ → ℕ → A) (derive : Derivation → A) (refuse′ : ℕ → ℕ → B) (derive′ : Derivation → B) (message : List ℕ) (start end : ℕ)

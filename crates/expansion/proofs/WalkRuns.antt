@@ -1,15 +1,14 @@
 -- The walk, stage by stage, as the code goes. Assumes nothing.
-use Prim.Native.Nat.{ℕ, zero, suc, _+_, _*_, _≤_, _<_}
+use Prim.Native.Nat.{ℕ, zero, suc, _+_, _*_, _≤_}
 use native.Mathlib.Omega.{arith}
 use mathlib.Core.Path.{_≡_, refl, sym, ap, _∙_}
 use mathlib.Core.Bool.{Bool, true, false}
 use mathlib.Core.List.{List, [], _∷_}
 use mathlib.Core.Option.{Option, none, some}
 use lib.ListN.{length}
-use Rattle.octets.specs.Choice.{pick, both}
+use Rattle.octets.specs.Choice.{pick}
 use Rattle.octets.specs.Classes.{classTable}
 use Rattle.octets.specs.Numbers.{messageLimit, levelLimit, openingLimit, storeRecordSize, leadsNowhere}
-use Rattle.octets.specs.Writing.{Wrote}
 use Rattle.octets.proofs.Writes.{wrote-both}
 use Rattle.scanner.specs.Scanning.{scan, scanBy, symbolsOf, symbol}
 use Rattle.scanner.specs.Answers.{nextOf}
@@ -19,25 +18,23 @@ use Rattle.scanner.specs.declared.Next.{Next}
 use Rattle.scanner.specs.declared.Next.the-variants.{Found, Ended, Fault}
 use Rattle.scanner.proofs.Meanings.{meaningAt}
 use Rattle.scanner.proofs.Unfolding.{SymbolAt, found}
-use Rattle.grammar.specs.Rfc733.{sameClass}
 use Rattle.plain.specs.Walking.{symbolText, after, afterComma, colonNext}
 use Rattle.plain.specs.Writing.{isColon}
 use Rattle.plain.specs.declared.places.Place.{Place}
 use Rattle.plain.proofs.WalkSteps.{colon-of, NoneComes, behind, behind-falls}
 use Rattle.expansion.specs.Store.{listIn}
-use Rattle.expansion.specs.Walk.{Sym, Trail, halted, wrote, before, ends, includeHere, behindOne, opens, inTyped, levelsAfter, innerAfter, WalkOpening, Mode, writing, skipping, sought, includeTrail, walk, walkWithin}
-use Rattle.expansion.specs.Steps.{symbolsFrom, asRecord, LevelsAre, LevelsAfter, skipTo, IncludeBegins, OpenedIs, placeOf, levelsAround, joinedStage, openedStage, WriteOnIs, Continuation, walkSymbols, RecordOpens, OpeningIs, Onward, symbolShare, textShare, Goes, Halts, RecordWalked, TextWalked}
+use Rattle.expansion.specs.Walk.{Sym, Trail, halted, wrote, before, ends, includeHere, behindOne, inTyped, levelsAfter, innerAfter, WalkOpening, writing, skipping, sought, includeTrail, walk, walkWithin}
+use Rattle.expansion.specs.Steps.{symbolsFrom, LevelsAre, LevelsAfter, skipTo, IncludeBegins, OpenedIs, placeOf, levelsAround, joinedStage, openedStage, WriteOnIs, Continuation, walkSymbols, RecordOpens, OpeningIs, Onward, symbolShare, textShare, Goes, Halts, RecordWalked, TextWalked}
 use Rattle.expansion.specs.declared.Around.{Around}
-use Rattle.expansion.specs.declared.Around.the-variants.{Body, Inside}
+use Rattle.expansion.specs.declared.Around.the-variants.{Inside}
 use Rattle.expansion.specs.declared.Levels.{Levels}
 use Rattle.expansion.specs.declared.Opening.the-variants.{Faulty}
-use Rattle.expansion.specs.declared.Record.{Record}
 use Rattle.expansion.specs.declared.Record.the-variants.{Stored, Nowhere}
 use Rattle.expansion.specs.declared.Stage.{Stage}
 use Rattle.expansion.specs.declared.Walked.{Walked}
 use Rattle.expansion.specs.declared.Walked.the-variants.{Went, Stopped}
 use Rattle.expansion.proofs.SeekSteps.{no-symbols, next-symbol, stored-is, nowhere-is, sought-in}
-use Rattle.expansion.proofs.StoreLaws.{InStore, pick-in}
+use Rattle.expansion.proofs.StoreLaws.{InStore}
 use Rattle.expansion.proofs.WalkThrough.{twice, unmoved}
 
 -- ---- trails one behind the other

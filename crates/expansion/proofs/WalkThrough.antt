@@ -1,38 +1,36 @@
 -- The walk through stored lists writes the plain text of the expansion. Assumes nothing.
-use Prim.Native.Nat.{ℕ, zero, suc, _+_, _≤_, _<_}
+use Prim.Native.Nat.{ℕ, _+_, _≤_, _<_}
 use native.Mathlib.Omega.{arith}
 use mathlib.Core.Path.{_≡_, refl, sym, ap, ap₂, _∙_}
 use mathlib.Core.Bool.{Bool, true, false}
 use mathlib.Core.List.{List, [], _∷_, _++_}
 use mathlib.Core.Option.{Option, none, some}
-use lib.Dec.{eqb, ltb, leb}
+use lib.Dec.{eqb}
 use borrow.Author.Tests.{lt-ltb}
-use lib.ListN.{length, take}
-use lib.Seq.{take-length}
+use lib.ListN.{length}
 use Rattle.octets.specs.Choice.{pick, both}
+use Rattle.octets.proofs.ChoiceLaws.{both-parts}
 use Rattle.octets.specs.Letters.{sameLetters}
 use Rattle.octets.specs.Numbers.{levelLimit}
 use Rattle.octets.specs.Text.{bytes}
-use Rattle.scanner.specs.Scanning.{scan, symbolsOf}
-use Rattle.grammar.specs.Grammar.{levels, begins}
-use Rattle.grammar.specs.Rfc733.{Derivation, DerivedList, sameClass, kindNumber, typedKind, include, postal, otherTyped}
-use Rattle.grammar.proofs.Trees.{Class, Atom, Quoted, At, LessThan, GreaterThan, Comma, Semicolon, Colon, Stray, Lexeme, Sym, of, atomWord, quotedWord, Phrase, one, more, Nodes, first, next, comma, AddressList, idle, full, mailbox, angle, group, quoted, typed, wordSymbol, phraseThen, nodesThen, nameThen, placeThen, listThen, addressThen, atomColon, houseRule, placeLawful, listLawful, addressLawful, placeLevels, listLevels, addressLevels}
+use Rattle.grammar.specs.Grammar.{begins}
+use Rattle.grammar.specs.Rfc733.{sameClass, kindNumber, typedKind, include, postal, otherTyped}
+use Rattle.grammar.proofs.Trees.{Class, Atom, Quoted, At, LessThan, GreaterThan, Comma, Semicolon, Colon, Stray, Lexeme, Sym, of, atomWord, quotedWord, Phrase, one, more, Nodes, first, next, comma, AddressList, idle, full, mailbox, angle, group, quoted, typed, wordSymbol, phraseThen, nodesThen, placeThen, listThen, addressThen, placeLawful, listLawful, addressLawful, placeLevels, listLevels, addressLevels}
 use Rattle.grammar.proofs.Trees as trees
 use Rattle.grammar.proofs.HouseRule.{oneAtom, placeAtomGroup, listAtomGroup, atomColon-list, oneAtom-false, oneAtom-true}
 use Rattle.grammar.proofs.HouseRule as house
-use Rattle.grammar.proofs.Rows.{asRow, row-levels, tree-derived}
 use Rattle.plain.specs.Meaning.{atom, noWord, andWord, Addresses, noAddress, andAddress, Address, address, meaning}
-use Rattle.plain.specs.PlainText.{wordText, spaceBehind, phraseText, nodesText, atomGroup, groupGap, commaBehind, addressesText, addressText}
-use Rattle.plain.specs.Walking.{gapText, gapBefore, gapBeforeColon, afterAtom, afterComma, afterColon, after, colonNext, symbolText}
+use Rattle.plain.specs.PlainText.{wordText, phraseText, nodesText, atomGroup, addressesText, addressText}
+use Rattle.plain.specs.Walking.{gapText, gapBefore, afterAtom, afterComma, after, colonNext, symbolText}
 use Rattle.plain.specs.declared.places.Place.{Place}
 use Rattle.plain.specs.declared.places.Place.the-variants.{Start, Bare, BareComma, Named, Typing, Word, Node, Closed, Parted}
 use Rattle.plain.proofs.TreeMeanings.{wordMeaning, phraseMeaning, nameMeaning, nodesMeaning, placeMeaning, listMeaning, addressMeaning, typedMeaning, of-typed, atom-group}
 use Rattle.plain.proofs.Walks.{space-behind, no-colon-nodes, Begin, plainly, barely, namely, front, spot, comma-spot, Opens, spot-opens, joint, front-named, front-bare, front-plain}
-use Rattle.expansion.specs.Store.{leadsTo, onlyMailboxes, isMailbox, listIn}
-use Rattle.expansion.specs.Expansion.{Expansion, stopped, reached, andThen, Opening, expandInclude, expandRow, expandStored, openedWithin, expansion}
-use Rattle.expansion.specs.Walk.{Trail, halted, wrote, before, withoutTyped, withoutOne, withTyped, inTyped, isTyping, withList, levelsAfter, ends, includeWord, includeNext, behindOne, opens, Mode, writing, skipping, innerAfter, WalkOpening, sought, walk, walkWithin, walked}
-use Rattle.expansion.proofs.TreeExpansion.{typedExpansion, placeExpansion, listExpansion, addressExpansion, row-expansion}
-use Rattle.expansion.proofs.Seeking.{Joins, InAngle, both-0, both-1, sought-address}
+use Rattle.expansion.specs.Store.{leadsTo, onlyMailboxes, isMailbox}
+use Rattle.expansion.specs.Expansion.{Expansion, stopped, reached, andThen, Opening, expandInclude, expansion}
+use Rattle.expansion.specs.Walk.{Trail, halted, wrote, before, withoutTyped, withTyped, inTyped, isTyping, withList, levelsAfter, ends, includeWord, includeNext, behindOne, opens, writing, skipping, innerAfter, WalkOpening, sought, walk}
+use Rattle.expansion.proofs.TreeExpansion.{placeExpansion, listExpansion, addressExpansion}
+use Rattle.expansion.proofs.Seeking.{Joins, sought-address}
 
 -- ---- texts before a trail
 
@@ -244,8 +242,8 @@ module _ (store : List ℕ) (opening : WalkOpening) (placeOf : ℕ → ℕ) (bas
       skip-list : (l : AddressList) (xs : List Sym) → onlyMailboxes (listMeaning l) ≡ true → skip true p s (listThen l xs) u k ≡ skip true p s xs u k
       skip-list (idle r) xs e = skip-place r xs e
       skip-list (full r a) xs e =
-          skip-place r (addressThen a xs) (both-0 (onlyMailboxes (placeMeaning r)) (isMailbox (addressMeaning a)) e)
-          ∙ skip-mailbox a xs (both-1 (onlyMailboxes (placeMeaning r)) (isMailbox (addressMeaning a)) e)
+          skip-place r (addressThen a xs) (both-parts (onlyMailboxes (placeMeaning r)) (isMailbox (addressMeaning a)) e .0)
+          ∙ skip-mailbox a xs (both-parts (onlyMailboxes (placeMeaning r)) (isMailbox (addressMeaning a)) e .1)
 
     -- what leads to a record
     picked : (z : Bool) (o : Option ℕ) {i : ℕ} → pick z o none ≡ some i → z ≡ true

@@ -6,17 +6,14 @@ use mathlib.Core.List.{List}
 use Rattle.octets.specs.Numbers.{openingLimit}
 use Rattle.octets.specs.Choice.{pick}
 use Rattle.grammar.specs.Rfc733.{Derivation, DerivedList, kindNumber, typedKind}
-use Rattle.grammar.specs.Rfc733 as rfc733
 use Rattle.grammar.proofs.Trees.{Sym, Place, empty, comma, AddressList, idle, full, mailbox, angle, group, quoted, typed}
 use Rattle.grammar.proofs.Trees as trees
-use Rattle.grammar.proofs.Rows.{asRow, tree-derived}
+use Rattle.grammar.proofs.Rows.{tree-derived}
 use Rattle.plain.specs.Meaning.{Addresses, noAddress, andAddress, address, atom, noWord, andWord, meaning}
-use Rattle.plain.specs.RoundTrip.{AcceptedBody}
 use Rattle.plain.proofs.TreeMeanings.{nameMeaning, placeMeaning, listMeaning, addressMeaning, meaning-row}
-use Rattle.expansion.specs.Expansion.{Expansion, stopped, reached, andThen, Opening, expandInclude, expandRow, openedWithin, expansion}
+use Rattle.expansion.specs.Expansion.{reached, andThen, Opening, expandInclude, expandRow, openedWithin, expansion}
 use Rattle.expansion.specs.Promises.{NoInclude, NotInclude}
 use Rattle.expansion.proofs.TreeExpansion.{placeExpansion, listExpansion, addressExpansion, row-expansion}
-use Rattle.expansion.proofs.ExpansionLaws.{expansion-promised}
 
 -- addresses behind others
 abbrev pub andAll : Addresses → Addresses → Addresses

@@ -79,7 +79,7 @@ bitsOf (false ∷ s) = 2 * bitsOf s
 pub record LevelsAre (open′ : Levels) (s : List Bool) : Type 0 where
   pub many-is : open′ .many ≡ length s
   pub typed-is : open′ .typed ≡ bitsOf s
-  pub few : length s ≤ 64
+  pub few : length s ≤ levelLimit
 
 -- what is done to the levels
 abbrev pub Follows : Levels → Levels → (List Bool → List Bool) → Type 0
@@ -219,10 +219,10 @@ pub record Onward (from to : Continuation → Trail) (out : List ℕ) (n : ℕ) 
 
 -- the most that is written of one text of at most 32,768 bytes: twice its length and 3 for each symbol, of which there are no more than bytes
 abbrev pub symbolShare : ℕ
-symbolShare = 65539
+symbolShare = 2 * messageLimit + 3
 
 abbrev pub textShare : ℕ
-textShare = 2147647491
+textShare = symbolShare * (messageLimit + 1)
 
 -- a walk from a stage to another; `more`: texts that are written beside those of the openings
 pub record Goes (trails : ℕ → Continuation → Trail) (more : ℕ) (stage : Stage) (out after′ : List ℕ) (r : Stage) : Type 0 where

@@ -1,6 +1,6 @@
 -- Document 02, CR 10: the store, and the stored list that an Include leads to.
 use Prim.Native.Nat.{ℕ, zero, suc, _+_, _*_}
-use mathlib.Core.Bool.{Bool, true, false}
+use mathlib.Core.Bool.{Bool, true}
 use mathlib.Core.List.{List, [], _∷_}
 use mathlib.Core.Option.{Option, none, some}
 use lib.Dec.{eqb}
@@ -15,10 +15,15 @@ use Rattle.plain.specs.PlainText.{addressText}
 
 -- ---- records
 
+-- a byte before bytes that have no zero at their end; a zero before none is left out
+abbrev pub beforeTrimmed : ℕ → List ℕ → List ℕ
+beforeTrimmed b [] = pick (eqb b 0) [] (b ∷ [])
+beforeTrimmed b (c ∷ bytes) = b ∷ c ∷ bytes
+
 -- bytes without the zeros at their end
 abbrev pub withoutZeros : List ℕ → List ℕ
 withoutZeros [] = []
-withoutZeros (b ∷ bytes) = elim (withoutZeros bytes) [ [] ↦ pick (eqb b 0) [] (b ∷ []) | c ∷ cs ↦ b ∷ c ∷ cs ]
+withoutZeros (b ∷ bytes) = beforeTrimmed b (withoutZeros bytes)
 
 -- the name and the list of a record
 abbrev pub nameIn : List ℕ → ℕ → List ℕ

@@ -15,7 +15,7 @@ use Rattle.scanner.specs.Scanning.{scan, symbolsOf}
 use Rattle.scanner.specs.declared.Class.{Class}
 use Rattle.scanner.specs.declared.Class.the-variants.{Atom, Quoted, At, LessThan, GreaterThan, Comma, Semicolon, Colon, Stray}
 use Rattle.grammar.specs.Grammar.{levels, begins}
-use Rattle.grammar.specs.Rfc733.{Derivation, sameClass}
+use Rattle.grammar.specs.Rfc733.{sameClass}
 use Rattle.plain.specs.Walking.{symbolText, after, afterAtom, afterComma, colonNext, walkText}
 use Rattle.plain.specs.declared.places.Place.{Place}
 use Rattle.plain.specs.declared.places.Place.the-variants.{Start, Bare, BareComma, Named, Typing, Word, Node, Closed, Parted}

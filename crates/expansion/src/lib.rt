@@ -1,22 +1,25 @@
 // Stored lists opened in place of the Includes of an address list.
-ghost use mathlib.Core.Path.{_≡_};
+//
+// One walk over symbols goes on through the stored lists, each of them as if it stood between two commas. No list is copied; the plain
+// text of one mailbox at a time is, to compare it with names. An opening calls the walk again, at most 64 deep.
 ghost use mathlib.Core.Bool.{true, false};
-ghost use lib.Dec.{leb};
-ghost use Rattle.octets.specs.Choice.{pick, both};
-ghost use Rattle.octets.specs.Numbers.{levelLimit, openingLimit, storeRecordSize};
-ghost use Rattle.addresses.specs.Within.{listWithin};
+ghost use mathlib.Core.Path.{_≡_};
 ghost use Prim.Native.Nat.{_+_, _*_, _-_, _≤_, _<_};
+ghost use lib.Dec.{leb};
 ghost use lib.ListN.{length, take};
+ghost use lib.Seq.{sets};
+ghost use Rattle.octets.specs.Choice.{pick, both};
 ghost use Rattle.octets.specs.Letters.{sameBytes};
+ghost use Rattle.octets.specs.Numbers.{levelLimit, openingLimit, storeRecordSize};
+ghost use Rattle.scanner.specs.declared.Class.the-variants.{Atom, Colon};
+ghost use Rattle.grammar.specs.Rfc733.{sameClass};
+ghost use Rattle.addresses.specs.Within.{listWithin};
+ghost use Rattle.plain.specs.Writing.{textLimit, writtenLimit};
 ghost use Rattle.expansion.specs.Store.{withoutZeros, nameIn, lowest as lowestNamed};
 ghost use Rattle.expansion.specs.Walk.{ends, opens as opensAddress, isTyping, heldBy, nothing, withWord, notWords, only, firstOf, sought, withList, withTyped, withoutOne, withoutTyped, innerAfter};
 ghost use Rattle.expansion.specs.Steps.{asRecord, asHeld, sortOf, symbolsFrom, Follows, LevelsAfter, skipTo, addressFrom, asPhase, OnlyIs, turnOf, namedIf, IncludeWordIs, IncludeIs, InTypedIs, OpenedIs, placeOf, levelsAround, joinedStage, openedStage, WriteOnIs, faultIn, OpeningIs, RecordReady, RecordWalked, WalkReady, TextWalked, BodyReady, BodyWalked, ListExpanded};
 ghost use Rattle.expansion.specs.Outcome.{Answered, expandOutcome};
 ghost use Rattle.expansion.specs.Promises.{Promises};
-ghost use lib.Seq.{sets};
-ghost use Rattle.scanner.specs.declared.Class.the-variants.{Atom, Colon};
-ghost use Rattle.grammar.specs.Rfc733.{sameClass};
-ghost use Rattle.plain.specs.Writing.{textLimit, writtenLimit};
 use octets::answers::Answer;
 use octets::classes::CLASSES;
 use octets::numbers::LEADS_NOWHERE;
@@ -30,77 +33,12 @@ use plain::places::Place;
 use scanner::Class;
 use scanner::Next;
 
+// ---- the store
+
 // A record of the store, or none.
 enum Record {
     Stored(usize),
     Nowhere,
-}
-
-// What an Include holds.
-enum Held {
-    // A mailbox.
-    Single,
-    // An angle list, from behind its "<".
-    Angled(usize),
-    Neither,
-}
-
-enum Sort {
-    Word,
-    At,
-    Less,
-    Other,
-}
-
-// Whether an address in a list ends before a symbol.
-fn ends_address(class: Class) -> bool
-    ensures { λ r. ⌜ r ≡ ends class ⌝ }
-{
-    match class {
-        Class::Atom => false,
-        Class::Quoted => false,
-        Class::At => false,
-        Class::LessThan => false,
-        Class::GreaterThan => true,
-        Class::Comma => true,
-        Class::Semicolon => true,
-        Class::Colon => false,
-        Class::Stray => false,
-    }
-}
-
-// Whether an address can begin at a place.
-fn opens(place: Place) -> bool
-    ensures { λ r. ⌜ r ≡ opensAddress place ⌝ }
-{
-    match place {
-        Place::Start => true,
-        Place::Bare => true,
-        Place::BareComma => true,
-        Place::Named => true,
-        Place::Typing => false,
-        Place::Word => false,
-        Place::Node => false,
-        Place::Closed => false,
-        Place::Parted => true,
-    }
-}
-
-// Whether a place is behind the atom of a typed address.
-fn is_typing(place: Place) -> bool
-    ensures { λ r. ⌜ r ≡ isTyping place ⌝ }
-{
-    match place {
-        Place::Start => false,
-        Place::Bare => false,
-        Place::BareComma => false,
-        Place::Named => false,
-        Place::Typing => true,
-        Place::Word => false,
-        Place::Node => false,
-        Place::Closed => false,
-        Place::Parted => false,
-    }
 }
 
 // The length of a name without the zeros at its end.
@@ -117,15 +55,21 @@ fn name_length(name: &[u8]) -> usize
     n
 }
 
-// Whether a record has a name.
+// Whether a record has a name. Most records differ early, so the zeros at the end are looked at last.
 fn has_name(store: &[u8], i: usize, name: &[u8]) -> bool
-    requires { ⌜ i * 512 + 512 ≤ length (now store) ⌝ }
+    requires { ⌜ i * storeRecordSize + storeRecordSize ≤ length (now store) ⌝ }
     ensures { λ r. ⌜ r ≡ sameBytes (nameIn (now (store .entry)) i) (now (name .entry)) ⌝ }
 {
     let at = i * STORE_RECORD_SIZE;
     let whole = &store[at..at + STORE_NAME_SIZE];
-    let n = name_length(whole);
-    octets::letters::same_bytes(&whole[..n], name)
+    let n = name.len();
+    if STORE_NAME_SIZE < n {
+        return false;
+    }
+    if octets::letters::same_bytes(&whole[..n], name) {
+        return name_length(whole) == n;
+    }
+    false
 }
 
 // The lowest record with a name.
@@ -143,6 +87,8 @@ fn lowest(store: &[u8], name: &[u8]) -> Record
     Record::Nowhere
 }
 
+// ---- levels
+
 // The levels open in a text: how many, and which of them are typed addresses, the innermost in the lowest bit.
 pub struct Levels {
     pub many: usize,
@@ -151,10 +97,10 @@ pub struct Levels {
 
 // One level more, of a list; there are never more than 64.
 fn with_list(levels: Levels) -> Levels
-    requires { ⌜ levels .many ≤ 64 ⌝ }
+    requires { ⌜ levels .many ≤ levelLimit ⌝ }
     ensures { λ r. ⌜ Follows levels r withList ⌝ }
 {
-    if levels.many == 64 {
+    if levels.many == LEVEL_LIMIT {
         return levels;
     }
     Levels {
@@ -187,6 +133,138 @@ fn without_one(levels: Levels) -> Levels
         many: levels.many - 1,
         typed: levels.typed / 2,
     }
+}
+
+// Typed addresses end with what they hold.
+fn without_typed(levels: Levels) -> Levels
+    ensures { λ r. ⌜ Follows levels r withoutTyped ⌝ }
+{
+    let mut many = levels.many;
+    let mut typed = levels.typed;
+    while 0 < many {
+        if typed % 2 == 0 {
+            return Levels { many, typed };
+        }
+        many -= 1;
+        typed /= 2;
+    }
+    Levels { many, typed }
+}
+
+// Whether a place is behind the atom of a typed address.
+fn is_typing(place: Place) -> bool
+    ensures { λ r. ⌜ r ≡ isTyping place ⌝ }
+{
+    match place {
+        Place::Start => false,
+        Place::Bare => false,
+        Place::BareComma => false,
+        Place::Named => false,
+        Place::Typing => true,
+        Place::Word => false,
+        Place::Node => false,
+        Place::Closed => false,
+        Place::Parted => false,
+    }
+}
+
+// The levels behind a symbol.
+fn levels_after(class: Class, place: Place, colon: bool, levels: Levels) -> Levels
+    requires { ⌜ levels .many ≤ levelLimit ⌝ }
+    ensures { λ r. ⌜ LevelsAfter class place colon levels r ⌝ }
+{
+    match class {
+        Class::Atom => {
+            if is_typing(plain::places::after_atom(place, colon)) {
+                return with_typed(levels);
+            }
+            levels
+        }
+        Class::Quoted => levels,
+        Class::At => levels,
+        Class::LessThan => with_list(levels),
+        Class::GreaterThan => without_one(without_typed(levels)),
+        Class::Comma => without_typed(levels),
+        Class::Semicolon => without_one(without_typed(levels)),
+        Class::Colon => {
+            if is_typing(place) {
+                return levels;
+            }
+            with_list(levels)
+        }
+        Class::Stray => levels,
+    }
+}
+
+// ---- what an Include leads to
+
+// Whether an address in a list ends before a symbol.
+fn ends_address(class: Class) -> bool
+    ensures { λ r. ⌜ r ≡ ends class ⌝ }
+{
+    match class {
+        Class::Atom => false,
+        Class::Quoted => false,
+        Class::At => false,
+        Class::LessThan => false,
+        Class::GreaterThan => true,
+        Class::Comma => true,
+        Class::Semicolon => true,
+        Class::Colon => false,
+        Class::Stray => false,
+    }
+}
+
+// The plain text of the address that starts at a position, as far as there is room: its length.
+fn address_text(classes: &[u8; 256], text: &[u8], at: usize, own: &mut [u8]) -> usize
+    requires { ⌜ length (now text) ≤ textLimit ⌝ }
+    ensures { λ r. ⌜ (r ≡ length (addressFrom (now (classes .entry)) (now (text .entry)) at)) × (now (own .exit) ≡ sets (now (own .entry)) 0 (addressFrom (now (classes .entry)) (now (text .entry)) at)) ⌝ }
+{
+    let mut n: usize = 0;
+    let mut place = Place::Start;
+    let mut coming = scanner::next_by(classes, text, at);
+    loop {
+        let Next::Found(class, first, end) = coming else {
+            return n;
+        };
+        if ends_address(class) {
+            return n;
+        }
+        coming = scanner::next_by(classes, text, end);
+        let colon = plain::is_colon(coming);
+        n = plain::write_symbol(classes, text, class, first, end, place, colon, own, n);
+        place = plain::places::after(class, place, colon);
+    }
+}
+
+// The lowest record whose name is the plain text of the address that starts at a position.
+fn named_by(classes: &[u8; 256], text: &[u8], at: usize, store: &[u8]) -> Record
+    requires { ⌜ length (now text) ≤ textLimit ⌝ }
+    ensures { λ r. ⌜ r ≡ asRecord (lowestNamed (now (store .entry)) (addressFrom (now (classes .entry)) (now (text .entry)) at)) ⌝ }
+{
+    let mut own: [u8; STORE_NAME_SIZE] = [0; STORE_NAME_SIZE];
+    let n = address_text(classes, text, at, &mut own);
+    if STORE_NAME_SIZE < n {
+        return Record::Nowhere;
+    }
+    lowest(store, &own[..n])
+}
+
+// What an Include holds.
+enum Held {
+    // A mailbox.
+    Single,
+    // An angle list, from behind its "<".
+    Angled(usize),
+    Neither,
+}
+
+// A symbol, as far as it tells what an Include holds: a word, "at", "<" or any other.
+enum Sort {
+    Word,
+    At,
+    Less,
+    Other,
 }
 
 // What a symbol is to what an Include holds.
@@ -224,117 +302,6 @@ fn held_at(classes: &[u8; 256], text: &[u8], at: usize) -> Held
     }
 }
 
-// Typed addresses end with what they hold.
-fn without_typed(levels: Levels) -> Levels
-    ensures { λ r. ⌜ Follows levels r withoutTyped ⌝ }
-{
-    let mut many = levels.many;
-    let mut typed = levels.typed;
-    while 0 < many {
-        if typed % 2 == 0 {
-            return Levels { many, typed };
-        }
-        many -= 1;
-        typed /= 2;
-    }
-    Levels { many, typed }
-}
-
-// The levels behind a symbol.
-fn levels_after(class: Class, place: Place, colon: bool, levels: Levels) -> Levels
-    requires { ⌜ levels .many ≤ 64 ⌝ }
-    ensures { λ r. ⌜ LevelsAfter class place colon levels r ⌝ }
-{
-    match class {
-        Class::Atom => {
-            if is_typing(plain::places::after_atom(place, colon)) {
-                return with_typed(levels);
-            }
-            levels
-        }
-        Class::Quoted => levels,
-        Class::At => levels,
-        Class::LessThan => with_list(levels),
-        Class::GreaterThan => without_one(without_typed(levels)),
-        Class::Comma => without_typed(levels),
-        Class::Semicolon => without_one(without_typed(levels)),
-        Class::Colon => {
-            if is_typing(place) {
-                return levels;
-            }
-            with_list(levels)
-        }
-        Class::Stray => levels,
-    }
-}
-
-// Whether an Include that is skipped ends before a symbol; inner: in its angle list.
-fn skip_ends(class: Class, inner: bool) -> bool
-    ensures { λ r. ⌜ r ≡ pick inner false (ends class) ⌝ }
-{
-    if inner {
-        return false;
-    }
-    ends_address(class)
-}
-
-// Whether what follows a symbol of an Include is in its angle list.
-fn inner_after(class: Class, inner: bool) -> bool
-    ensures { λ r. ⌜ r ≡ innerAfter class inner ⌝ }
-{
-    match class {
-        Class::Atom => inner,
-        Class::Quoted => inner,
-        Class::At => inner,
-        Class::LessThan => true,
-        Class::GreaterThan => false,
-        Class::Comma => inner,
-        Class::Semicolon => inner,
-        Class::Colon => inner,
-        Class::Stray => inner,
-    }
-}
-
-// Where the symbols of an Include end, from behind its second ":".
-fn include_end(classes: &[u8; 256], text: &[u8], at: usize) -> usize
-    ensures { λ r. ⌜ (symbolsFrom (now (classes .entry)) (now (text .entry)) r ≡ skipTo false (symbolsFrom (now (classes .entry)) (now (text .entry)) at)) × (at ≤ r) ⌝ }
-{
-    let mut p = at;
-    let mut inner = false;
-    loop {
-        let Next::Found(class, first, end) = scanner::next_by(classes, text, p) else {
-            return p;
-        };
-        if skip_ends(class, inner) {
-            return p;
-        }
-        inner = inner_after(class, inner);
-        p = end;
-    }
-}
-
-// The plain text of the address that starts at a position, as far as there is room: its length.
-fn address_text(classes: &[u8; 256], text: &[u8], at: usize, own: &mut [u8]) -> usize
-    requires { ⌜ length (now text) ≤ textLimit ⌝ }
-    ensures { λ r. ⌜ (r ≡ length (addressFrom (now (classes .entry)) (now (text .entry)) at)) × (now (own .exit) ≡ sets (now (own .entry)) 0 (addressFrom (now (classes .entry)) (now (text .entry)) at)) ⌝ }
-{
-    let mut n: usize = 0;
-    let mut place = Place::Start;
-    let mut coming = scanner::next_by(classes, text, at);
-    loop {
-        let Next::Found(class, first, end) = coming else {
-            return n;
-        };
-        if ends_address(class) {
-            return n;
-        }
-        coming = scanner::next_by(classes, text, end);
-        let colon = plain::is_colon(coming);
-        n = plain::write_symbol(classes, text, class, first, end, place, colon, own, n);
-        place = plain::places::after(class, place, colon);
-    }
-}
-
 // How far an address of an angle list is read.
 enum Phase {
     Nothing,
@@ -348,6 +315,7 @@ enum Only {
     Done(bool),
 }
 
+// A word in an address.
 fn with_word(phase: Phase) -> Phase
     ensures { λ r. ⌜ asPhase r ≡ withWord (asPhase phase) ⌝ }
 {
@@ -358,6 +326,7 @@ fn with_word(phase: Phase) -> Phase
     }
 }
 
+// Whether what was read may end: it is no name without nodes.
 fn not_words(phase: Phase) -> bool
     ensures { λ r. ⌜ r ≡ notWords (asPhase phase) ⌝ }
 {
@@ -368,6 +337,7 @@ fn not_words(phase: Phase) -> bool
     }
 }
 
+// A symbol of an angle list that is to hold mailboxes only.
 fn only_step(class: Class, phase: Phase) -> Only
     ensures { λ r. ⌜ OnlyIs class phase r ⌝ }
 {
@@ -409,19 +379,6 @@ fn only_mailboxes(classes: &[u8; 256], text: &[u8], at: usize) -> bool
     }
 }
 
-// The lowest record whose name is the plain text of the address that starts at a position.
-fn named_by(classes: &[u8; 256], text: &[u8], at: usize, store: &[u8]) -> Record
-    requires { ⌜ length (now text) ≤ textLimit ⌝ }
-    ensures { λ r. ⌜ r ≡ asRecord (lowestNamed (now (store .entry)) (addressFrom (now (classes .entry)) (now (text .entry)) at)) ⌝ }
-{
-    let mut own: [u8; 64] = [0; 64];
-    let n = address_text(classes, text, at, &mut own);
-    if STORE_NAME_SIZE < n {
-        return Record::Nowhere;
-    }
-    lowest(store, &own[..n])
-}
-
 // What a symbol is among the mailboxes of an angle list.
 enum Turn {
     Closes,
@@ -429,6 +386,7 @@ enum Turn {
     Within,
 }
 
+// What a symbol is among them.
 fn turn_of(class: Class) -> Turn
     ensures { λ r. ⌜ r ≡ turnOf class ⌝ }
 {
@@ -501,7 +459,7 @@ fn leads_to(classes: &[u8; 256], text: &[u8], at: usize, store: &[u8]) -> Record
     }
 }
 
-// ---- an Include
+// ---- where an Include begins and ends
 
 // An Include, from behind its second ":"; or none.
 enum Include {
@@ -509,6 +467,7 @@ enum Include {
     Otherwise,
 }
 
+// Whether a symbol is ":".
 fn is_colon(class: Class) -> bool
     ensures { λ r. ⌜ r ≡ sameClass Colon class ⌝ }
 {
@@ -518,12 +477,30 @@ fn is_colon(class: Class) -> bool
     }
 }
 
+// Whether a symbol is an atom.
 fn is_atom(class: Class) -> bool
     ensures { λ r. ⌜ r ≡ sameClass Atom class ⌝ }
 {
     match class {
         Class::Atom => true,
         _ => false,
+    }
+}
+
+// Whether an address can begin at a place.
+fn opens(place: Place) -> bool
+    ensures { λ r. ⌜ r ≡ opensAddress place ⌝ }
+{
+    match place {
+        Place::Start => true,
+        Place::Bare => true,
+        Place::BareComma => true,
+        Place::Named => true,
+        Place::Typing => false,
+        Place::Word => false,
+        Place::Node => false,
+        Place::Closed => false,
+        Place::Parted => true,
     }
 }
 
@@ -562,6 +539,53 @@ fn include_at(classes: &[u8; 256], text: &[u8], class: Class, place: Place, end:
     include_word(classes, text, end)
 }
 
+// Whether an Include that is skipped ends before a symbol; inner: in its angle list.
+fn skip_ends(class: Class, inner: bool) -> bool
+    ensures { λ r. ⌜ r ≡ pick inner false (ends class) ⌝ }
+{
+    if inner {
+        return false;
+    }
+    ends_address(class)
+}
+
+// Whether what follows a symbol of an Include is in its angle list.
+fn inner_after(class: Class, inner: bool) -> bool
+    ensures { λ r. ⌜ r ≡ innerAfter class inner ⌝ }
+{
+    match class {
+        Class::Atom => inner,
+        Class::Quoted => inner,
+        Class::At => inner,
+        Class::LessThan => true,
+        Class::GreaterThan => false,
+        Class::Comma => inner,
+        Class::Semicolon => inner,
+        Class::Colon => inner,
+        Class::Stray => inner,
+    }
+}
+
+// Where the symbols of an Include end, from behind its first ":" or further on.
+fn include_end(classes: &[u8; 256], text: &[u8], at: usize) -> usize
+    ensures { λ r. ⌜ (symbolsFrom (now (classes .entry)) (now (text .entry)) r ≡ skipTo false (symbolsFrom (now (classes .entry)) (now (text .entry)) at)) × (at ≤ r) ⌝ }
+{
+    let mut p = at;
+    let mut inner = false;
+    loop {
+        let Next::Found(class, first, end) = scanner::next_by(classes, text, p) else {
+            return p;
+        };
+        if skip_ends(class, inner) {
+            return p;
+        }
+        inner = inner_after(class, inner);
+        p = end;
+    }
+}
+
+// ---- openings
+
 // Whether the innermost level is a typed address.
 fn in_typed(levels: Levels) -> bool
     ensures { λ r. ⌜ InTypedIs levels r ⌝ }
@@ -586,31 +610,61 @@ fn opened_by(
     leads_to(classes, text, behind, store)
 }
 
-// ---- the walk
-
-// What a text stands in: it is the body, or the list of an Include of the body at a position, with so many levels open around it.
-enum Around {
-    Body,
-    Inside(usize, usize),
-}
-
 // Where an Include stands: the position in the body that counts for it, and the levels open around it.
 pub struct Spot {
     pub position: usize,
     pub depth: usize,
 }
 
-// How far a walk has come: the place in the text that is written, the openings, and the length of that text.
-pub struct Stage {
-    pub place: Place,
-    pub openings: usize,
-    pub written: usize,
+// What comes of a record that an Include leads to: it is opened; or the number and the position of the fault.
+enum Opening {
+    Opens,
+    Faulty(u8, usize),
 }
 
-// The end of a walk; or the number, the position and the openings of a fault.
-enum Walked {
-    Went(Stage),
-    Stopped(u8, usize, usize),
+// Whether a text is, whole, an address list whose levels and so many around it are at most 64 together.
+fn fits_around(list: &[u8], depth: usize) -> bool
+    ensures { λ r. ⌜ r ≡ both (leb depth levelLimit) (listWithin (levelLimit - depth) (now (list .entry))) ⌝ }
+{
+    if LEVEL_LIMIT < depth {
+        return false;
+    }
+    addresses::is_list_within(list, LEVEL_LIMIT - depth)
+}
+
+// The fault of a record's list that does not fit: its own number with the record's; or 10.
+fn fault_of(list: &[u8], i: usize, position: usize) -> Opening
+    ensures { λ r. ⌜ r ≡ faultIn (now (list .entry)) i position ⌝ }
+{
+    let mut none: [u8; 1] = [0; 1];
+    match addresses::read_addresses(list, 0, list.len(), &mut none[..0]) {
+        Answer::Refused(number, place) => Opening::Faulty(number, i),
+        _ => Opening::Faulty(TOO_MANY_LEVELS, position),
+    }
+}
+
+// Whether a record can be opened in place of an Include, after so many openings.
+fn opening_of(store: &[u8], i: usize, spot: Spot, openings: usize) -> Opening
+    requires { ⌜ i * storeRecordSize + storeRecordSize ≤ length (now store) ⌝ }
+    ensures { λ r. ⌜ OpeningIs (now (store .entry)) i (spot .position) (spot .depth) openings r ⌝ }
+{
+    if OPENING_LIMIT <= openings {
+        return Opening::Faulty(TOO_MANY_OPENINGS, spot.position);
+    }
+    let at = i * STORE_RECORD_SIZE;
+    let list = &store[at + STORE_NAME_SIZE..at + STORE_RECORD_SIZE];
+    if fits_around(list, spot.depth) {
+        return Opening::Opens;
+    }
+    fault_of(list, i, spot.position)
+}
+
+// ---- the walk
+
+// What a text stands in: it is the body, or the list of an Include of the body at a position, with so many levels open around it.
+enum Around {
+    Body,
+    Inside(usize, usize),
 }
 
 // The position in the body that counts for an Include which starts at a position of a text.
@@ -644,6 +698,13 @@ fn spot_of(around: Around, start: usize, levels: Levels) -> Spot
     }
 }
 
+// How far a walk has come: the place in the text that is written, the openings, and the length of that text.
+pub struct Stage {
+    pub place: Place,
+    pub openings: usize,
+    pub written: usize,
+}
+
 // A stage, as a comma leaves it.
 fn joined(stage: Stage) -> Stage
     ensures { λ r. ⌜ r ≡ joinedStage stage ⌝ }
@@ -656,7 +717,7 @@ fn joined(stage: Stage) -> Stage
     }
 }
 
-// .. with one opening more.
+// A stage, as a comma leaves it, with one opening more.
 fn opened(stage: Stage) -> Stage
     requires { ⌜ stage .openings < openingLimit ⌝ }
     ensures { λ r. ⌜ r ≡ openedStage stage ⌝ }
@@ -701,47 +762,10 @@ fn write_on(
     }
 }
 
-// What comes of a record that an Include leads to: it is opened; or the number and the position of the fault.
-enum Opening {
-    Opens,
-    Faulty(u8, usize),
-}
-
-// Whether a text is, whole, an address list whose levels and so many around it are at most 64 together.
-fn fits_around(list: &[u8], depth: usize) -> bool
-    ensures { λ r. ⌜ r ≡ both (leb depth levelLimit) (listWithin (levelLimit - depth) (now (list .entry))) ⌝ }
-{
-    if LEVEL_LIMIT < depth {
-        return false;
-    }
-    addresses::is_list_within(list, LEVEL_LIMIT - depth)
-}
-
-// The fault of a record's list that does not fit: its own number with the record's; or 10.
-fn fault_of(list: &[u8], i: usize, position: usize) -> Opening
-    ensures { λ r. ⌜ r ≡ faultIn (now (list .entry)) i position ⌝ }
-{
-    let mut none: [u8; 1] = [0; 1];
-    match addresses::read_addresses(list, 0, list.len(), &mut none[..0]) {
-        Answer::Refused(number, place) => Opening::Faulty(number, i),
-        _ => Opening::Faulty(TOO_MANY_LEVELS, position),
-    }
-}
-
-// Whether a record can be opened in place of an Include, after so many openings.
-fn opening_of(store: &[u8], i: usize, spot: Spot, openings: usize) -> Opening
-    requires { ⌜ i * storeRecordSize + storeRecordSize ≤ length (now store) ⌝ }
-    ensures { λ r. ⌜ OpeningIs (now (store .entry)) i (spot .position) (spot .depth) openings r ⌝ }
-{
-    if OPENING_LIMIT <= openings {
-        return Opening::Faulty(TOO_MANY_OPENINGS, spot.position);
-    }
-    let at = i * STORE_RECORD_SIZE;
-    let list = &store[at + STORE_NAME_SIZE..at + STORE_RECORD_SIZE];
-    if fits_around(list, spot.depth) {
-        return Opening::Opens;
-    }
-    fault_of(list, i, spot.position)
+// The end of a walk; or the number, the position and the openings of a fault.
+enum Walked {
+    Went(Stage),
+    Stopped(u8, usize, usize),
 }
 
 // Walk the list of a record in place of an Include.
@@ -811,6 +835,8 @@ fn walk(
         }
     }
 }
+
+// ---- the entry point
 
 // Walk the body of a message that ends with the text, from its start on.
 fn walk_body(classes: &[u8; 256], store: &[u8], text: &[u8], start: usize, out: &mut [u8]) -> Walked

@@ -7,13 +7,6 @@ use Rattle.plain.proofs.WalkSteps.{behind, behind-less, none-comes}
 use Rattle.expansion.proofs.AddressTexts.{Coming, coming-first, comes, coming-none, coming-end, coming-next}
 use Rattle.expansion.proofs.address_text.Statement.{statement}
 use Rattle.expansion.proofs.address_text.Tie as tie
-use Rattle.expansion.proofs.address_text.Reads as reads
-use Rattle.expansion.proofs.address_text.Lts as lts
-use Rattle.expansion.proofs.ends_address.Reads as ends-address-reads
-use Rattle.plain.proofs.is_colon.Reads as is-colon-reads
-use Rattle.plain.proofs.places.after.Reads as after-reads
-use Rattle.plain.proofs.write_symbol.Reads as write-symbol-reads
-use Rattle.scanner.proofs.next_by.Reads as next-by-reads
 
 abbrev Inv-loop : tie.InvT-loop
 Inv-loop classes text at own₀ n₀ place₀ coming₀ own n place coming = Coming classes text at own₀ own n place coming
@@ -21,61 +14,47 @@ Inv-loop classes text at own₀ n₀ place₀ coming₀ own n place coming = Com
 abbrev μ-loop : tie.MeasureT-loop
 μ-loop classes text at own₀ n₀ place₀ coming₀ own n place coming = behind (length text) coming
 
--- src/lib.rt:310:9
 next-by-requires : tie.Need-next-by-requires Inv-loop μ-loop
 next-by-requires c κs = search needs
 
--- src/lib.rt:311:5
 loop-holds : tie.Need-loop-holds Inv-loop μ-loop
 loop-holds c = let a = c .before .before .before .args in coming-first (a .classes .now) (a .text .now) (a .at) (a .own .now) (c .next-by .ensures)
 
--- src/lib.rt:312:25
 enum-known-coming : tie.Need-enum-known-coming Inv-loop μ-loop
 enum-known-coming c = search needs
 
--- src/lib.rt:313:13
 same-length : tie.Need-same-length Inv-loop μ-loop
 same-length c = c .before .loop .inv .same-length
 
--- src/lib.rt:313:13
 returns : tie.Need-returns Inv-loop μ-loop
 returns c = coming-none (c .before .loop .inv) (none-comes (c .before .loop .coming) (c .match .keys2))
 
--- src/lib.rt:315:12
 ends-address-requires : tie.Need-ends-address-requires Inv-loop μ-loop
 ends-address-requires c κs = search needs
 
--- src/lib.rt:316:13
 same-length-2 : tie.Need-same-length-2 Inv-loop μ-loop
 same-length-2 c = c .before .before .before .before .before .loop .inv .same-length
 
--- src/lib.rt:316:13
 returns-2 : tie.Need-returns-2 Inv-loop μ-loop
 returns-2 c = coming-end (c .before .before .before .before .before .loop .inv) (c .before .before .before .coming .given .1) (c .before .ends-address .ensures) (c .if1 .taken)
 
--- src/lib.rt:318:9
 next-by-requires-2 : tie.Need-next-by-requires-2 Inv-loop μ-loop
 next-by-requires-2 c κs = search needs
 
--- src/lib.rt:319:13
 is-colon-requires : tie.Need-is-colon-requires Inv-loop μ-loop
 is-colon-requires c κs = search needs
 
--- src/lib.rt:320:9
 write-symbol-requires : tie.Need-write-symbol-requires Inv-loop μ-loop
 write-symbol-requires c κs = search needs
 
--- src/lib.rt:321:9
 after-requires : tie.Need-after-requires Inv-loop μ-loop
 after-requires c κs = search needs
 
--- src/lib.rt:311:5
 loop-less : tie.Need-loop-less Inv-loop μ-loop
 loop-less c =
     let e = c .before .before .before .before .before .before .before .before .before .before .coming .given .1 in
     behind-less (comes (c .before .before .before .before .before .before .before .before .before .before .before .before .loop .inv) e) e (c .before .before .before .before .before .before .next-by2 .ensures)
 
--- src/lib.rt:311:5
 loop-again : tie.Need-loop-again Inv-loop μ-loop
 loop-again c =
     let p = c .before .before .before .write-symbol in

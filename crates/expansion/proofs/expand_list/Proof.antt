@@ -1,5 +1,4 @@
 -- `expansion::expand_list` meets its contract. Assumes nothing.
-use Rattle.expansion.specs.Steps.{BodyWent}
 use Rattle.expansion.proofs.EntryLaws.{list-stopped, list-too-long, list-fitting}
 use borrow.Author.Needs.{needs}
 use Rattle.expansion.proofs.expand_list.Statement.{statement}

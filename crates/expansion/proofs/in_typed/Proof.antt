@@ -1,5 +1,4 @@
 -- `expansion::in_typed` meets its contract. Assumes nothing.
-use native.Mathlib.Omega.{arith}
 use borrow.Author.Tests.{eq-eqb, ne-eqb}
 use Rattle.expansion.proofs.IncludeLaws.{typed-odd}
 use Rattle.expansion.proofs.in_typed.Statement.{statement}

@@ -2,7 +2,6 @@
 use mathlib.Core.Path.{ap}
 use borrow.Author.Needs.{needs}
 use Rattle.plain.specs.declared.places.Place.{Place}
-use Rattle.expansion.specs.declared.Stage.{Stage}
 use Rattle.expansion.proofs.joined.Statement.{statement}
 use Rattle.expansion.proofs.joined.Tie as tie
 

@@ -2,7 +2,6 @@
 use Prim.Native.Nat.{_+_}
 use mathlib.Core.Path.{ap}
 use Rattle.plain.specs.declared.places.Place.{Place}
-use Rattle.expansion.specs.declared.Stage.{Stage}
 use borrow.Author.Needs.{needs}
 use Rattle.expansion.proofs.opened.Statement.{statement}
 use Rattle.expansion.proofs.opened.Tie as tie

@@ -3,22 +3,16 @@ use native.Mathlib.Omega.{arith}
 use Rattle.plain.proofs.CanWrite.{no-symbol, not-inside, not-short, all-but-low}
 use Rattle.plain.proofs.can_write.Statement.{statement}
 use Rattle.plain.proofs.can_write.Tie as tie
-use Rattle.plain.proofs.can_write.Reads as reads
-use Rattle.plain.proofs.can_write.Lts as lts
 
--- src/lib.rt:242:9
 returns : tie.Need-returns
 returns c = let a = c .before .args in no-symbol (a .text .now) (a .start) (a .end) (a .n) (omega arith)
 
--- src/lib.rt:245:9
 returns-2 : tie.Need-returns-2
 returns-2 c = let a = c .before .before .args in not-inside (a .text .now) (a .start) (a .end) (a .n) (omega arith) (omega arith)
 
--- src/lib.rt:248:9
 returns-3 : tie.Need-returns-3
 returns-3 c = let a = c .before .before .before .args in not-short (a .text .now) (a .start) (a .end) (a .n) (omega arith) (omega arith) (omega arith)
 
--- src/lib.rt:238:1
 returns-4 : tie.Need-returns-4
 returns-4 c = let a = c .before .before .before .args in all-but-low (a .text .now) (a .start) (a .end) (a .n) (omega arith) (omega arith) (omega arith)
 

@@ -1,6 +1,6 @@
 -- `plain::write_plain` meets its contract: the reader's answer comes first. Assumes nothing.
 use native.Mathlib.Omega.{arith}
-use mathlib.Core.Path.{_≡_, sym}
+use mathlib.Core.Path.{sym}
 use lib.Seq.{length-take-le}
 use Rattle.octets.specs.Classes.{classOf, classTable}
 use Rattle.octets.proofs.Parts.{no-front}

@@ -5,31 +5,22 @@ use Rattle.plain.proofs.CanWrite.{can-written}
 use borrow.Author.Needs.{needs}
 use Rattle.plain.proofs.write_symbol.Statement.{statement}
 use Rattle.plain.proofs.write_symbol.Tie as tie
-use Rattle.plain.proofs.write_symbol.Reads as reads
-use Rattle.plain.proofs.write_symbol.Lts as lts
-use Rattle.plain.proofs.can_write.Reads as can-write-reads
-use Rattle.plain.proofs.put_symbol.Reads as put-symbol-reads
 
--- src/lib.rt:267:8
 can-write-requires : tie.Need-can-write-requires
 can-write-requires c κs = search needs
 
--- src/lib.rt:268:9
 put-symbol-requires : tie.Need-put-symbol-requires
 put-symbol-requires c κs =
     let a = c .before .before .before .before .before .args in
     let w = can-written (a .text .now) (a .start) (a .end) (a .n) (sym (c .before .before .can-write .ensures) ∙ c .before .if1 .taken) in
     (w .starts, w .inside, omega (arith, w .short, w .low))
 
--- src/lib.rt:268:9
 same-length : tie.Need-same-length
 same-length c = search needs
 
--- src/lib.rt:268:9
 returns : tie.Need-returns
 returns c = rw (sym (c .before .before .before .before .before .can-write .ensures) ∙ c .before .before .before .before .if1 .taken) (c .before .before .put-symbol .ensures)
 
--- src/lib.rt:254:1
 returns-2 : tie.Need-returns-2
 returns-2 c = rw (sym (c .before .can-write .ensures) ∙ c .if1 .left) (record { same = λ rest. refl; count = λ rest. refl }, omega arith)
 
