@@ -13,7 +13,7 @@ use Rattle.grammar.specs.Language.{positionOf}
 use Rattle.grammar.specs.Records.{meaningOf, nameOf}
 use Rattle.grammar.specs.Rfc733.{Derivation, kindNumber, include, postal, otherTyped}
 use Rattle.addresses.specs.Outcome.{bodyRead}
-use Rattle.plain.specs.Meaning.{Addresses, noAddress, andAddress, address, wordsOf, nodesOf, addressesAfter}
+use Rattle.plain.specs.Meaning.{Addresses, noAddress, andAddress, addressOf, addressesAfter}
 use Rattle.expansion.specs.Store.{leadsTo, listIn}
 
 -- ---- expansion so far
@@ -46,7 +46,8 @@ module _ (store : List ℕ) where
         | some i ↦ opening i place depth before openings
       ]
 
-  -- addresses, and then those of a row, expanded; `placeOf` tells the position that counts for an Include which starts at a position
+  -- addresses, and then those of a row, expanded, with so many levels open around it; `placeOf` tells the position that counts for an
+  -- Include which starts at a position
   abbrev pub expandRow : Opening → (ℕ → ℕ) → Bool → ℕ → Derivation → Addresses → ℕ → Expansion
   expandRow opening placeOf typed depth nil before openings = reached before openings
   expandRow opening placeOf typed depth (leaf x row) before openings = expandRow opening placeOf typed depth row before openings
@@ -55,19 +56,18 @@ module _ (store : List ℕ) where
       (elim (rule .makes) [
         | none ↦ expandRow opening placeOf typed depth parts before openings
         | some makes ↦
-            let name = nameOf (makes .name) parts in
-            let kind = makes .kind (meaningOf name) in
+            let kind = makes .kind (meaningOf (nameOf (makes .name) parts)) in
             pick (eqb kind (kindNumber include))
             (expandInclude opening typed (placeOf (positionOf 0 (yield parts))) depth (addressesAfter noAddress parts) before openings)
             (andThen (expandRow opening placeOf (otherType kind) (depth + pick (rule .opens) 1 0) parts noAddress openings)
-            (λ members openings′. reached (andAddress before (address kind (wordsOf name) (nodesOf kind parts) members)) openings′))
+            (λ members openings′. reached (andAddress before (addressOf makes parts members)) openings′))
       ])
       (λ before′ openings′. expandRow opening placeOf typed depth row before′ openings′)
 
   -- ---- stored lists
 
-  -- a stored list that is read: refused gives its own number and the record's; the levels open around it and its own may not pass 64
-  -- together; else its addresses stand in place of the Include, one opening more
+  -- a stored list, as a message of its own: refused gives its own number and the record's; its levels and those open around it may not
+  -- pass 64 together; else its addresses stand in place of the Include, one opening more
   abbrev pub expandStored : Opening → ℕ → ℕ → ℕ → Addresses → ℕ → Expansion
   expandStored opening i place depth before openings =
       let list = listIn store i in
@@ -75,8 +75,8 @@ module _ (store : List ℕ) where
       (λ k. pick (ltb levelLimit (depth + levels k)) (stopped tooManyLevels place openings) (expandRow opening (λ start. place) false depth k before (suc openings)))
       list 0 (length list)
 
-  -- the opening of a record, where at most so many openings may lie in each other. Those around it are all counted,
-  -- so that bound never stops what the count does not
+  -- the opening of a record, after at most 64 openings, of which at most 64 lie in each other; a further one is 20. Those around it
+  -- are all counted, so it is the count that stops
   abbrev pub openedWithin : ℕ → ℕ → ℕ → ℕ → Addresses → ℕ → Expansion
   openedWithin zero i place depth before openings = stopped tooManyOpenings place openings
   openedWithin (suc deep) i place depth before openings =

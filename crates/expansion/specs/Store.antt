@@ -25,10 +25,11 @@ abbrev pub withoutZeros : List ℕ → List ℕ
 withoutZeros [] = []
 withoutZeros (b ∷ bytes) = beforeTrimmed b (withoutZeros bytes)
 
--- the name and the list of a record
+-- the name of a record, without the zeros at its end
 abbrev pub nameIn : List ℕ → ℕ → List ℕ
 nameIn store i = withoutZeros (part store (i * storeRecordSize) (i * storeRecordSize + storeNameSize))
 
+-- the list of a record, whole
 abbrev pub listIn : List ℕ → ℕ → List ℕ
 listIn store i = part store (i * storeRecordSize + storeNameSize) (i * storeRecordSize + storeRecordSize)
 
@@ -37,15 +38,17 @@ abbrev pub firstNamed : ℕ → List ℕ → List ℕ → ℕ → Option ℕ
 firstNamed zero store name i = none
 firstNamed (suc many) store name i = pick (sameBytes (nameIn store i) name) (some i) (firstNamed many store name (suc i))
 
--- the lowest record with this name; a tail short of a record is none
+-- the lowest record with this name; a tail short of a record is ignored
 abbrev pub lowest : List ℕ → List ℕ → Option ℕ
 lowest store name = firstNamed (roomFor storeRecordSize store) store name 0
 
 -- ---- what an Include leads to
 
+-- an address is a mailbox
 abbrev pub isMailbox : Address → Bool
 isMailbox (address kind name nodes members) = eqb kind (kindNumber mailbox)
 
+-- addresses are mailboxes, each of them
 abbrev pub onlyMailboxes : Addresses → Bool
 onlyMailboxes noAddress = true
 onlyMailboxes (andAddress before last) = both (onlyMailboxes before) (isMailbox last)
@@ -64,7 +67,7 @@ firstStored store (andAddress before last) = orElse (firstStored store before) (
 abbrev pub named : Address → Addresses
 named (address kind name nodes members) = pick (eqb kind (kindNumber angleList)) members (andAddress noAddress (address kind name nodes members))
 
--- the record that an Include with this in it leads to: it holds a mailbox or an angle list of mailboxes, and nothing else
+-- the record that an Include with this in it leads to, if it holds a mailbox or an angle list of mailboxes
 abbrev pub leadsTo : List ℕ → Addresses → Option ℕ
 leadsTo store noAddress = none
 leadsTo store (andAddress before held) = pick (onlyMailboxes (named held)) (firstStored store (named held)) none
