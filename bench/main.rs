@@ -21,6 +21,11 @@ const DATES_AT_ONCE: usize = 256;
 // The first calls of a turn find a heap and caches that others left behind.
 const CALLS_IN_A_TURN: usize = 4;
 
+// A call that seeks names in a large store takes as long as thousands of others, so openings are timed by themselves.
+const OPENINGS_SHARE: u64 = 2;
+
+const STORE_RECORD: usize = 512;
+
 // A reader at work on an input.
 struct Task<'a> {
     input: &'a Input,
@@ -36,7 +41,7 @@ impl Task<'_> {
 
     // The nanoseconds of a call.
     fn time(&self, desk: &mut Desk) -> f64 {
-        desk.lay(&self.input.text);
+        desk.lay(self.input);
         let start = Instant::now();
         for _ in 0..self.calls() - 1 {
             (self.read)(desk);
@@ -49,7 +54,14 @@ impl Task<'_> {
 
     fn row(&self, cost: f64) -> Row {
         let input = self.input;
-        Row { work: input.work, bytes: input.text.len(), addresses: input.addresses, reader: self.reader, cost }
+        Row {
+            work: input.work,
+            bytes: input.text.len(),
+            stored: input.store.len() / STORE_RECORD,
+            addresses: input.addresses,
+            reader: self.reader,
+            cost,
+        }
     }
 }
 
@@ -59,15 +71,20 @@ fn check_mailboxes(task: &Task, desk: &mut Desk) {
     if !matches!(task.input.work, Work::Common(_)) || !WITH_RECORDS.contains(&task.reader) {
         return;
     }
-    desk.lay(&task.input.text);
+    desk.lay(task.input);
     let records = (task.read)(desk);
     let mailboxes = desk.table.chunks(12).take(records).filter(|record| record[0] == KIND_MAILBOX).count();
     assert_eq!(mailboxes, task.input.addresses, "mailboxes by {}", task.reader);
 }
 
-fn times(tasks: &[Task], seconds: u64) {
+// The tasks of lists and dates, and those of openings, which come last.
+fn parted<'a, 'b>(tasks: &'a [Task<'b>]) -> (&'a [Task<'b>], &'a [Task<'b>]) {
+    tasks.split_at(tasks.partition_point(|task| !matches!(task.input.work, Work::Openings(_))))
+}
+
+// What each task takes at best, in so many seconds.
+fn best(tasks: &[Task], seconds: u64) -> Vec<Row> {
     let mut desk = Desk::new();
-    tasks.iter().for_each(|task| check_mailboxes(task, &mut desk));
     let mut least = vec![f64::MAX; tasks.len()];
     let mut rounds = 0;
     let end = Instant::now() + Duration::from_secs(seconds);
@@ -77,12 +94,20 @@ fn times(tasks: &[Task], seconds: u64) {
         }
         rounds += 1;
     }
-    let rows: Vec<Row> = tasks.iter().zip(least).map(|(task, cost)| task.row(cost)).collect();
     println!("Best of {rounds} rounds; in each round every reader reads every input {CALLS_IN_A_TURN} times in turn.\n");
+    tasks.iter().zip(least).map(|(task, cost)| task.row(cost)).collect()
+}
+
+fn times(tasks: &[Task], seconds: u64) {
+    let (lists, openings) = parted(tasks);
+    lists.iter().for_each(|task| check_mailboxes(task, &mut Desk::new()));
+    let rows = best(lists, seconds);
     report::table(&rows, Cost::Nanoseconds);
     report::growth(&rows);
     report::plot(&rows);
     report::targets(&rows);
+    println!("\nOpening stored lists:\n");
+    report::openings(&best(openings, seconds / OPENINGS_SHARE), Cost::Nanoseconds);
 }
 
 // Callgrind counts inside this function alone.
@@ -96,9 +121,9 @@ pub fn counted(read: Read, desk: &mut Desk) -> usize {
 fn counts(tasks: &[Task]) {
     let mut desk = Desk::new();
     for task in tasks {
-        desk.lay(&task.input.text);
+        desk.lay(task.input);
         (task.read)(&mut desk);
-        desk.lay(&task.input.text);
+        desk.lay(task.input);
         assert_eq!(counted(task.read, &mut desk), task.found);
     }
 }
@@ -108,13 +133,17 @@ fn counted_table(tasks: &[Task], file: &str) {
     let counts: Vec<f64> = text.lines().map(|line| line.parse().expect("a count")).collect();
     assert_eq!(counts.len(), tasks.len(), "one count for each reader and input");
     let rows: Vec<Row> = tasks.iter().zip(counts).map(|(task, cost)| task.row(cost)).collect();
-    report::table(&rows, Cost::Instructions);
-    report::growth(&rows);
+    let (rows, openings) = rows.split_at(parted(tasks).0.len());
+    report::table(rows, Cost::Instructions);
+    report::growth(rows);
+    println!("\nOpening stored lists:\n");
+    report::openings(openings, Cost::Instructions);
 }
 
 fn main() {
     let words: Vec<String> = std::env::args().skip(1).collect();
-    let inputs: Vec<Input> = Work::all()
+    let inputs: Vec<Input> = [Work::all(), Work::openings()]
+        .concat()
         .iter()
         .flat_map(|work| work.sizes().iter().map(|size| inputs::input(*work, *size)))
         .collect();

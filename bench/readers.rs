@@ -2,10 +2,11 @@
 use crate::inputs::{Input, Work};
 use crate::reader;
 
-// A fresh copy of an input, with a NUL behind it, and a table to write into.
+// A fresh copy of an input, with a NUL behind its text, and a table to write into.
 pub struct Desk {
     pub text: Vec<u8>,
     pub length: usize,
+    pub store: Vec<u8>,
     pub table: Vec<u8>,
 }
 
@@ -14,14 +15,14 @@ const TABLE: usize = 12 * 16_384;
 
 impl Desk {
     pub fn new() -> Desk {
-        Desk { text: vec![], length: 0, table: vec![0; TABLE] }
+        Desk { text: vec![], length: 0, store: vec![], table: vec![0; TABLE] }
     }
 
-    pub fn lay(&mut self, text: &[u8]) {
-        self.text.clear();
-        self.text.extend_from_slice(text);
+    pub fn lay(&mut self, input: &Input) {
+        self.text.clone_from(&input.text);
         self.text.push(0);
-        self.length = text.len();
+        self.length = input.text.len();
+        self.store.clone_from(&input.store);
     }
 }
 
@@ -43,6 +44,7 @@ mod rfc733 {
         pub fn rfc733_touch(m: *const u8, n: usize, start: usize, end: usize, place: usize, path: *mut u64, room: usize, told: *mut u64, five: usize);
         pub fn rfc733_date(m: *const u8, n: usize, start: usize, end: usize, told: *mut u64, three: usize, value: *mut i64);
         pub fn rfc733_plain(m: *const u8, n: usize, start: usize, end: usize, text: *mut u8, room: usize, told: *mut u64, three: usize);
+        pub fn rfc733_expand(m: *const u8, n: usize, start: usize, end: usize, store: *const u8, size: usize, text: *mut u8, room: usize, told: *mut u64, four: usize);
     }
 }
 
@@ -60,6 +62,14 @@ macro_rules! proved {
 proved!(proved_addresses, rfc733_addresses);
 proved!(proved_by_table, rfc733_addresses_by_table);
 proved!(proved_plain, rfc733_plain);
+
+// The length of the text, or the number of the refusal.
+fn proved_expand(desk: &mut Desk) -> usize {
+    let (n, size, room, mut told) = (desk.length, desk.store.len(), desk.table.len(), [0u64; 4]);
+    let (text, store, table) = (desk.text.as_ptr(), desk.store.as_ptr(), desk.table.as_mut_ptr());
+    unsafe { rfc733::rfc733_expand(text, n, 0, n, store, size, table, room, told.as_mut_ptr(), 4) };
+    (told[0] + told[2]) as usize
+}
 
 fn proved_touch(desk: &mut Desk) -> usize {
     let (n, mut path, mut told) = (desk.length, [0u64; 65], [0u64; 5]);
@@ -85,6 +95,11 @@ fn independent_addresses(desk: &mut Desk) -> usize {
 
 fn independent_plain(desk: &mut Desk) -> usize {
     reader::plain(&desk.text[..desk.length], 0, desk.length, &mut desk.table).count as usize
+}
+
+fn independent_expand(desk: &mut Desk) -> usize {
+    let (told, _) = reader::expand(&desk.text[..desk.length], 0, desk.length, &desk.store, &mut desk.table);
+    (told.number + told.count) as usize
 }
 
 fn independent_touch(desk: &mut Desk) -> usize {
@@ -153,6 +168,7 @@ fn ours(work: Work) -> Vec<(&'static str, Read)> {
             vec![(PROVED, proved_addresses), (BY_TABLE, proved_by_table), (INDEPENDENT, independent_addresses)]
         }
         Work::Plain => vec![(PROVED, proved_plain), (INDEPENDENT, independent_plain)],
+        Work::Expand | Work::Openings(_) => vec![(PROVED, proved_expand), (INDEPENDENT, independent_expand)],
         Work::Touch => vec![(PROVED, proved_touch), (INDEPENDENT, independent_touch)],
         Work::Split => vec![(PROVED, proved_split), (INDEPENDENT, independent_split)],
         Work::Date => vec![(PROVED, proved_date), (INDEPENDENT, independent_date)],

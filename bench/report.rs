@@ -6,6 +6,8 @@ use crate::readers::{INDEPENDENT, NO_ALARMS, PROVED, WITH_RECORDS};
 pub struct Row {
     pub work: Work,
     pub bytes: usize,
+    // Records of the store.
+    pub stored: usize,
     pub addresses: usize,
     pub reader: &'static str,
     pub cost: f64,
@@ -21,6 +23,15 @@ impl Row {
 pub enum Cost {
     Nanoseconds,
     Instructions,
+}
+
+impl Cost {
+    fn unit(self) -> &'static str {
+        match self {
+            Cost::Nanoseconds => "ns",
+            Cost::Instructions => "instructions",
+        }
+    }
 }
 
 const PROVED_TO_INDEPENDENT: f64 = 1.5;
@@ -50,10 +61,7 @@ fn sizes(rows: &[Row], work: Work) -> Vec<usize> {
 }
 
 pub fn table(rows: &[Row], cost: Cost) {
-    let unit = match cost {
-        Cost::Nanoseconds => "ns",
-        Cost::Instructions => "instructions",
-    };
+    let unit = cost.unit();
     println!("| what | bytes | addresses | reader | {unit} per byte | {unit} per address | ratio to the proved |");
     println!("|---|--:|--:|---|--:|--:|--:|");
     for row in rows {
@@ -64,6 +72,18 @@ pub fn table(rows: &[Row], cost: Cost) {
         };
         let (what, bytes, reader) = (row.work.name(), row.bytes, row.reader);
         println!("| {what} | {bytes} | {addresses} | {reader} | {:.2} | {each} | {ratio:.2} |", row.per_byte());
+    }
+}
+
+pub fn openings(rows: &[Row], cost: Cost) {
+    let unit = cost.unit();
+    println!("| openings | bytes of body | records | reader | {unit} | {unit} per opening | ratio to the proved |");
+    println!("|---|--:|--:|---|--:|--:|--:|");
+    for row in rows {
+        let ratio = row.cost / find(rows, row.work, row.bytes, PROVED).cost;
+        let (what, each) = (row.work.name(), row.cost / row.addresses as f64);
+        let (bytes, stored, reader) = (row.bytes, row.stored, row.reader);
+        println!("| {what} | {bytes} | {stored} | {reader} | {:.0} | {each:.0} | {ratio:.2} |", row.cost);
     }
 }
 
@@ -133,7 +153,7 @@ pub fn targets(rows: &[Row]) {
         reader != NO_ALARMS && !WITH_RECORDS.contains(&reader)
     });
     library_target(rows, "c-client without its system calls (stricter than the target)", |reader| reader == NO_ALARMS);
-    for work in [Work::Common(0), Work::List, Work::Plain, Work::Split] {
+    for work in [Work::Common(0), Work::List, Work::Plain, Work::Expand, Work::Split] {
         let most = grown(rows, work, PROVED).into_iter().fold(0.0, f64::max);
         let (met, name) = (verdict(most <= LINEAR), work.name());
         println!("- {met}: growth is linear, {name}: a byte costs at most {most:.2} times what it costs at 1 kB; up to {LINEAR} is taken as linear");

@@ -9,12 +9,14 @@
 
 #include "rfc733.h"
 
-enum { STACK = 1 << 20, LIMIT = 32768, LEVELS = 64, BY_TABLE_MOST = 4095, PAINT = 0xA5, PATH = 65, FUNCTIONS = 9 };
+enum { STACK = 1 << 20, LIMIT = 32768, LEVELS = 64, BY_TABLE_MOST = 4095, PAINT = 0xA5, PATH = 65, FUNCTIONS = 10 };
+enum { RECORD = 512, NAME_BYTES = 64, OPENINGS = 64 };
 
 static _Alignas(4096) uint8_t stack[STACK];
 static uint8_t message[LIMIT], table[12 * LIMIT];
-static size_t length;
-static uint64_t told[3], path[PATH];
+static uint8_t store[OPENINGS * RECORD];
+static size_t length, store_length;
+static uint64_t told[4], path[PATH];
 static const uint8_t nothing[1];
 
 /* An input: three texts, each so many times, and the answer's number of one function, by document 01. */
@@ -25,7 +27,7 @@ struct worst {
     unsigned number;
 };
 
-enum { SPLIT, NAME, SCAN, ADDRESSES, BY_TABLE, TOUCH, PLAIN, DATE, REPLY };
+enum { SPLIT, NAME, SCAN, ADDRESSES, BY_TABLE, TOUCH, PLAIN, EXPAND, DATE, REPLY };
 
 static const struct worst inputs[] = {
     {"empty", "", "", "", 0, 0, 0, ADDRESSES, 0},
@@ -71,14 +73,17 @@ static void run_by_table(void) {
 }
 static void run_touch(void) { rfc733_touch(message, length, 0, length, length / 2, path, PATH, told, 3); }
 static void run_plain(void) { rfc733_plain(message, length, 0, length, table, sizeof table, told, 3); }
+static void run_expand(void) {
+    rfc733_expand(message, length, 0, length, store, store_length, table, sizeof table, told, 4);
+}
 static void run_reply(void) { rfc733_reply(message, length, nothing, 0); }
 static void run_date(void) {
     static int64_t seconds;
     rfc733_date(message, length, 0, length, told, 3, &seconds);
 }
 
-static void (*const functions[FUNCTIONS])(void) = {run_split, run_name,  run_scan, run_addresses, run_by_table,
-                                                   run_touch, run_plain, run_date, run_reply};
+static void (*const functions[FUNCTIONS])(void) = {run_split, run_name,  run_scan,   run_addresses, run_by_table,
+                                                   run_touch, run_plain, run_expand, run_date,      run_reply};
 static const uint8_t *caller;
 
 static void *call(void *function) {
@@ -143,12 +148,55 @@ static void show(const struct worst *one) {
     check_by_table(one, bytes[BY_TABLE]);
 }
 
+/* Stored lists opened in each other, and the levels of the last of them, or of the body if none is opened. */
+struct nested {
+    size_t openings, levels;
+};
+
+static const struct nested nestings[] = {{0, 0}, {0, 64}, {1, 0}, {1, 64}, {64, 0}, {64, 64}};
+
+/* Lays what stands behind so many openings: the Include of the next list, or at last a list at the levels. */
+static void lay_behind(const struct nested *one, size_t opened) {
+    char include[NAME_BYTES];
+    length = 0;
+    if (opened < one->openings) {
+        snprintf(include, sizeof include, ":Include: a at %zu", opened);
+        put(include, 1);
+        return;
+    }
+    put(":", one->levels);
+    put("\"a\"(b)at\"c\"at d", 1);
+    put(";", one->levels);
+}
+
+static void show_nested(const struct nested *one) {
+    size_t bytes;
+    store_length = one->openings * RECORD;
+    for (size_t i = 0; i < one->openings; i++) {
+        uint8_t *record = store + i * RECORD;
+        memset(record, 0, NAME_BYTES);
+        memset(record + NAME_BYTES, ' ', RECORD - NAME_BYTES);
+        snprintf((char *)record, NAME_BYTES, "a at %zu", i);
+        lay_behind(one, i + 1);
+        memcpy(record + NAME_BYTES, message, length);
+    }
+    lay_behind(one, 0);
+    bytes = touched(EXPAND);
+    if (told[0] != 0 || told[3] != one->openings) {
+        fprintf(stderr, "%zu openings: answer %u, openings %u\n", one->openings, (unsigned)told[0], (unsigned)told[3]);
+        exit(1);
+    }
+    printf("| %zu | %zu | %zu |\n", one->openings, one->levels, bytes);
+}
+
 int main(void) {
-    puts("| input | bytes | split | known_name | scan | addresses | addresses_by_table | touch | plain | date | reply |");
-    puts("|---|--:|--:|--:|--:|--:|--:|--:|--:|--:|--:|");
+    puts("| input | bytes | split | known_name | scan | addresses | addresses_by_table | touch | plain | expand | date | reply |");
+    puts("|---|--:|--:|--:|--:|--:|--:|--:|--:|--:|--:|--:|");
     for (size_t i = 0; i < sizeof inputs / sizeof *inputs; i++) show(&inputs[i]);
     printf("| most | |");
     for (int i = 0; i < FUNCTIONS; i++) printf(" %zu |", most[i]);
-    puts("");
+    puts("\n\nOf `expand`, by the stored lists opened in each other and the levels of the last, or of the body if there is none:\n");
+    puts("| openings | levels | expand |\n|--:|--:|--:|");
+    for (size_t i = 0; i < sizeof nestings / sizeof *nestings; i++) show_nested(&nestings[i]);
     return 0;
 }

@@ -21,7 +21,7 @@ module _ (message : List ℕ) (start end : ℕ) where
   pub accepted-list : {k : Derivation} → AcceptedBody message start end k → ListBody message start end k
   accepted-list a = scanned-body message start end (a .scans) (record { derived = a .derived; within = a .within })
 
-  pub list-accepted : {k : Derivation} → ListBody message start end k → AcceptedBody message start end k
+  list-accepted : {k : Derivation} → ListBody message start end k → AcceptedBody message start end k
   list-accepted b = record { scans = list-scanned message start end b; derived = b .list .derived; within = b .list .within }
 
   -- ---- the promises of the entry point

@@ -43,7 +43,7 @@ reread-writable w =
     record { again = asRow t; faultless = seen-faultless v; derived = row-derived d; means = meaning-row t ∙ e; deep = row-levels t ∙ n }
 
 -- the symbols of any text, if they are derived
-pub reread : (text : List ℕ) (at : ℕ) {k : Derivation} → DerivedList k (symbolsOf (scan text at)) → Reread (plainText k) (meaning k) × (levels k ≡ addressesDepth (meaning k))
+reread : (text : List ℕ) (at : ℕ) {k : Derivation} → DerivedList k (symbolsOf (scan text at)) → Reread (plainText k) (meaning k) × (levels k ≡ addressesDepth (meaning k))
 reread text at {k} d =
     let (l, e, d′) = tree-derived d in
     let m : meaning k ≡ listMeaning l = ap meaning e ∙ meaning-row l in

@@ -267,7 +267,7 @@ writable-symbols text at = good-from (charactersAt text at) outside (known chara
 
 -- ---- trees
 
-pub word-fine : (w : trees.Word) (xs : List Sym) → WritableSymbols (wordSymbol w ∷ xs) → WritableWord (wordMeaning w) × WritableSymbols xs
+word-fine : (w : trees.Word) (xs : List Sym) → WritableSymbols (wordSymbol w ∷ xs) → WritableWord (wordMeaning w) × WritableSymbols xs
 word-fine (atomWord t) xs g = g
 word-fine (quotedWord t) xs g = g
 

@@ -71,13 +71,13 @@ of-typed P i p o letters = by (sameLetters letters (bytes "Include")) (sameLette
 
 -- ---- the words of a tree's symbols
 
-pub words-phrase : (p : Phrase) (xs : List Sym) → wordsAfter noWord (phraseThen p xs) ≡ wordsAfter (phraseMeaning p) xs
+words-phrase : (p : Phrase) (xs : List Sym) → wordsAfter noWord (phraseThen p xs) ≡ wordsAfter (phraseMeaning p) xs
 words-phrase (one (atomWord t)) xs = refl
 words-phrase (one (quotedWord t)) xs = refl
 words-phrase (more p (atomWord t)) xs = words-phrase p _
 words-phrase (more p (quotedWord t)) xs = words-phrase p _
 
-pub words-nodes : (m : Nodes) (xs : List Sym) → wordsAfter noWord (nodesThen m xs) ≡ wordsAfter (nodesMeaning m) xs
+words-nodes : (m : Nodes) (xs : List Sym) → wordsAfter noWord (nodesThen m xs) ≡ wordsAfter (nodesMeaning m) xs
 words-nodes (first t (atomWord w)) xs = refl
 words-nodes (first t (quotedWord w)) xs = refl
 words-nodes (next m t (atomWord w)) xs = words-nodes m _
@@ -98,31 +98,31 @@ name-words p k = ap wordsOf (part-phrase p k) ∙ words-phrase p []
 pub node-words : (p : Phrase) (m : Nodes) (k : Derivation) → wordsOf (partOf 1 (phraseRow p (nodesRow m k))) ≡ nodesMeaning m
 node-words p m k = ap wordsOf (second-part p _ ∙ first-nodes m k) ∙ words-nodes m []
 
-pub no-typed-nodes : (letters : List ℕ) (parts : Derivation) → nodesOf (kindNumber (typedKind letters)) parts ≡ noWord
+no-typed-nodes : (letters : List ℕ) (parts : Derivation) → nodesOf (kindNumber (typedKind letters)) parts ≡ noWord
 no-typed-nodes letters parts = of-typed (λ kind. nodesOf kind parts ≡ noWord) refl refl refl letters
 
 -- ---- words and phrases hold no address
 
-pub after-word : (w : trees.Word) (before : Addresses) (k : Derivation) → addressesAfter before (wordRow w k) ≡ addressesAfter before k
+after-word : (w : trees.Word) (before : Addresses) (k : Derivation) → addressesAfter before (wordRow w k) ≡ addressesAfter before k
 after-word (atomWord t) before k = refl
 after-word (quotedWord t) before k = refl
 
-pub after-phrase : (p : Phrase) (before : Addresses) (k : Derivation) → addressesAfter before (phraseRow p k) ≡ addressesAfter before k
+after-phrase : (p : Phrase) (before : Addresses) (k : Derivation) → addressesAfter before (phraseRow p k) ≡ addressesAfter before k
 after-phrase (one w) before k = ap (λ b. addressesAfter b k) (after-word w before nil)
 after-phrase (more p w) before k = ap (λ b. addressesAfter b k) (after-phrase p before (wordRow w nil) ∙ after-word w before nil)
 
-pub after-nodes : (m : Nodes) (before : Addresses) (k : Derivation) → addressesAfter before (nodesRow m k) ≡ addressesAfter before k
+after-nodes : (m : Nodes) (before : Addresses) (k : Derivation) → addressesAfter before (nodesRow m k) ≡ addressesAfter before k
 after-nodes (first t w) before k = ap (λ b. addressesAfter b k) (after-word w before nil)
 after-nodes (next m t w) before k = ap (λ b. addressesAfter b k) (after-nodes m before _ ∙ after-word w before nil)
 
 -- ---- the addresses of a row are those of the tree
 
-pub typed-address : (atom′ : Lexeme) (kind : ℕ) (name nodes nodes′ : Words) (members members′ : Addresses) → kind ≡ kindNumber (typedKind (atom′ .meaning)) → nodes ≡ nodes′ → members ≡ members′
+typed-address : (atom′ : Lexeme) (kind : ℕ) (name nodes nodes′ : Words) (members members′ : Addresses) → kind ≡ kindNumber (typedKind (atom′ .meaning)) → nodes ≡ nodes′ → members ≡ members′
     → address kind name nodes members ≡ address (kindNumber (typedKind (atom′ .meaning))) name nodes′ members′
 typed-address atom′ kind name nodes nodes′ members members′ e f g = cc
 
 mutual
-  pub after-place : (r : Place) (k : Derivation) → addressesAfter noAddress (placeRow r k) ≡ addressesAfter (placeMeaning r) k
+  after-place : (r : Place) (k : Derivation) → addressesAfter noAddress (placeRow r k) ≡ addressesAfter (placeMeaning r) k
   after-place empty k = refl
   after-place (comma l t) k = ap (λ b. addressesAfter b k) (after-list l _)
 
@@ -191,7 +191,7 @@ mutual
   address-depth (quoted t) = refl
   address-depth (typed t a u b) = ap suc (address-depth b) ∙ sym (typed-depth (a .meaning) (addressMeaning b))
 
-pub typed-no-group : (letters : List ℕ) (member : Address) → atomGroup (typedMeaning letters member) ≡ false
+typed-no-group : (letters : List ℕ) (member : Address) → atomGroup (typedMeaning letters member) ≡ false
 typed-no-group letters member = of-typed (λ kind. atomGroup (address kind (andWord noWord (atom letters)) noWord (andAddress noAddress member)) ≡ false) refl refl refl letters
 
 -- a group named by a single atom

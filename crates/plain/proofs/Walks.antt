@@ -23,7 +23,7 @@ use Rattle.plain.proofs.TreeMeanings.{wordMeaning, phraseMeaning, nodes
 -- ---- words
 
 -- a word after a word
-pub walk-word : (w : trees.Word) (xs : List Sym) → walkText Word (wordSymbol w ∷ xs) ≡ 32 ∷ wordText (wordMeaning w) (walkText Word xs)
+walk-word : (w : trees.Word) (xs : List Sym) → walkText Word (wordSymbol w ∷ xs) ≡ 32 ∷ wordText (wordMeaning w) (walkText Word xs)
 walk-word (atomWord t) xs = refl
 walk-word (quotedWord t) xs = refl
 
@@ -75,11 +75,11 @@ behind (quoted t) = Word
 behind (typed t a u b) = behind b
 
 abbrev mutual
-  pub behindPlace : Place → trees.Place → Place
+  behindPlace : Place → trees.Place → Place
   behindPlace place trees.empty = place
   behindPlace place (comma l t) = afterComma (behindList place l)
 
-  pub behindList : Place → AddressList → Place
+  behindList : Place → AddressList → Place
   behindList place (idle r) = behindPlace place r
   behindList place (full r a) = behind a
 
@@ -104,7 +104,7 @@ spot plainly noAddress c = Start
 spot barely noAddress c = pick c BareComma Bare
 spot namely noAddress c = Named
 
-abbrev pub hasComma : trees.Place → Bool
+abbrev hasComma : trees.Place → Bool
 hasComma trees.empty = false
 hasComma (comma l t) = true
 
@@ -115,7 +115,7 @@ comma-spot barely noAddress true = refl
 comma-spot barely noAddress false = refl
 comma-spot namely noAddress c = refl
 
-pub comma-behind : (a : trees.Address) → afterComma (behind a) ≡ Parted
+comma-behind : (a : trees.Address) → afterComma (behind a) ≡ Parted
 comma-behind (mailbox p m) = refl
 comma-behind (angle o t l u) = refl
 comma-behind (group o t l u) = refl
@@ -123,13 +123,13 @@ comma-behind (quoted t) = refl
 comma-behind (typed t a u b) = comma-behind b
 
 mutual
-  pub place-spot : (r : trees.Place) (k : Begin) → behindPlace (opened k) r ≡ spot k (placeMeaning r) (hasComma r)
+  place-spot : (r : trees.Place) (k : Begin) → behindPlace (opened k) r ≡ spot k (placeMeaning r) (hasComma r)
   place-spot trees.empty plainly = refl
   place-spot trees.empty barely = refl
   place-spot trees.empty namely = refl
   place-spot (comma l t) k = list-spot l k
 
-  pub list-spot : (l : AddressList) (k : Begin) → afterComma (behindList (opened k) l) ≡ spot k (listMeaning l) true
+  list-spot : (l : AddressList) (k : Begin) → afterComma (behindList (opened k) l) ≡ spot k (listMeaning l) true
   list-spot (idle r) k = ap afterComma (place-spot r k) ∙ comma-spot k (placeMeaning r) (hasComma r)
   list-spot (full r a) k = comma-behind a
 
@@ -169,7 +169,7 @@ Clear plainly x = Unit {0}
 Clear barely x = x ≡ false
 Clear namely x = Unit {0}
 
-pub spot-word : (k : Begin) (m : Addresses) (x : Bool) → afterAtom (spot k m true) x ≡ Word
+spot-word : (k : Begin) (m : Addresses) (x : Bool) → afterAtom (spot k m true) x ≡ Word
 spot-word k (andAddress l a) x = refl
 spot-word plainly noAddress x = refl
 spot-word barely noAddress x = refl
@@ -181,11 +181,11 @@ clear-word barely trees.empty x h = rw h
 clear-word namely trees.empty x h = refl
 clear-word k (comma l t) x h = spot-word k (listMeaning l) x
 
-pub bare-word : (x : Bool) (r : List ℕ) → pick x Typing Word ≡ Word → gapText (gapBefore Bare x) r ≡ pick x (bytes ", ") (bytes " ") ++ r
+bare-word : (x : Bool) (r : List ℕ) → pick x Typing Word ≡ Word → gapText (gapBefore Bare x) r ≡ pick x (bytes ", ") (bytes " ") ++ r
 bare-word true r h = absurd (let o : _≡_ {A = ℕ} 0 1 = cc in omega arith)
 bare-word false r h = refl
 
-pub bare-comma : (x : Bool) (r : List ℕ) → gapText (gapBefore BareComma x) r ≡ pick x (bytes ", ") (bytes " ") ++ r
+bare-comma : (x : Bool) (r : List ℕ) → gapText (gapBefore BareComma x) r ≡ pick x (bytes ", ") (bytes " ") ++ r
 bare-comma true r = refl
 bare-comma false r = refl
 
@@ -216,12 +216,12 @@ front-plain (andAddress l a) r = refl
 -- ---- lists and addresses
 
 mutual
-  pub walk-place : (e : trees.Place) (k : Begin) (x : Bool) (xs : List Sym) → placeLawful e → Clear k (placeAtomGroup e x)
+  walk-place : (e : trees.Place) (k : Begin) (x : Bool) (xs : List Sym) → placeLawful e → Clear k (placeAtomGroup e x)
       → walkText (opened k) (placeThen e xs) ≡ front k (placeMeaning e) (addressesText (placeMeaning e) (walkText (behindPlace (opened k) e) xs))
   walk-place trees.empty k x xs o c = refl
   walk-place (comma l t) k x xs o c = walk-list l k (of Comma t ∷ xs) o c
 
-  pub walk-list : (l : AddressList) (k : Begin) (xs : List Sym) → listLawful l → Clear k (listAtomGroup l)
+  walk-list : (l : AddressList) (k : Begin) (xs : List Sym) → listLawful l → Clear k (listAtomGroup l)
       → walkText (opened k) (listThen l xs) ≡ front k (listMeaning l) (addressesText (listMeaning l) (walkText (behindList (opened k) l) xs))
   walk-list (idle e) k xs o c = walk-place e k false xs o c
   walk-list (full e a) k xs o c =
