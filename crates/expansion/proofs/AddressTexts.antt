@@ -23,7 +23,8 @@ use Rattle.plain.specs.declared.places.Place.{Place}
 use Rattle.plain.specs.declared.places.Place.the-variants.{Start}
 use Rattle.plain.proofs.WalkSteps.{colon-of, NoneComes}
 use Rattle.expansion.specs.Walk.{Sym, ends, untilEnd}
-use Rattle.expansion.specs.Steps.{symbolsFrom, addressFrom}
+use Rattle.addresses.specs.Steps.{symbolsFrom}
+use Rattle.expansion.specs.Steps.{addressFrom}
 use Rattle.expansion.proofs.SeekSteps.{no-symbols, next-symbol}
 
 -- where an address ends no ":" stands

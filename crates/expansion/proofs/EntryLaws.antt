@@ -25,7 +25,8 @@ use Rattle.expansion.specs.Expansion.{Expansion, stopped, reached, expan
 use Rattle.expansion.specs.Outcome.{Outcome, refusal, expanded, expandOutcome, Answered}
 use Rattle.expansion.specs.Promises.{Promises}
 use Rattle.expansion.specs.Walk.{halted, wrote, walked}
-use Rattle.expansion.specs.Steps.{symbolsFrom, TextWalked, BodyWent, BodyWalked, trailOutcome, ListExpanded}
+use Rattle.addresses.specs.Steps.{symbolsFrom}
+use Rattle.expansion.specs.Steps.{TextWalked, BodyWent, BodyWalked, trailOutcome, ListExpanded}
 use Rattle.expansion.specs.declared.Around.the-variants.{Body}
 use Rattle.expansion.specs.declared.Expanded.{Expanded}
 use Rattle.expansion.specs.declared.Stage.{Stage}
@@ -108,14 +109,14 @@ module _ (message : List ℕ) (start end : ℕ) (store lent : List ℕ) where
       (rw (refused-told message start end table n p e Outcome (refusal lent 0) (λ k. expanded lent (expansion store k))) (record { answer-is = refl; openings-is = refl; text-is = refl }))
 
   -- the reader does not refuse
-  trail-outcome : (e : Expansion) → expanded lent e ≡ trailOutcome classTable store (take end message) start lent (onward e (λ m u. wrote (addressesText m []) u))
+  trail-outcome : (e : Expansion) → expanded lent e ≡ trailOutcome lent (onward e (λ m u. wrote (addressesText m []) u))
   trail-outcome (stopped n p u) = refl
   trail-outcome (reached m u) = refl
 
   pub list-promised : (s : SomeList message start end) (r : Expanded) (after : List ℕ) → ListExpanded classTable store (take end message) start lent after r → Promised r after
   list-promised s r after e =
       let k = s .derivation in
-      let w : expandOutcome message start end store lent ≡ trailOutcome classTable store (take end message) start lent (walked store (symbolsFrom classTable (take end message) start)) =
+      let w : expandOutcome message start end store lent ≡ trailOutcome lent (walked store (symbolsFrom classTable (take end message) start)) =
       listed-read (s .body) (refusal lent 0) (λ k. expanded lent (expansion store k)) ∙ trail-outcome (expansion store k)
-      ∙ ap (trailOutcome classTable store (take end message) start lent) (sym (walked-expansion store (s .body .list .derived) (s .body .list .within))) in
+      ∙ ap (trailOutcome lent) (sym (walked-expansion store (s .body .list .derived) (s .body .list .within))) in
       promised r after (rw w e)

@@ -22,7 +22,8 @@ use Rattle.grammar.proofs.HouseRule.{same-class}
 use Rattle.plain.specs.declared.places.Place.{Place}
 use Rattle.plain.proofs.WalkSteps.{NoneComes}
 use Rattle.expansion.specs.Walk.{opens, includeNext, includeHere, behindOne, sought}
-use Rattle.expansion.specs.Steps.{symbolsFrom, IncludeComes, IncludeWordIs, IncludeIs, InTypedIs, OpenedIs, asRecord}
+use Rattle.addresses.specs.Steps.{symbolsFrom}
+use Rattle.expansion.specs.Steps.{IncludeComes, IncludeWordIs, IncludeIs, InTypedIs, OpenedIs, asRecord}
 use Rattle.expansion.specs.declared.Include.{Include}
 use Rattle.expansion.specs.declared.Include.the-variants.{Behind, Otherwise}
 use Rattle.expansion.specs.declared.Levels.{Levels}

@@ -14,7 +14,8 @@ use Rattle.plain.proofs.WalkSteps.{NoneComes}
 use mathlib.Core.Bool.{Bool, true, false}
 use Rattle.octets.specs.Choice.{pick, both}
 use Rattle.expansion.specs.Walk.{Sym, ends, innerAfter, single, neither, angled, heldFrom, heldBy, Phase, nothing, notWords, only, namedBy, firstFrom, firstOf, soughtBy, sought}
-use Rattle.expansion.specs.Steps.{symbolsFrom, asHeld, sortOf, skipTo, asPhase, onStep, OnlyIs, turnOf, onTurn, namedIf, asRecord}
+use Rattle.addresses.specs.Steps.{symbolsFrom}
+use Rattle.expansion.specs.Steps.{asHeld, sortOf, skipTo, asPhase, onStep, OnlyIs, turnOf, onTurn, namedIf, asRecord}
 use mathlib.Core.Option.{Option, none, some}
 use Rattle.expansion.specs.Store.{orElse}
 use Rattle.expansion.specs.Walk as seek

@@ -24,7 +24,8 @@ use Rattle.plain.specs.declared.places.Place.{Place}
 use Rattle.plain.proofs.WalkSteps.{colon-of, NoneComes, behind, behind-falls}
 use Rattle.expansion.specs.Store.{listIn}
 use Rattle.expansion.specs.Walk.{Sym, Trail, halted, wrote, before, ends, includeHere, behindOne, inTyped, levelsAfter, innerAfter, WalkOpening, writing, skipping, sought, includeTrail, walk, walkWithin}
-use Rattle.expansion.specs.Steps.{symbolsFrom, LevelsAre, LevelsAfter, skipTo, IncludeBegins, OpenedIs, placeOf, levelsAround, joinedStage, openedStage, WriteOnIs, Continuation, walkSymbols, RecordOpens, OpeningIs, Onward, symbolShare, textShare, Goes, Halts, RecordWalked, TextWalked}
+use Rattle.addresses.specs.Steps.{symbolsFrom}
+use Rattle.expansion.specs.Steps.{LevelsAre, LevelsAfter, skipTo, IncludeBegins, OpenedIs, placeOf, levelsAround, joinedStage, openedStage, WriteOnIs, Continuation, walkSymbols, RecordOpens, OpeningIs, Onward, symbolShare, textShare, Goes, Halts, RecordWalked, TextWalked}
 use Rattle.expansion.specs.declared.Around.{Around}
 use Rattle.expansion.specs.declared.Around.the-variants.{Inside}
 use Rattle.expansion.specs.declared.Levels.{Levels}

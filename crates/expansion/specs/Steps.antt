@@ -8,8 +8,9 @@ use mathlib.Core.List.{List, [], _∷_}
 use mathlib.Core.Option.{Option, none, some}
 use Rattle.octets.specs.Classes.{classTable}
 use Rattle.octets.specs.Numbers.{messageLimit, levelLimit, openingLimit, storeRecordSize, tooManyLevels}
-use Rattle.scanner.specs.Scanning.{scan, scanBy, symbolsOf}
+use Rattle.scanner.specs.Scanning.{scan, symbolsOf}
 use Rattle.addresses.specs.Outcome.{bodyRead}
+use Rattle.addresses.specs.Steps.{symbolsFrom}
 use Rattle.octets.specs.Choice.{pick}
 use Rattle.expansion.specs.Store.{orElse, listIn}
 use Rattle.plain.specs.declared.places.Place.{Place}
@@ -47,18 +48,18 @@ use Rattle.expansion.specs.declared.Record.the-variants.{Stored, Nowhere
 use Rattle.expansion.specs.declared.Held.{Held}
 use Rattle.expansion.specs.declared.Held.the-variants.{Single, Angled, Neither}
 
-abbrev pub symbolsFrom : List ℕ → List ℕ → ℕ → List Sym
-symbolsFrom classes text at = symbolsOf (scanBy classes text at)
-
+-- a record, or none
 abbrev pub asRecord : Option ℕ → Record
 asRecord none = Nowhere
 asRecord (some i) = Stored i
 
+-- what an Include holds
 abbrev pub asHeld : List ℕ → List ℕ → Held → seek.Held
 asHeld classes text Single = seek.single
 asHeld classes text (Angled behind) = seek.angled (symbolsFrom classes text behind)
 asHeld classes text Neither = seek.neither
 
+-- what a symbol is to it
 abbrev pub sortOf : Class → Sort
 sortOf Atom = Word
 sortOf Quoted = Word
@@ -76,15 +77,17 @@ bitsOf [] = 0
 bitsOf (true ∷ s) = 2 * bitsOf s + 1
 bitsOf (false ∷ s) = 2 * bitsOf s
 
-pub record LevelsAre (open′ : Levels) (s : List Bool) : Type 0 where
-  pub many-is : open′ .many ≡ length s
-  pub typed-is : open′ .typed ≡ bitsOf s
+-- levels in numbers
+pub record LevelsAre (levels : Levels) (s : List Bool) : Type 0 where
+  pub many-is : levels .many ≡ length s
+  pub typed-is : levels .typed ≡ bitsOf s
   pub few : length s ≤ levelLimit
 
 -- what is done to the levels
 abbrev pub Follows : Levels → Levels → (List Bool → List Bool) → Type 0
 Follows levels after change = (s : List Bool) → LevelsAre levels s → LevelsAre after (change s)
 
+-- .. behind a symbol
 abbrev pub LevelsAfter : Class → Place → Bool → Levels → Levels → Type 0
 LevelsAfter class place colon levels after = Follows levels after (λ s. levelsAfter class place colon s)
 
@@ -103,10 +106,12 @@ asPhase Nothing = nothing
 asPhase Words = words
 asPhase Nodes = nodes
 
+-- what a symbol of an angle list settles, or leaves to the rest
 abbrev pub onStep : Only → (Phase → Bool) → Bool
 onStep (On phase) rest = rest (asPhase phase)
 onStep (Done settled) rest = settled
 
+-- .. for any rest
 abbrev pub OnlyIs : Class → code.Phase → Only → Type 0
 OnlyIs class phase step = (rest : Phase → Bool) → onlyFrom class (asPhase phase) rest ≡ onStep step rest
 
@@ -122,11 +127,13 @@ turnOf Semicolon = Within
 turnOf Colon = Within
 turnOf Stray = Within
 
+-- what is found at it
 abbrev pub onTurn : Turn → Option ℕ → Option ℕ → Option ℕ → Option ℕ
 onTurn Closes here fresh rest = none
 onTurn Parts here fresh rest = fresh
 onTurn Within here fresh rest = orElse here rest
 
+-- the record named at a position, if an address starts there
 abbrev pub namedIf : List ℕ → List ℕ → ℕ → List ℕ → Bool → Option ℕ
 namedIf classes text at store starts = pick starts (namedBy store (symbolsFrom classes text at)) none
 
@@ -138,14 +145,17 @@ module _ (classes text : List ℕ) where
     pub is : includeNext (symbolsFrom classes text at) ≡ true
     pub rest : symbolsFrom classes text behind ≡ behindOne (behindOne (symbolsFrom classes text at))
 
+  -- .. or they do not
   abbrev pub IncludeWordIs : ℕ → Include → Type 0
   IncludeWordIs at (Behind behind) = IncludeComes at behind
   IncludeWordIs at Otherwise = includeNext (symbolsFrom classes text at) ≡ false
 
+  -- an Include begins with a symbol of this class at this place, which ends at a position
   pub record IncludeBegins (class : Class) (place : Place) (end behind : ℕ) : Type 0 where
     pub is : includeHere class place (symbolsFrom classes text end) ≡ true
     pub rest : symbolsFrom classes text behind ≡ behindOne (behindOne (symbolsFrom classes text end))
 
+  -- .. or none does
   abbrev pub IncludeIs : Class → Place → ℕ → Include → Type 0
   IncludeIs class place end (Behind behind) = IncludeBegins class place end behind
   IncludeIs class place end Otherwise = includeHere class place (symbolsFrom classes text end) ≡ false
@@ -154,22 +164,27 @@ module _ (classes text : List ℕ) where
   abbrev pub OpenedIs : ℕ → Levels → List ℕ → Record → Type 0
   OpenedIs behind levels store r = (s : List Bool) → LevelsAre levels s → r ≡ asRecord (pick (inTyped s) none (sought store (symbolsFrom classes text behind)))
 
+-- the innermost level is a typed address, for any levels that are open so
 abbrev pub InTypedIs : Levels → Bool → Type 0
 InTypedIs levels r = (s : List Bool) → LevelsAre levels s → r ≡ inTyped s
 
 -- ---- the walk
 
+-- the position in the body that counts for an Include
 abbrev pub placeOf : Around → ℕ → ℕ
 placeOf Body start = start
 placeOf (Inside position levels) start = position
 
+-- the levels open around a text
 abbrev pub levelsAround : Around → ℕ
 levelsAround Body = 0
 levelsAround (Inside position levels) = levels
 
+-- a stage, as a comma leaves it
 abbrev pub joinedStage : Stage → Stage
 joinedStage stage = record { place = afterComma (stage .place); openings = stage .openings; written = stage .written }
 
+-- .. with one opening more
 abbrev pub openedStage : Stage → Stage
 openedStage stage = record { place = afterComma (stage .place); openings = stage .openings + 1; written = stage .written }
 
@@ -204,6 +219,7 @@ module _ (store : List ℕ) where
     pub walks : (deep : ℕ) (place : Place) (following : Continuation)
         → walkWithin store (suc deep) i position depth place openings following ≡ walkSymbols deep (Inside position depth) place [] (symbolsOf (scan (listIn store i) 0)) (openings + 1) following
 
+  -- .. or it halts, however deep openings may lie in each other
   abbrev pub OpeningIs : ℕ → ℕ → ℕ → ℕ → Opening → Type 0
   OpeningIs i position depth openings Opens = RecordOpens i position depth openings
   OpeningIs i position depth openings (Faulty n p) =
@@ -221,6 +237,7 @@ pub record Onward (from to : Continuation → Trail) (out : List ℕ) (n : ℕ) 
 abbrev pub symbolShare : ℕ
 symbolShare = 2 * messageLimit + 3
 
+-- .. of the whole text
 abbrev pub textShare : ℕ
 textShare = symbolShare * (messageLimit + 1)
 
@@ -235,20 +252,24 @@ pub record Goes (trails : ℕ → Continuation → Trail) (more : ℕ) (stage : 
 abbrev pub Halts : (ℕ → Continuation → Trail) → ℕ → ℕ → ℕ → ℕ → Type 0
 Halts trails before′ n p openings = (deep : ℕ) (following : Continuation) → openingLimit ≤ deep + before′ → trails deep following ≡ halted n p openings
 
+-- .. or it goes on to its end
 abbrev pub WalkedIs : (ℕ → Continuation → Trail) → ℕ → Stage → List ℕ → List ℕ → Walked → Type 0
 WalkedIs trails more stage out after′ (Went r) = Goes trails more stage out after′ r
 WalkedIs trails more stage out after′ (Stopped n p openings) = Halts trails (stage .openings) n p openings
 
+-- what a record's list is walked with: it stands in the store, and a count holds what may be written
 pub record RecordReady (classes store : List ℕ) (i : ℕ) (stage : Stage) : Type 0 where
   pub classes-are : classes ≡ classTable
   pub inside : i * storeRecordSize + storeRecordSize ≤ length store
   pub few : stage .openings ≤ openingLimit
   pub counted : stage .written ≤ textShare * (stage .openings + 1)
 
+-- a record's list is walked in place of an Include
 abbrev pub RecordWalked : List ℕ → ℕ → ℕ → ℕ → Stage → List ℕ → List ℕ → Walked → Type 0
 RecordWalked store i position depth stage out after′ r =
     WalkedIs (λ deep following. walkWithin store deep i position depth (afterComma (stage .place)) (stage .openings) following) 0 stage out after′ r
 
+-- what a text is walked with
 pub record WalkReady (classes text : List ℕ) (around : Around) (stage : Stage) : Type 0 where
   pub classes-are : classes ≡ classTable
   pub short : length text ≤ messageLimit
@@ -256,15 +277,22 @@ pub record WalkReady (classes text : List ℕ) (around : Around) (stage : Stage)
   pub few : stage .openings ≤ openingLimit
   pub counted : stage .written ≤ textShare * stage .openings
 
+-- a text is walked from a position on
 abbrev pub TextWalked : List ℕ → List ℕ → List ℕ → ℕ → Around → Stage → List ℕ → List ℕ → Walked → Type 0
 TextWalked classes store text start around stage out after′ r =
     WalkedIs (λ deep following. walkSymbols store deep around (stage .place) [] (symbolsFrom classes text start) (stage .openings) following) 1 stage out after′ r
 
 -- ---- the body
 
+-- what a body is walked with
 pub record BodyReady (classes text : List ℕ) : Type 0 where
   pub classes-are : classes ≡ classTable
   pub short : length text ≤ messageLimit
+
+-- what is answered of a trail
+abbrev pub trailOutcome : List ℕ → Trail → Outcome
+trailOutcome lent (halted n p openings) = refusal lent openings n p
+trailOutcome lent (wrote t openings) = fitted lent openings t
 
 module _ (classes store text : List ℕ) (start : ℕ) where
   -- the walk over a body comes to its end, with this text
@@ -274,14 +302,11 @@ module _ (classes store text : List ℕ) (start : ℕ) where
     pub count : r .written ≡ length written-text
     pub stored : after′ ≡ sets out 0 written-text
 
+  -- .. or it halts
   abbrev pub BodyWalked : List ℕ → List ℕ → Walked → Type 0
   BodyWalked out after′ (Went r) = BodyWent out after′ r
   BodyWalked out after′ (Stopped n p openings) = walked store (symbolsFrom classes text start) ≡ halted n p openings
 
-  -- what is answered of a trail
-  abbrev pub trailOutcome : List ℕ → Trail → Outcome
-  trailOutcome lent (halted n p openings) = refusal lent openings n p
-  trailOutcome lent (wrote t openings) = fitted lent openings t
-
+  -- a list is expanded
   abbrev pub ListExpanded : List ℕ → List ℕ → Expanded → Type 0
   ListExpanded out after′ r = Answered (trailOutcome out (walked store (symbolsFrom classes text start))) r after′

@@ -22,11 +22,13 @@ use Rattle.plain.specs.declared.places.Place.the-variants.{Start, Bare, BareCom
 use Rattle.expansion.specs.Store.{lowest, orElse, listIn}
 use Rattle.addresses.specs.Outcome.{bodyRead}
 
+-- a symbol
 abbrev pub Sym : Type 0
 Sym = Symbol Class
 
 -- ---- what is written
 
+-- a walk halts with a number, a position and the openings so far; or it wrote a text, with so many openings
 pub data Trail : Type 0 where
   halted : ℕ → ℕ → ℕ → Trail
   wrote : List ℕ → ℕ → Trail
@@ -36,13 +38,15 @@ abbrev pub before : (List ℕ → List ℕ) → Trail → Trail
 before f (halted n p u) = halted n p u
 before f (wrote t u) = wrote (f t) u
 
--- ---- levels: the innermost first, and whether it is a typed address
+-- ---- levels that are open, the innermost first; true for a typed address
 
+-- typed addresses end with what they hold
 abbrev pub withoutTyped : List Bool → List Bool
 withoutTyped [] = []
 withoutTyped (true ∷ s) = withoutTyped s
 withoutTyped (false ∷ s) = false ∷ s
 
+-- one less
 abbrev pub withoutOne : List Bool → List Bool
 withoutOne [] = []
 withoutOne (x ∷ s) = s
@@ -51,14 +55,17 @@ withoutOne (x ∷ s) = s
 abbrev pub withList : List Bool → List Bool
 withList s = pick (ltb (length s) levelLimit) (false ∷ s) s
 
+-- the innermost is a typed address after all
 abbrev pub withTyped : List Bool → List Bool
 withTyped [] = []
 withTyped (x ∷ s) = true ∷ s
 
+-- the innermost is a typed address
 abbrev pub inTyped : List Bool → Bool
 inTyped [] = false
 inTyped (x ∷ s) = x
 
+-- behind the atom of a typed address
 abbrev pub isTyping : Place → Bool
 isTyping Start = false
 isTyping Bare = false
@@ -96,14 +103,17 @@ ends Semicolon = true
 ends Colon = false
 ends Stray = false
 
+-- symbols up to the end of an address
 abbrev pub untilEnd : List Sym → List Sym
 untilEnd [] = []
 untilEnd (x ∷ xs) = pick (ends (x .class)) [] (x ∷ untilEnd xs)
 
+-- what an Include holds: a mailbox, an angle list from behind its "<", or neither
 pub data Held : Type 0 where
   single neither : Held
   angled : List Sym → Held
 
+-- .. by the class of a symbol, the symbols behind it, and what these say
 abbrev pub heldFrom : Class → List Sym → Held → Held
 heldFrom Atom xs r = r
 heldFrom Quoted xs r = r
@@ -115,6 +125,7 @@ heldFrom Semicolon xs r = neither
 heldFrom Colon xs r = neither
 heldFrom Stray xs r = neither
 
+-- .. by the symbols behind its second ":"
 abbrev pub heldBy : List Sym → Held
 heldBy [] = neither
 heldBy (x ∷ xs) = heldFrom (x .class) xs (heldBy xs)
@@ -123,16 +134,19 @@ heldBy (x ∷ xs) = heldFrom (x .class) xs (heldBy xs)
 pub data Phase : Type 0 where
   nothing words nodes : Phase
 
+-- it is no name without nodes
 abbrev pub notWords : Phase → Bool
 notWords nothing = true
 notWords words = false
 notWords nodes = true
 
+-- a word comes
 abbrev pub withWord : Phase → Phase
 withWord nothing = words
 withWord words = words
 withWord nodes = nodes
 
+-- a symbol, and whether the rest holds mailboxes only
 abbrev pub onlyFrom : Class → Phase → (Phase → Bool) → Bool
 onlyFrom Atom phase rest = rest (withWord phase)
 onlyFrom Quoted phase rest = rest (withWord phase)
@@ -149,11 +163,12 @@ abbrev pub only : Phase → List Sym → Bool
 only phase [] = false
 only phase (x ∷ xs) = onlyFrom (x .class) phase (λ phase′. only phase′ xs)
 
--- an Include begins with ":" before these
+-- the first symbol has the letters of Include
 abbrev pub includeWord : List Sym → Bool
 includeWord [] = false
 includeWord (x ∷ xs) = sameLetters (x .lexeme .meaning) (bytes "Include")
 
+-- an atom with these letters and ":" come next
 abbrev pub includeNext : List Sym → Bool
 includeNext xs = both (begins sameClass (Atom ∷ Colon ∷ []) xs) (includeWord xs)
 
@@ -173,6 +188,7 @@ opens Parted = true
 abbrev pub includeHere : Class → Place → List Sym → Bool
 includeHere class place xs = both (sameClass Colon class) (both (opens place) (includeNext xs))
 
+-- all but the first
 abbrev pub behindOne : List Sym → List Sym
 behindOne [] = []
 behindOne (x ∷ xs) = xs
@@ -182,6 +198,7 @@ pub data Mode : Type 0 where
   writing : Mode
   skipping : Bool → Mode
 
+-- what follows a symbol of an Include is in its angle list
 abbrev pub innerAfter : Class → Bool → Bool
 innerAfter Atom inner = inner
 innerAfter Quoted inner = inner
@@ -193,6 +210,7 @@ innerAfter Semicolon inner = inner
 innerAfter Colon inner = inner
 innerAfter Stray inner = inner
 
+-- the opening of a record: its number, the position and the levels around, the place, the openings, and what follows
 abbrev pub WalkOpening : Type 0
 WalkOpening = ℕ → ℕ → ℕ → Place → ℕ → (Place → ℕ → Trail) → Trail
 
@@ -201,6 +219,7 @@ module _ (store : List ℕ) where
   abbrev pub namedBy : List Sym → Option ℕ
   namedBy xs = lowest store (walkText Start (untilEnd xs))
 
+  -- a symbol among addresses: what it names if an address begins with it, what is found if one begins behind it, and if none does
   abbrev pub firstFrom : Class → Option ℕ → Option ℕ → Option ℕ → Option ℕ
   firstFrom Atom here fresh rest = orElse here rest
   firstFrom Quoted here fresh rest = orElse here rest
@@ -217,11 +236,13 @@ module _ (store : List ℕ) where
   firstOf starts [] = none
   firstOf starts (x ∷ xs) = firstFrom (x .class) (pick starts (namedBy (x ∷ xs)) none) (firstOf true xs) (firstOf false xs)
 
+  -- the record that an Include leads to, by what it holds
   abbrev pub soughtBy : Held → List Sym → Option ℕ
   soughtBy single xs = namedBy xs
   soughtBy neither xs = none
   soughtBy (angled ys) xs = pick (only nothing ys) (firstOf true ys) none
 
+  -- .. by the symbols behind its second ":"
   abbrev pub sought : List Sym → Option ℕ
   sought xs = soughtBy (heldBy xs) xs
 
@@ -231,6 +252,7 @@ module _ (store : List ℕ) where
       elim (pick typed none (sought (behindOne (behindOne xs)))) [ none ↦ halted leadsNowhere position u | some i ↦ opening i position depth (afterComma place) u next ]
 
   module _ (opening : WalkOpening) (placeOf : ℕ → ℕ) (base : ℕ) where
+    -- a walk over symbols from a place on, with these levels open in this text and `base` around it
     abbrev pub walk : Mode → Place → List Bool → List Sym → ℕ → (Place → ℕ → Trail) → Trail
     walk mode place s [] u next = next (afterComma place) u
     walk writing place s (x ∷ xs) u next =

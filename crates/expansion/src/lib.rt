@@ -17,7 +17,8 @@ ghost use Rattle.addresses.specs.Within.{listWithin};
 ghost use Rattle.plain.specs.Writing.{textLimit, writtenLimit};
 ghost use Rattle.expansion.specs.Store.{withoutZeros, nameIn, lowest as lowestNamed};
 ghost use Rattle.expansion.specs.Walk.{ends, opens as opensAddress, isTyping, heldBy, nothing, withWord, notWords, only, firstOf, sought, withList, withTyped, withoutOne, withoutTyped, innerAfter};
-ghost use Rattle.expansion.specs.Steps.{asRecord, asHeld, sortOf, symbolsFrom, Follows, LevelsAfter, skipTo, addressFrom, asPhase, OnlyIs, turnOf, namedIf, IncludeWordIs, IncludeIs, InTypedIs, OpenedIs, placeOf, levelsAround, joinedStage, openedStage, WriteOnIs, faultIn, OpeningIs, RecordReady, RecordWalked, WalkReady, TextWalked, BodyReady, BodyWalked, ListExpanded};
+ghost use Rattle.addresses.specs.Steps.{symbolsFrom};
+ghost use Rattle.expansion.specs.Steps.{asRecord, asHeld, sortOf, Follows, LevelsAfter, skipTo, addressFrom, asPhase, OnlyIs, turnOf, namedIf, IncludeWordIs, IncludeIs, InTypedIs, OpenedIs, placeOf, levelsAround, joinedStage, openedStage, WriteOnIs, faultIn, OpeningIs, RecordReady, RecordWalked, WalkReady, TextWalked, BodyReady, BodyWalked, ListExpanded};
 ghost use Rattle.expansion.specs.Outcome.{Answered, expandOutcome};
 ghost use Rattle.expansion.specs.Promises.{Promises};
 use octets::answers::Answer;
@@ -90,9 +91,9 @@ fn lowest(store: &[u8], name: &[u8]) -> Record
 // ---- levels
 
 // The levels open in a text: how many, and which of them are typed addresses, the innermost in the lowest bit.
-pub struct Levels {
-    pub many: usize,
-    pub typed: u64,
+struct Levels {
+    many: usize,
+    typed: u64,
 }
 
 // One level more, of a list; there are never more than 64.
@@ -611,9 +612,9 @@ fn opened_by(
 }
 
 // Where an Include stands: the position in the body that counts for it, and the levels open around it.
-pub struct Spot {
-    pub position: usize,
-    pub depth: usize,
+struct Spot {
+    position: usize,
+    depth: usize,
 }
 
 // What comes of a record that an Include leads to: it is opened; or the number and the position of the fault.
@@ -699,10 +700,10 @@ fn spot_of(around: Around, start: usize, levels: Levels) -> Spot
 }
 
 // How far a walk has come: the place in the text that is written, the openings, and the length of that text.
-pub struct Stage {
-    pub place: Place,
-    pub openings: usize,
-    pub written: usize,
+struct Stage {
+    place: Place,
+    openings: usize,
+    written: usize,
 }
 
 // A stage, as a comma leaves it.
