@@ -1,4 +1,5 @@
--- Laws of expansion.
+-- Laws of expansion. `ExpansionLaws` and `WithoutInclude` have what is promised of the definition, `WalkLaws` that one walk writes its
+-- plain text, `WalkRuns` and `EntryLaws` what the code rests on, `Examples` the examples of the request.
 pub mod TreeExpansion
 pub mod ExpansionLaws
 pub mod WithoutInclude

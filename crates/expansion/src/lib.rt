@@ -96,6 +96,9 @@ struct Levels {
     typed: u64,
 }
 
+// 2 to the 63rd: fewer than 64 levels have bits below it, so that one more fits.
+const BITS_OF_63: u64 = 9223372036854775808;
+
 // One level more, of a list; there are never more than 64.
 fn with_list(levels: Levels) -> Levels
     requires { ⌜ levels .many ≤ levelLimit ⌝ }
@@ -106,7 +109,7 @@ fn with_list(levels: Levels) -> Levels
     }
     Levels {
         many: levels.many + 1,
-        typed: levels.typed % 9223372036854775808 * 2,
+        typed: levels.typed % BITS_OF_63 * 2,
     }
 }
 
