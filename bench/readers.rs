@@ -39,7 +39,7 @@ pub const NO_ALARMS: &str = "c-client, no alarms";
 mod rfc733 {
     extern "C" {
         pub fn rfc733_split(m: *const u8, n: usize, table: *mut u8, room: usize, told: *mut u64, three: usize);
-        pub fn rfc733_addresses(m: *const u8, n: usize, start: usize, end: usize, table: *mut u8, room: usize, told: *mut u64, three: usize);
+        pub fn rfc733_addresses(m: *const u8, n: usize, start: usize, end: usize, edition: usize, table: *mut u8, room: usize, told: *mut u64, three: usize);
         pub fn rfc733_addresses_by_table(m: *const u8, n: usize, start: usize, end: usize, table: *mut u8, room: usize, told: *mut u64, three: usize);
         pub fn rfc733_touch(m: *const u8, n: usize, start: usize, end: usize, place: usize, path: *mut u64, room: usize, told: *mut u64, five: usize);
         pub fn rfc733_date(m: *const u8, n: usize, start: usize, end: usize, told: *mut u64, three: usize, value: *mut i64);
@@ -50,16 +50,16 @@ mod rfc733 {
 
 // A function of the library that reads a list and writes into lent room.
 macro_rules! proved {
-    ($wrapper:ident, $function:ident) => {
+    ($wrapper:ident, $function:ident $(, $edition:literal)?) => {
         fn $wrapper(desk: &mut Desk) -> usize {
             let (n, room, mut told) = (desk.length, desk.table.len(), [0u64; 3]);
-            unsafe { rfc733::$function(desk.text.as_ptr(), n, 0, n, desk.table.as_mut_ptr(), room, told.as_mut_ptr(), 3) };
+            unsafe { rfc733::$function(desk.text.as_ptr(), n, 0, n, $($edition,)? desk.table.as_mut_ptr(), room, told.as_mut_ptr(), 3) };
             told[2] as usize
         }
     };
 }
 
-proved!(proved_addresses, rfc733_addresses);
+proved!(proved_addresses, rfc733_addresses, 733);
 proved!(proved_by_table, rfc733_addresses_by_table);
 proved!(proved_plain, rfc733_plain);
 

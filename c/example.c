@@ -1,6 +1,7 @@
 /* Prints the records of an address list, and the list written plainly; or what one of its bytes is; or the list with its
  * Includes replaced by stored lists.
  * usage: example [--by-table] [LIST]     --by-table: by the second reader, for a board with a small stack
+ *        example --edition NUMBER LIST   the records of a list by RFC 733 or RFC 822: NUMBER is 733 or 822
  *        example --touch PLACE LIST      what the byte at PLACE is and the records around it, from the last one to the
  *                                        outermost; for a refused list what could have stood at the refused place
  *        example --expand STORE LIST     the list written plainly with each Include replaced by a list of STORE, a file,
@@ -86,6 +87,44 @@ static int expand(const char *path, const char *list) {
     return status;
 }
 
+static uint8_t table[12 * 2048];
+
+static void print_records(const char *list, size_t count) {
+    for (size_t i = 0; i < count; i++) {
+        const uint8_t *record = table + 12 * i;
+        printf("address %u %u %u %u %u %u %u  %.*s\n", record[0], record[1], two(record, 2), two(record, 4),
+               two(record, 6), two(record, 8), two(record, 10), (int)(two(record, 10) - two(record, 8)),
+               list + two(record, 8));
+    }
+}
+
+static int by_edition(const char *list, size_t edition) {
+    size_t length = strlen(list);
+    uint64_t told[3];
+    rfc733_addresses((const uint8_t *)list, length, 0, length, edition, table, sizeof table, told, 3);
+    if (told[0] != 0) return refused(told);
+    print_records(list, told[2]);
+    return 0;
+}
+
+static int records_and_plain(const char *list, int by_table) {
+    const uint8_t *body = (const uint8_t *)list;
+    size_t length = strlen(list);
+    static uint8_t text[65536];
+    uint64_t told[3];
+    if (by_table)
+        rfc733_addresses_by_table(body, length, 0, length, table, sizeof table, told, 3);
+    else
+        rfc733_addresses(body, length, 0, length, 733, table, sizeof table, told, 3);
+    if (told[0] != 0) return refused(told);
+    print_records(list, told[2]);
+    rfc733_plain(body, length, 0, length, text, sizeof text, told, 3);
+    if (told[0] == 0) printf("plain %.*s\n", (int)told[2], text);
+    return 0;
+}
+
+static int is_number(const char *text) { return text[0] != 0 && text[strspn(text, "0123456789")] == 0; }
+
 int main(int argc, char **argv) {
     if (argc > 1 && strcmp(argv[1], "--expand") == 0) {
         if (argc != 4) {
@@ -94,31 +133,15 @@ int main(int argc, char **argv) {
         }
         return expand(argv[2], argv[3]);
     }
-    if (argc > 1 && strcmp(argv[1], "--touch") == 0) {
-        if (argc != 4 || argv[2][0] == 0 || argv[2][strspn(argv[2], "0123456789")] != 0) {
-            fprintf(stderr, "usage: example --touch PLACE LIST\n");
+    if (argc > 1 && (strcmp(argv[1], "--touch") == 0 || strcmp(argv[1], "--edition") == 0)) {
+        int touched = strcmp(argv[1], "--touch") == 0;
+        if (argc != 4 || !is_number(argv[2])) {
+            fprintf(stderr, "usage: example %s LIST\n", touched ? "--touch PLACE" : "--edition NUMBER");
             return 2;
         }
-        return touch(argv[3], strtoull(argv[2], NULL, 10));
+        size_t number = strtoull(argv[2], NULL, 10);
+        return touched ? touch(argv[3], number) : by_edition(argv[3], number);
     }
     int by_table = argc > 1 && strcmp(argv[1], "--by-table") == 0;
-    const char *list = argc > 1 + by_table ? argv[1 + by_table] : "Cooks: Childs at WGBH;, \"Al\"";
-    const uint8_t *body = (const uint8_t *)list;
-    size_t length = strlen(list);
-    static uint8_t table[12 * 2048], text[65536];
-    uint64_t told[3];
-    if (by_table)
-        rfc733_addresses_by_table(body, length, 0, length, table, sizeof table, told, 3);
-    else
-        rfc733_addresses(body, length, 0, length, table, sizeof table, told, 3);
-    if (told[0] != 0) return refused(told);
-    for (size_t i = 0; i < told[2]; i++) {
-        const uint8_t *record = table + 12 * i;
-        printf("address %u %u %u %u %u %u %u  %.*s\n", record[0], record[1], two(record, 2), two(record, 4),
-               two(record, 6), two(record, 8), two(record, 10), (int)(two(record, 10) - two(record, 8)),
-               list + two(record, 8));
-    }
-    rfc733_plain(body, length, 0, length, text, sizeof text, told, 3);
-    if (told[0] == 0) printf("plain %.*s\n", (int)told[2], text);
-    return 0;
+    return records_and_plain(argc > 1 + by_table ? argv[1 + by_table] : "Cooks: Childs at WGBH;, \"Al\"", by_table);
 }

@@ -1,4 +1,4 @@
-/* Reading mail headers in the form of RFC 733.
+/* Reading mail headers in the form of RFC 733, and address lists in that of RFC 822 too.
  *
  * Memory is lent as a pointer and a length; nothing is kept. A pointer may not be null, not even with the length 0.
  * The lent parts of one call may not overlap. `told` is an array of three: the answer's number, position and count, and
@@ -9,7 +9,8 @@
  * 5 quoted-string not closed; 6 comment not closed; 7 stray control byte; 8 no list goes on with this symbol;
  * 9 body ends too soon; 10 level 65 opened; 11 too little room, the count says what is needed; 12 date of wrong form;
  * 13 positions out of order, or a touched place outside the body; 14 date of right form, impossible; 19 an Include leads
- * to no stored list; 20 a 65th opening of a stored list.
+ * to no stored list; 20 a 65th opening of a stored list; 21 an edition other than 733 and 822; 23 domain literal not
+ * closed, or with a bare "[" in it.
  */
 #ifndef RFC733_H
 #define RFC733_H
@@ -33,15 +34,20 @@ uint32_t rfc733_known_name(const uint8_t *name, size_t name_length);
 void rfc733_scan(const uint8_t *message, size_t message_length, size_t start, size_t end,
                  uint64_t *told, size_t told_length);
 
-/* The address list in the body of a message from start up to end: records of 12 bytes in the table: kind (1 mailbox,
- * 2 angle list, 3 group, 4 quoted-string, 5 Include, 6 Postal, 7 other typed), depth, then two bytes each, high byte
- * first: parent's record number plus 1 or 0, start, end, name start, name end. The count is the number of addresses. */
-void rfc733_addresses(const uint8_t *message, size_t message_length, size_t start, size_t end,
+/* The address list in the body of a message from start up to end, by an edition, 733 or 822: records of 12 bytes in the
+ * table: kind, depth, then two bytes each, high byte first: parent's record number plus 1 or 0, start, end, name start,
+ * name end. The count is the number of addresses.
+ * Edition 733, RFC 733: kind 1 mailbox, 2 angle list, 3 group, 4 quoted-string, 5 Include, 6 Postal, 7 other typed.
+ * Edition 822, RFC 822: kind 1 local-part and domain, the local-part its name; 2 phrase and route-addr, with a kind 1 in
+ * it, after any route; 3 group of mailboxes. Only this edition answers 23, at the literal's first "[", in scanning order
+ * with 3, 5, 6 and 7; it never answers 10.
+ * Any other edition is 21 at 0, tested after 1 and before 13. All other functions read by RFC 733. */
+void rfc733_addresses(const uint8_t *message, size_t message_length, size_t start, size_t end, size_t edition,
                       uint8_t *table, size_t table_length, uint64_t *told, size_t told_length);
 
-/* The same by a second reader, for a board with a small stack: no function of it calls itself, it keeps its levels in an
- * array, and takes as much stack at 64 levels as at one (measured: less than 4,096 bytes). For every message, positions
- * and table it gives the number, position, count and table bytes of rfc733_addresses, which is proved. */
+/* Edition 733 by a second reader, for a board with a small stack: no function of it calls itself, it keeps its levels in
+ * an array, and takes as much stack at 64 levels as at one (measured: less than 4,096 bytes). For every message, positions
+ * and table it gives the number, position, count and table bytes of rfc733_addresses with edition 733, which is proved. */
 void rfc733_addresses_by_table(const uint8_t *message, size_t message_length, size_t start, size_t end,
                                uint8_t *table, size_t table_length, uint64_t *told, size_t told_length);
 
@@ -50,9 +56,9 @@ void rfc733_addresses_by_table(const uint8_t *message, size_t message_length, si
  * with a refusal; and with 8, 9 or 10, wherever the body is touched, what could have stood at the refused place, a sum:
  * 1 word, 2 "at", 4 "<", 8 ">", 16 "@", 32 ",", 64 ";", 128 ":", 256 the end. A thing is in it exactly if some list of
  * at most 64 levels goes on with it there, or, for the end, if what stands before is such a list; which is proved.
- * The path: numbers, from 0, of the records of rfc733_addresses that cover the byte, from the last of them to the
- * outermost; the count tells how many, at most 65, and of a shorter path the front is filled. More than 2,048 records
- * are 11, after that a place outside the body is 13. */
+ * The path: numbers, from 0, of the records of rfc733_addresses, edition 733, that cover the byte, from the last of them
+ * to the outermost; the count tells how many, at most 65, and of a shorter path the front is filled. More than 2,048
+ * records are 11, after that a place outside the body is 13. */
 void rfc733_touch(const uint8_t *message, size_t message_length, size_t start, size_t end, size_t place,
                   uint64_t *path, size_t path_length, uint64_t *told, size_t told_length);
 

@@ -1,4 +1,5 @@
-"""Reading mail headers in the form of RFC 733, over the shared library that ./build-library makes.
+"""Reading mail headers in the form of RFC 733, and address lists in that of RFC 822 too, over the shared library that
+./build-library makes.
 
 Positions count bytes from the start of the bytes given, from 0; every end is the position after the last byte.
 """
@@ -87,23 +88,28 @@ def known_name(name):
     return function(*_lent(name))
 
 
-def _read_addresses(name, body):
+def _read_addresses(name, body, *edition):
     """What an address reader of the library gives for a body."""
-    table = _written(name, body, (0, len(body)), 12)
+    table = _written(name, body, (0, len(body), *edition), 12)
     return [Address(table[at], table[at + 1], *(_two(table, at + i) for i in (2, 4, 6, 8, 10))) for at in range(0, len(table), 12)]
 
 
-def addresses(body):
+def addresses(body, edition=733):
     """The addresses of a list, in order, as `Address` records. Raises `Refused`.
 
-    kind: 1 mailbox, 2 angle list, 3 group, 4 quoted-string, 5 Include, 6 Postal, 7 other typed.
+    edition: 733 for a list by RFC 733, 822 for one by RFC 822; any other number is refused by 21.
+    kind: 1 mailbox, 2 angle list, 3 group, 4 quoted-string, 5 Include, 6 Postal, 7 other typed; by RFC 822, 1 local-part
+    and domain, the local-part its name, 2 phrase and route-addr, with a kind 1 in it, 3 group.
     parent: the place in the list, from 1, of the address it lies in; 0 where it lies in none.
+
+        addresses(b"Al <a.b@c>", edition=822)  # kinds 2 and 1, names "Al" and "a.b"
     """
-    return _read_addresses("rfc733_addresses", body)
+    fits = ctypes.c_size_t(edition).value == edition
+    return _read_addresses("rfc733_addresses", body, edition if fits else 0)
 
 
 def addresses_by_table(body):
-    """As `addresses`, by the second reader, for machines with a small stack: no function of it calls itself.
+    """As `addresses` by RFC 733, by the second reader, for machines with a small stack: no function of it calls itself.
 
     It is proved that it gives the same records and the same refusals for every body.
     """

@@ -307,6 +307,119 @@ for option in ([], ["--by-table"]):
     example = subprocess.run([root / "target/lib/example", *option, "x"], capture_output=True, text=True)
     same(f"C example {option}, refused", (example.returncode, example.stdout), (1, "refused 9 1\n"))
 
+
+def c_addresses(message, edition, room=60, start=0, end=None, told_length=3):
+    """All numbers told by the C function and all of the lent table; beforehand each number is UNTOUCHED and the table
+    full of "#"."""
+    end = len(message) if end is None else end
+    table = ctypes.create_string_buffer(b"#" * (room + 9), room + 9)
+    told = (ctypes.c_uint64 * 7)(*[UNTOUCHED] * 7)
+    lent = ctypes.create_string_buffer(message, len(message) + 1)
+    sizes = [ctypes.c_size_t(size) for size in (len(message), start, end, edition)]
+    rfc733._load().rfc733_addresses(lent, *sizes, table, ctypes.c_size_t(room), told, ctypes.c_size_t(told_length))
+    return list(told), table.raw
+
+
+def lent_table(records, room=60):
+    """A lent table with these records at its front."""
+    rows = [bytes(record[:2]) + b"".join(number.to_bytes(2, "big") for number in record[2:]) for record in records]
+    return b"".join(rows).ljust(room + 9, b"#")
+
+
+def listed(body, *records, edition=822):
+    """The records of a body."""
+    told = all_told(0, 0, len(records))
+    same(f"C addresses of {body!r}, {edition}", c_addresses(body, edition), (told, lent_table(records)))
+    try:
+        got = rfc733.addresses(body, edition)
+    except rfc733.Refused as fault:
+        got = (fault.number, fault.place)
+    same(f"addresses({body!r}, {edition})", got, list(records))
+
+
+def unlisted(body, number, place, edition=822):
+    """How a body is refused."""
+    wanted = all_told(number, place, 0), lent_table([])
+    same(f"C addresses of {body[:40]!r}, {edition}", c_addresses(body, edition), wanted)
+    refused(f"addresses({body[:40]!r}, {edition})", lambda: rfc733.addresses(body, edition=edition), number, place)
+
+
+in_group = (3, 0, 0, 0, 14, 0, 1), (1, 1, 1, 2, 5, 2, 3), (2, 1, 1, 7, 13, 7, 8), (1, 2, 3, 9, 12, 9, 10)
+listed(b"")
+listed(b",,(c)")
+listed(b"a.b@c.d", (1, 0, 0, 0, 7, 0, 3))
+listed(b"a . b @ c . d", (1, 0, 0, 0, 13, 0, 5))
+listed(b"x:a@b,,y<c@d>;", *in_group)
+listed(b"x y:,;,", (3, 0, 0, 0, 6, 0, 3))
+listed(b"at@at", (1, 0, 0, 0, 5, 0, 2))
+listed(b"a@[1\\[2]", (1, 0, 0, 0, 8, 0, 1))
+listed(b'a@["(\r\n ].b,', (1, 0, 0, 0, 11, 0, 1))
+listed(b"x <,@a,,@b,:c@d>", (2, 0, 0, 0, 16, 0, 1), (1, 1, 1, 12, 15, 12, 13))
+listed(b"Mary <@x.y,@[1]:m.s@h>", (2, 0, 0, 0, 22, 0, 4), (1, 1, 1, 16, 21, 16, 19))
+# examples of RFC 822
+listed(b"Neuman@BBN-TENEXA", (1, 0, 0, 0, 17, 0, 6))
+listed(b"Alfred Neuman <Neuman@BBN-TENEXA>", (2, 0, 0, 0, 33, 0, 13), (1, 1, 1, 15, 32, 15, 21))
+listed(b'"George, Ted" <Shared@Group.Arpanet>', (2, 0, 0, 0, 36, 0, 13), (1, 1, 1, 15, 35, 15, 21))
+listed(b"Wilt . (the  Stilt) Chamberlain@NBA.US", (1, 0, 0, 0, 38, 0, 31))
+listed(b'":sysmail"@  Some-Group. Some-Org', (1, 0, 0, 0, 33, 0, 10))
+listed(b"Muhammed.(I am  the greatest) Ali @(the) Vegas.WBA", (1, 0, 0, 0, 50, 0, 33))
+listed(b"Al@[10.0.3.19]", (1, 0, 0, 0, 14, 0, 2))
+unlisted(b"Galloping Gourmet@ANT.Down-Under", 8, 17)
+unlisted(b"Joe & J. Harvey <ddd @Org>, JJV @ BBN", 8, 7)
+for body, number, place in (
+    (b"x:y:;;", 8, 3), (b":;", 8, 0), (b'a@"b"', 8, 2), (b"J. Smith <a@b>", 8, 9), (b"a@b@c", 8, 3), (b"a b@c", 8, 3),
+    (b"[a]@b", 8, 0), (b"<a@b>", 8, 0), (b"x<,:c@d>", 8, 3), (b"]", 8, 0), (b"a@b]", 8, 3), (b"a.b at [c]", 8, 4),
+    (b"<" * 65, 8, 0), (b"x:" * 65, 8, 3), (b"a at b", 9, 6), (b'"q"', 9, 3), (b"x:a@b", 9, 5), (b"x<a@b ", 9, 6),
+    (b"a@[1[2]", 23, 2), (b"a@[1", 23, 2), (b"a@[[\xff", 23, 2), (b"a@[\\]", 23, 2), (b"a b [", 23, 4), (b") [", 23, 2),
+    (b"a@[\xff[", 3, 3), (b"a@[\r]", 7, 3), (b'"ab [', 5, 0), (b"([", 6, 0), (b" " * 32769, 1, 32768),
+):
+    unlisted(body, number, place)
+listed(b"a.b at [c]", (1, 0, 0, 0, 10, 0, 3), edition=733)
+same("edition 733 is the default", rfc733.addresses(b"a.b at [c]"), [(1, 0, 0, 0, 10, 0, 3)])
+for edition in (0, 732, 734, 821, 823, 66269, 66358, 2**32 + 733, 2**32 + 822, 2**64 - 1):
+    unlisted(b"a@b", 21, 0, edition)
+    unlisted(b" " * 32769, 1, 32768, edition)
+    for start, end in ((2, 1), (0, 4)):
+        got = c_addresses(b"a@b", edition, start=start, end=end)
+        same(f"edition {edition} before positions", got, (all_told(21, 0, 0), lent_table([])))
+for edition in (-1, 2**64 + 733, 2**64 + 822):
+    refused(f"edition {edition}", lambda: rfc733.addresses(b"a@b", edition), 21, 0)
+    refused(f"edition {edition}, too long", lambda: rfc733.addresses(b" " * 32769, edition), 1, 32768)
+for edition in (733, 822):
+    for start, end in ((2, 1), (0, 4), (2**64 - 1, 1)):
+        got = c_addresses(b"a@b", edition, start=start, end=end)
+        same(f"edition {edition}, positions", got, (all_told(13, 0, 0), lent_table([])))
+for room in (0, 12, 36, 47, 48, 49):
+    wanted = (all_told(0, 0, 4), lent_table(in_group, room)) if room >= 48 else (all_told(11, 0, 4), lent_table([], room))
+    same(f"edition 822, room {room}", c_addresses(b"x:a@b,,y<c@d>;", 822, room), wanted)
+for length in range(5):
+    got = c_addresses(b"x:a@b,,y<c@d>;", 822, told_length=length)
+    same(f"edition 822, {length} numbers told", got, (all_told(*[0, 0, 4][:length]), lent_table(in_group)))
+    got = c_addresses(b"a@[1[2]", 822, told_length=length)
+    same(f"edition 822, {length} told, refused", got, (all_told(*[23, 2, 0][:length]), lent_table([])))
+    got = c_addresses(b"a@b", 66269, told_length=length)
+    same(f"edition 66269, {length} told", got, (all_told(*[21, 0, 0][:length]), lent_table([])))
+got = c_addresses(b"zz a.b@[c] yy", 822, start=2, end=11)
+same("edition 822, part of a message", got, (all_told(0, 0, 1), lent_table([(1, 0, 0, 3, 10, 3, 6)])))
+got = c_addresses(b"zz a.b@[c] yy", 822, start=2, end=9)
+same("edition 822, literal cut off", got, (all_told(23, 7, 0), lent_table([])))
+got = rfc733.addresses(b"x:" + b"a@b," * 8191 + b";", 822)
+wanted = 8192, (3, 0, 0, 0, 32767, 0, 1), (1, 1, 1, 32762, 32765, 32762, 32763)
+same("edition 822, many", (len(got), got[0], got[-1]), wanted)
+for arguments, status, out in (
+    (["822", "Al <@x:a.b@c>"], 0, "address 2 0 0 0 13 0 2  Al\naddress 1 1 1 7 12 7 10  a.b\n"),
+    (["822", ""], 0, ""),
+    (["822", "a at b"], 1, "refused 9 6\n"),
+    (["822", "a@[1[2]"], 1, "refused 23 2\n"),
+    (["733", "a.b at c"], 0, "address 1 0 0 0 8 0 3  a.b\n"),
+    (["66269", "a@b"], 1, "refused 21 0\n"),
+    (["18446744073709552438", "a@b"], 1, "refused 21 0\n"),
+    (["x", "a@b"], 2, ""),
+    (["822"], 2, ""),
+):
+    example = subprocess.run([root / "target/lib/example", "--edition", *arguments], capture_output=True, text=True)
+    same(f"C example --edition {arguments}", (example.returncode, example.stdout), (status, out))
+
 for fault in faults:
     print(fault)
 print(f"calls: {seen}")

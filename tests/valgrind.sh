@@ -1,6 +1,6 @@
 #!/usr/bin/env bash
-# The C example under valgrind, with either address reader, touching a byte and expanding: no fault of memory on lists
-# that are accepted, refused, empty, deep and long.
+# The C example under valgrind, with either address reader and either edition, touching a byte and expanding: no fault of
+# memory on lists that are accepted, refused, empty, deep and long.
 set -u
 cd "$(dirname "$0")/.." || exit 2
 if ! command -v valgrind >/dev/null 2>&1; then
@@ -47,6 +47,20 @@ check "65 levels" 1 "$(times '<' 65)$(times '>' 65)"
 check "long" 0 "$(times 'Al Neuman at Mad-Host, ' 1424)"
 check "more addresses than the table holds" 1 "$(times 'a@b,' 8192)"
 check "over 32,768 bytes" 1 "$(times ',' 32769)"
+run "edition 822" 0 --edition 822 'Cooks: Childs@WGBH.Boston, J K <,@a.[1],,@b,:"l".m@[2\]]>,;, n@o (away)'
+run "edition 822, empty" 0 --edition 822 ''
+run "edition 822, refused" 1 --edition 822 'J. Smith <a@b>'
+run "edition 822, ends too soon" 1 --edition 822 'a at b'
+run "edition 822, open literal" 1 --edition 822 'a@[1'
+run "edition 822, backslash at the end" 1 --edition 822 'a@[\'
+run "edition 822, bare bracket" 1 --edition 822 'a@[1[2]'
+run "edition 822, long" 0 --edition 822 "$(times 'Al.Neuman@Mad-Host, ' 1638)"
+run "edition 822, long literal" 0 --edition 822 "a@[$(times '\[' 16382)]"
+run "edition 822, as many addresses as the table holds" 0 --edition 822 "$(times 'x<@a:b@c>,' 1024)"
+run "edition 822, more addresses than the table holds" 1 --edition 822 "$(times 'x<@a:b@c>,' 1025)"
+run "edition 822, over 32,768 bytes" 1 --edition 822 "$(times ',' 32769)"
+run "edition 733" 0 --edition 733 'a.b at [c]'
+run "other edition" 1 --edition 66269 'a@b'
 run "touched" 0 --touch 4 'g:<a@b>,;'
 run "touched, no record" 0 --touch 0 '(x) "q"'
 run "touched at 64 levels" 0 --touch 65 "$(times '<' 64)\"q\"$(times '>' 64)"

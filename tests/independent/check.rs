@@ -1,6 +1,7 @@
 //! Tests the independent reader by itself on the examples of the page of rules.
 
 mod reader;
+mod reader822;
 
 use reader::Told;
 
@@ -745,6 +746,249 @@ fn expanded_rooms(tally: &mut Tally) {
     tally.same("longer than a message", answer, (told(11, 0, 40_006), 1));
 }
 
+/// Reads a body that is a whole message, by RFC 822, with much room.
+fn list822(body: &[u8]) -> (Told, Vec<u8>) {
+    let mut table = vec![0; 12 * 20_000];
+    let answer = reader822::addresses(body, 0, body.len(), 822, &mut table);
+    table.truncate(if answer.number == 0 { 12 * answer.count as usize } else { 0 });
+    (answer, table)
+}
+
+/// Kind, depth and parent of each address, its text and that of its name;
+/// or the refusal.
+type Shown<'a> = Result<Vec<(u8, u8, usize, &'a str, &'a str)>, (u64, u64)>;
+
+fn shown822(body: &str) -> Shown<'_> {
+    let (answer, table) = list822(body.as_bytes());
+    if answer.number != 0 {
+        return Err((answer.number, answer.position));
+    }
+    let show = |record: &[u8]| {
+        let at = |i: usize| usize::from(record[i]) * 256 + usize::from(record[i + 1]);
+        (record[0], record[1], at(2), &body[at(4)..at(6)], &body[at(8)..at(10)])
+    };
+    Ok(table.chunks(12).map(show).collect())
+}
+
+/// Every byte of the records of lists by RFC 822.
+fn records822(tally: &mut Tally) {
+    tally.same("dots", list822(b"a.b@c.d").1, vec![1, 0, 0, 0, 0, 0, 0, 7, 0, 0, 0, 3]);
+    let spaced = vec![1, 0, 0, 0, 0, 0, 0, 13, 0, 0, 0, 5];
+    tally.same("dots with spaces", list822(b"a . b @ c . d").1, spaced);
+    let group = [
+        [3, 0, 0, 0, 0, 0, 0, 14, 0, 0, 0, 1],
+        [1, 1, 0, 1, 0, 2, 0, 5, 0, 2, 0, 3],
+        [2, 1, 0, 1, 0, 7, 0, 13, 0, 7, 0, 8],
+        [1, 2, 0, 3, 0, 9, 0, 12, 0, 9, 0, 10],
+    ];
+    tally.same("group", list822(b"x:a@b,,y<c@d>;").1, group.concat());
+    let route = [[2, 0, 0, 0, 0, 0, 0, 16, 0, 0, 0, 1], [1, 1, 0, 1, 0, 12, 0, 15, 0, 12, 0, 13]];
+    tally.same("route", list822(b"x <,@a,,@b,:c@d>").1, route.concat());
+    let long = [b"x:", &b"a@b,".repeat(8_191)[..], b";"].concat();
+    let (answer, table) = list822(&long);
+    tally.same("long group", answer, told(0, 0, 8_192));
+    let last = [1, 1, 0, 1, 0x7F, 0xFA, 0x7F, 0xFD, 0x7F, 0xFA, 0x7F, 0xFB];
+    tally.same("long group", table[12 * 8_191..].to_vec(), last.to_vec());
+}
+
+/// Lists by RFC 822, shown as texts.
+fn lists822(tally: &mut Tally) {
+    let cases: [(&str, &[(u8, u8, usize, &str, &str)]); 19] = [
+        ("", &[]),
+        (", (c),", &[]),
+        ("at@at", &[(1, 0, 0, "at@at", "at")]),
+        ("x:;", &[(3, 0, 0, "x:;", "x")]),
+        ("\"x\" y : , ,;,", &[(3, 0, 0, "\"x\" y : , ,;", "\"x\" y")]),
+        ("\"a\".b.\"c\"@d", &[(1, 0, 0, "\"a\".b.\"c\"@d", "\"a\".b.\"c\"")]),
+        (" (c)a(d).(e)b(f)@(g)c(h)", &[(1, 0, 0, "a(d).(e)b(f)@(g)c", "a(d).(e)b")]),
+        ("a@[]", &[(1, 0, 0, "a@[]", "a")]),
+        ("a@[1].b.[2.3] ,c@d", &[(1, 0, 0, "a@[1].b.[2.3]", "a"), (1, 0, 0, "c@d", "c")]),
+        ("a@[1\\[2]", &[(1, 0, 0, "a@[1\\[2]", "a")]),
+        ("a@[\\]\\\\]", &[(1, 0, 0, "a@[\\]\\\\]", "a")]),
+        ("a@[\"(]", &[(1, 0, 0, "a@[\"(]", "a")]),
+        ("a@[\\\r\\\n\r\n \0\u{7F}]", &[(1, 0, 0, "a@[\\\r\\\n\r\n \0\u{7F}]", "a")]),
+        ("a@[\\\r\n ]", &[(1, 0, 0, "a@[\\\r\n ]", "a")]),
+        ("([)\"[\"@a", &[(1, 0, 0, "\"[\"@a", "\"[\"")]),
+        ("at At<aT@AT>", &[(2, 0, 0, "at At<aT@AT>", "at At"), (1, 1, 1, "aT@AT", "aT")]),
+        ("x<@[1].a:b.c@d>", &[(2, 0, 0, "x<@[1].a:b.c@d>", "x"), (1, 1, 1, "b.c@d", "b.c")]),
+        ("x<,,@a,:b@c>", &[(2, 0, 0, "x<,,@a,:b@c>", "x"), (1, 1, 1, "b@c", "b")]),
+        (
+            "x:;,y:a@b;",
+            &[(3, 0, 0, "x:;", "x"), (3, 0, 0, "y:a@b;", "y"), (1, 1, 2, "a@b", "a")],
+        ),
+    ];
+    for (body, wanted) in cases {
+        tally.same(body, shown822(body), Ok(wanted.to_vec()));
+    }
+}
+
+/// Where lists by RFC 822 are refused, and by which number.
+fn refused822(tally: &mut Tally) {
+    let by_8 = [
+        ("x:y:;;", 3), (":;", 0), ("a@\"b\"", 2), ("J. Smith <a@b>", 9), ("a@b@c", 3), ("a b@c", 3),
+        ("[a]@b", 0), ("<a@b>", 0), ("x<,:c@d>", 3), ("x<>", 2), ("x<@a>", 4), ("x<@a:>", 5),
+        ("x<:a@b>", 2), ("x<@a,b@c>", 5), ("x<@a@b:c@d>", 4), ("x<a@b,c@d>", 5), ("x<a@b:", 5),
+        ("x<a:", 3), ("x<a b@c>", 4), ("x<a@b>y", 6), ("x<@a:y<", 6), ("x<@\"a\":", 3), ("x<,a", 3),
+        (".a@b", 0), ("a..b@c", 2), ("a.@b", 2), ("a@.b", 2), ("a@b..c", 4), ("a@,", 2),
+        ("a@b c", 4), ("a@b[c]", 3), ("a@[b]c", 5), ("a@[b]]", 5), ("a@b.\"c\"", 4), ("a.b c", 4),
+        ("a.b:", 3), ("a.b<", 3), ("a b.", 3), ("\"a\",", 3), ("a@b:;", 3), ("x:a@b;c", 6),
+        ("x:a@b;y:;", 6), ("x:;;", 3), ("x:y z:", 5), ("x:y<a@b>:", 8), ("x:>", 2), ("x<a@b;", 5),
+        ("x:a@b>", 5), ("x<x:", 3), (";", 0), (">", 0), ("]", 0), ("a@b]", 3), ("\\", 0),
+        ("a@\\b", 2), (")", 0), ("a[b]", 1), ("x [b] <a@b>", 2), ("x.[b]@c", 2), ("@a", 0),
+        (":Include:\"x\"", 0), ("a@b,,.", 5), ("x:a@b,x:", 7), ("x:a@b c@d;", 6), ("a@b at c", 4),
+        ("x <y <a@b>>", 5),
+    ];
+    for (body, place) in by_8 {
+        tally.same(body, shown822(body), Err((8, place)));
+    }
+    let by_9 = [
+        "a at b", "\"q\"", "a", "a.", "a.b", "a@", "a@b.", "a b", "x:", "x:a@b", "x:a", "x:,", "x<",
+        "x<,", "x<@", "x<@a", "x<@a,", "x<@a:", "x<@a:b", "x<@a:b@c", "x<a", "x<a@b", "x:y<a@b>",
+        "x:y", "a@b,c (d) ",
+    ];
+    for body in by_9 {
+        tally.same(body, shown822(body), Err((9, body.len() as u64)));
+    }
+}
+
+/// Faults of scanning by RFC 822, in scanning order.
+fn scanning822(tally: &mut Tally) {
+    let cases: [(&[u8], (u64, u64)); 33] = [
+        (b"[", (23, 0)), (b"a@[1[2]", (23, 2)), (b"a b [", (23, 4)), (b") [", (23, 2)),
+        (b"a@[\\]", (23, 2)), (b"a@[\\", (23, 2)), (b"a@[[\xFF", (23, 2)), (b"a@[\xFF[", (3, 3)),
+        (b"a@[\r]", (7, 3)), (b"a@[[\r", (23, 2)), (b"a@[\r[", (7, 3)), (b"a@[\\\xFF]", (3, 4)),
+        (b"a@[\r\n]", (7, 3)), (b"a@[\r\n ", (23, 2)), (b"a@[\r\n", (7, 3)), (b"a@[b\xFF", (3, 4)),
+        (b"[\"", (23, 0)), (b"\"[", (5, 0)), (b"[(", (23, 0)), (b"([", (6, 0)),
+        (b"\"[\"[", (23, 3)), (b"a[b]c[", (23, 5)), (b"a[[b", (23, 1)), (b"[\\[[", (23, 0)),
+        (b"[] [a[ \"", (23, 3)), (b"] \x80", (3, 2)), (b"] \x7F", (7, 2)), (b"].\n", (7, 2)),
+        (b"\"\r[", (7, 1)), (b"[\\\r\n \r", (7, 5)), (b"\x7F[", (7, 0)), (b"a.\xFF", (3, 2)),
+        (b"[\\\\[]", (23, 0)),
+    ];
+    for (body, (number, place)) in cases {
+        tally.same("scanning by RFC 822", list822(body).0, told(number, place, 0));
+    }
+}
+
+/// Editions and positions, and who answers first.
+fn editions(tally: &mut Tally) {
+    let read = |start, end, edition| {
+        let mut table = [7; 13];
+        let answer = reader822::addresses(b"zz a.b at [c] yy", start, end, edition, &mut table);
+        (answer, table)
+    };
+    let mailbox = [1, 0, 0, 0, 0, 3, 0, 13, 0, 3, 0, 6, 7];
+    tally.same("edition 733", read(2, 14, 733), (told(0, 0, 1), mailbox));
+    tally.same("edition 822", read(2, 14, 822), (told(8, 7, 0), [7; 13]));
+    tally.same("part of a message", read(2, 9, 822), (told(8, 7, 0), [7; 13]));
+    tally.same("end of a part", read(2, 7, 822), (told(9, 7, 0), [7; 13]));
+    tally.same("literal cut off", read(9, 12, 822), (told(23, 10, 0), [7; 13]));
+    let others = [0, 1, 732, 734, 821, 823, 66_269, 66_358, (1 << 32) + 733, usize::MAX];
+    for edition in others {
+        for (start, end) in [(2, 14), (3, 2), (0, 17), (0, 0)] {
+            tally.same("edition", read(start, end, edition), (told(21, 0, 0), [7; 13]));
+        }
+        let long = reader822::addresses(&[b' '; 32_769], 0, 0, edition, &mut []);
+        tally.same("edition of a long message", long, told(1, 32_768, 0));
+    }
+    for edition in [733, 822] {
+        for (start, end) in [(3, 2), (0, 17), (usize::MAX, 3)] {
+            tally.same("positions", read(start, end, edition), (told(13, 0, 0), [7; 13]));
+        }
+        let long = reader822::addresses(&[b' '; 32_769], 1, 0, edition, &mut []);
+        tally.same("long message", long, told(1, 32_768, 0));
+    }
+    let body = b"x:a@b,,y<c@d>;";
+    for room in [0, 12, 36, 47, 48, 49, 60] {
+        let mut table = vec![7; room];
+        let answer = reader822::addresses(body, 0, 14, 822, &mut table);
+        let number = if room < 48 { 11 } else { 0 };
+        tally.same("room", answer, told(number, 0, 4));
+        let written = if room < 48 { vec![] } else { list822(body).1 };
+        tally.same("table", table, [&written[..], &[7; 60][written.len()..room]].concat());
+    }
+}
+
+/// Examples of RFC 822: an address and its name; a phrase in front of an
+/// address in brackets; and those that its own rules refuse.
+fn examples822(tally: &mut Tally) {
+    let one = [
+        ("Neuman@BBN-TENEXA", "Neuman"),
+        ("Wilt . (the  Stilt) Chamberlain@NBA.US", "Wilt . (the  Stilt) Chamberlain"),
+        ("\":sysmail\"@  Some-Group. Some-Org", "\":sysmail\""),
+        (
+            "Muhammed.(I am  the greatest) Ali @(the)\r\n Vegas.WBA",
+            "Muhammed.(I am  the greatest) Ali",
+        ),
+        ("Sam.Irving@Reg.Organization", "Sam.Irving"),
+        ("/main/davis/people/standard@Other-Host", "/main/davis/people/standard"),
+        ("\"Sam Irving\"@Other-Host", "\"Sam Irving\""),
+        ("Al@[10.0.3.19]", "Al"),
+    ];
+    for (body, name) in one {
+        tally.same(body, shown822(body), Ok(vec![(1, 0, 0, body, name)]));
+    }
+    let named = [
+        ("Alfred Neuman <Neuman@BBN-TENEXA>", "Alfred Neuman", "Neuman@BBN-TENEXA", "Neuman"),
+        ("George Jones<Group@Host>", "George Jones", "Group@Host", "Group"),
+        (
+            "\"George, Ted\" <Shared@Group.Arpanet>", "\"George, Ted\"", "Shared@Group.Arpanet",
+            "Shared",
+        ),
+    ];
+    for (body, name, inner, local) in named {
+        let wanted = vec![(2, 0, 0, body, name), (1, 1, 1, inner, local)];
+        tally.same(body, shown822(body), Ok(wanted));
+    }
+    let folk = "Important folk: \"<Jones>standard.dist.3\"@Tops-20-Host>;";
+    let gourmet = "Galloping Gourmet@ANT.Down-Under";
+    for (body, place) in [("Joe & J. Harvey <ddd @Org>", 7), (gourmet, 17), (folk, 53)] {
+        tally.same(body, shown822(body), Err((8, place)));
+    }
+}
+
+/// Kind, depth, parent and name of each address by RFC 822.
+fn named822(body: &str) -> Vec<(u8, u8, usize, &str)> {
+    let all = shown822(body).unwrap_or_default();
+    all.iter().map(|address| (address.0, address.1, address.2, address.4)).collect()
+}
+
+/// Longer lists of RFC 822, with what its own rules refuse in them corrected.
+fn long_examples822(tally: &mut Tally) {
+    let harvey = "\"Joe & J. Harvey\" <ddd @Org>, JJV\r\n @ BBN";
+    let wanted = [(2, 0, 0, "\"Joe & J. Harvey\""), (1, 1, 1, "ddd"), (1, 0, 0, "JJV")];
+    tally.same(harvey, named822(harvey), wanted.to_vec());
+    let gourmets = "Gourmets:  Pompous Person <WhoZiWhatZit@Cordon-Bleu>,\r\n \
+        Childs@WGBH.Boston, Galloping.Gourmet@\r\n ANT.Down-Under (Australian National \
+        Television),\r\n Cheapie@Discount-Liquors;,\r\n Cruisers:  Port@Portugal, Jones@SEA;,\r\n \
+        Another@Somewhere.SomeOrg";
+    let wanted = [
+        (3, 0, 0, "Gourmets"),
+        (2, 1, 1, "Pompous Person"),
+        (1, 2, 2, "WhoZiWhatZit"),
+        (1, 1, 1, "Childs"),
+        (1, 1, 1, "Galloping.Gourmet"),
+        (1, 1, 1, "Cheapie"),
+        (3, 0, 0, "Cruisers"),
+        (1, 1, 7, "Port"),
+        (1, 1, 7, "Jones"),
+        (1, 0, 0, "Another"),
+    ];
+    tally.same("Gourmets, 1982", named822(gourmets), wanted.to_vec());
+    let folk = "Important folk:\r\n Tom Softwood <Balsa@Tree.Root>,\r\n \
+        \"Sam Irving\"@Other-Host;,\r\n Standard Distribution:\r\n \
+        /main/davis/people/standard@Other-Host,\r\n \"<Jones>standard.dist.3\"@Tops-20-Host;";
+    let wanted = [
+        (3, 0, 0, "Important folk"),
+        (2, 1, 1, "Tom Softwood"),
+        (1, 2, 2, "Balsa"),
+        (1, 1, 1, "\"Sam Irving\""),
+        (3, 0, 0, "Standard Distribution"),
+        (1, 1, 5, "/main/davis/people/standard"),
+        (1, 1, 5, "\"<Jones>standard.dist.3\""),
+    ];
+    tally.same("Important folk", named822(folk), wanted.to_vec());
+}
+
 fn splitting(tally: &mut Tally) {
     let cases: [(&[u8], Told); 13] = [
         (b"", told(0, 0, 0)),
@@ -819,6 +1063,13 @@ fn main() {
     budget(&mut tally);
     joined_levels(&mut tally);
     expanded_rooms(&mut tally);
+    records822(&mut tally);
+    lists822(&mut tally);
+    refused822(&mut tally);
+    scanning822(&mut tally);
+    editions(&mut tally);
+    examples822(&mut tally);
+    long_examples822(&mut tally);
     splitting(&mut tally);
     dates(&mut tally);
     println!("{} checks, {} failed", tally.run, tally.failed);

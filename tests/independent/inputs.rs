@@ -49,16 +49,21 @@ pub enum Kind {
     Exchange,
     Pair,
     Expansion,
+    List822,
+    Mutant822,
+    Soup822,
 }
 
-pub const KINDS: [Kind; 16] = [
+pub const KINDS: [Kind; 19] = [
     Kind::Bytes, Kind::Tokens, Kind::Symbols, Kind::List, Kind::Mutant, Kind::Deep,
     Kind::Waves, Kind::Long, Kind::Header, Kind::Date, Kind::DateMutant, Kind::Reply,
-    Kind::Name, Kind::Exchange, Kind::Pair, Kind::Expansion,
+    Kind::Name, Kind::Exchange, Kind::Pair, Kind::Expansion, Kind::List822, Kind::Mutant822,
+    Kind::Soup822,
 ];
 
 /// How often each kind is made, of 1,000.
-const WEIGHTS: [usize; 16] = [40, 95, 110, 85, 114, 75, 60, 3, 68, 45, 45, 18, 7, 80, 65, 90];
+const WEIGHTS: [usize; 19] =
+    [30, 70, 80, 65, 88, 70, 60, 4, 46, 35, 35, 14, 5, 62, 50, 76, 85, 75, 50];
 
 /// Chooses the place of a kind in `KINDS`.
 pub fn choose(rng: &mut Rng) -> usize {
@@ -97,6 +102,12 @@ pub fn body(rng: &mut Rng, kind: Kind) -> Vec<u8> {
         Kind::Exchange => commented(rng),
         Kind::Pair => pair(rng).0,
         Kind::Expansion => expansion(rng).0,
+        Kind::List822 => list822(rng).0,
+        Kind::Mutant822 => {
+            let valid = list822(rng).0;
+            mutate(rng, valid)
+        }
+        Kind::Soup822 => soup822(rng),
     }
 }
 
@@ -266,6 +277,12 @@ fn touches(byte: Option<&u8>) -> bool {
 
 /// Prints tokens, parting them where they would run together.
 fn glue(rng: &mut Rng, tokens: &Tokens, compact: bool) -> Vec<u8> {
+    glue_by(rng, tokens, compact, touches)
+}
+
+fn glue_by(
+    rng: &mut Rng, tokens: &Tokens, compact: bool, touches: fn(Option<&u8>) -> bool,
+) -> Vec<u8> {
     let mut out: Vec<u8> = Vec::new();
     for token in tokens {
         let close = touches(out.last()) && touches(token.first());
@@ -282,7 +299,7 @@ fn glue(rng: &mut Rng, tokens: &Tokens, compact: bool) -> Vec<u8> {
     out
 }
 
-const TELLING: &[u8] = b"<>:;,@<>:;,@\" \tatxAT0123456789+-.";
+const TELLING: &[u8] = b"<>:;,@<>:;,@.\" \tatxAT0123456789+-.[]";
 
 const RARE: &[u8] = b"()\\\r\n\x00\x7F\x80\xFF";
 
@@ -1236,6 +1253,247 @@ fn refused_list(rng: &mut Rng) -> Vec<u8> {
             mutate(rng, valid)
         }
         _ => [&list(rng)[..], b",", rng.pick(&FAULTS)].concat(),
+    }
+}
+
+// ------------------------------------------------------------- RFC 822
+
+const ATOMS822: [&[u8]; 12] = [
+    b"x", b"y", b"at", b"AT", b"aT", b"att", b"Include", b"1", b"-", b"~!#", b"}", b"a/b",
+];
+
+const QUOTED822: [&[u8]; 8] = [
+    b"\"\"", b"\"q\"", b"\"at\"", b"\"[\"", b"\"].[\"", b"\"\\\"\"", b"\"a\r\n b\"", b"\"<:;>,@\"",
+];
+
+const LITERALS: [&[u8]; 16] = [
+    b"[]", b"[1]", b"[10.0.3.19]", b"[\\[]", b"[\\]]", b"[\\\\]", b"[\"]", b"[(]", b"[)]",
+    b"[a\r\n b]", b"[\\\r\n ]", b"[\n]", b"[\\\r]", b"[\\\r\n]", b"[\x00\t\x7F]", b"[ <a@b>, c:; ]",
+];
+
+const MARKS822: [&[u8]; 11] =
+    [b"@", b"@", b".", b".", b"<", b">", b":", b";", b",", b"<@", b"x@y"];
+
+const FAULTS822: [&[u8]; 18] = [
+    b"[", b"]", b"[[]", b"[a[", b"[\r]", b"[\x80]", b"[\\\x80]", b"[\x80[", b"[[\x80", b"[\\",
+    b"[\\]", b"[\"[\"]", b"[(])", b"[\\\\[]", b"[\r\n]", b"[\r\n ", b"[[\r", b"[\r[",
+];
+
+/// Whether a byte belongs to an atom by RFC 822.
+fn touches822(byte: Option<&u8>) -> bool {
+    touches(byte) && !byte.is_some_and(|b| b".[]".contains(b))
+}
+
+/// A domain literal that scans without fault.
+fn literal(rng: &mut Rng) -> Vec<u8> {
+    if !rng.once_in(3) {
+        return rng.pick(&LITERALS).to_vec();
+    }
+    let mut out = vec![b'['];
+    for _ in 0..rng.below(8) {
+        let byte = rng.below(128) as u8;
+        if b"\r[]\\".contains(&byte) || rng.once_in(4) {
+            out.push(b'\\');
+        }
+        out.push(byte);
+    }
+    out.push(b']');
+    out
+}
+
+/// A list by the rules of RFC 822 in the making.
+#[derive(Default)]
+struct Derived {
+    tokens: Tokens,
+    /// Kind, depth and parent of each address, as in a record.
+    heads: Vec<u8>,
+}
+
+impl Derived {
+    fn put(&mut self, token: &[u8]) {
+        add(&mut self.tokens, token);
+    }
+
+    /// Puts commas, now and then.
+    fn empty_places(&mut self, rng: &mut Rng, times: usize) {
+        while rng.once_in(times) {
+            self.put(b",");
+        }
+    }
+
+    /// Takes in an address of a kind and gives its number plus 1.
+    fn head(&mut self, kind: u8, depth: u8, parent: usize) -> usize {
+        self.heads.extend([kind, depth, (parent >> 8) as u8, parent as u8]);
+        self.heads.len() / 4
+    }
+
+    fn word(&mut self, rng: &mut Rng) {
+        let word = if rng.once_in(4) { rng.pick(&QUOTED822) } else { rng.pick(&ATOMS822) };
+        self.put(word);
+    }
+
+    fn phrase(&mut self, rng: &mut Rng) {
+        self.word(rng);
+        while rng.once_in(3) {
+            self.word(rng);
+        }
+    }
+
+    fn local_part(&mut self, rng: &mut Rng) {
+        self.word(rng);
+        while rng.once_in(3) {
+            self.put(b".");
+            self.word(rng);
+        }
+    }
+
+    fn domain(&mut self, rng: &mut Rng) {
+        loop {
+            let part = if rng.once_in(4) { literal(rng) } else { rng.pick(&ATOMS822).to_vec() };
+            self.tokens.push(part);
+            if !rng.once_in(3) {
+                return;
+            }
+            self.put(b".");
+        }
+    }
+
+    fn route(&mut self, rng: &mut Rng) {
+        self.empty_places(rng, 4);
+        loop {
+            self.put(b"@");
+            self.domain(rng);
+            if !rng.once_in(3) {
+                break;
+            }
+            self.put(b",");
+            self.empty_places(rng, 4);
+        }
+        self.empty_places(rng, 4);
+        self.put(b":");
+    }
+
+    /// Puts local-part and domain.
+    fn spec(&mut self, rng: &mut Rng, depth: u8, parent: usize) {
+        self.head(1, depth, parent);
+        self.local_part(rng);
+        self.put(b"@");
+        self.domain(rng);
+    }
+
+    fn mailbox(&mut self, rng: &mut Rng, depth: u8, parent: usize) {
+        if rng.once_in(2) {
+            return self.spec(rng, depth, parent);
+        }
+        let own = self.head(2, depth, parent);
+        self.phrase(rng);
+        self.put(b"<");
+        if rng.once_in(3) {
+            self.route(rng);
+        }
+        self.spec(rng, depth + 1, own);
+        self.put(b">");
+    }
+
+    fn group(&mut self, rng: &mut Rng) {
+        let own = self.head(3, 0, 0);
+        self.phrase(rng);
+        self.put(b":");
+        self.list(rng, own);
+        self.put(b";");
+    }
+
+    /// Puts a list: the body's if the parent is 0, else a group's.
+    fn list(&mut self, rng: &mut Rng, parent: usize) {
+        self.empty_places(rng, 6);
+        for member in 0..rng.below(4) {
+            if member > 0 {
+                self.put(b",");
+                self.empty_places(rng, 8);
+            }
+            match parent {
+                0 if rng.once_in(3) => self.group(rng),
+                0 => self.mailbox(rng, 0, 0),
+                _ => self.mailbox(rng, 1, parent),
+            }
+        }
+        self.empty_places(rng, 8);
+    }
+}
+
+/// A list by the rules of RFC 822, printed with random white space: its text,
+/// and kind, depth and parent of each address.
+pub fn list822(rng: &mut Rng) -> (Vec<u8>, Vec<u8>) {
+    let mut out = Derived::default();
+    if rng.once_in(300) {
+        return long822(rng);
+    }
+    out.list(rng, 0);
+    if rng.once_in(8) {
+        out.tokens = with_comments(rng, &out.tokens);
+    }
+    let compact = rng.once_in(2);
+    (glue_by(rng, &out.tokens, compact, touches822), out.heads)
+}
+
+/// A group of as many mailboxes as a message can hold, and now and then one more.
+fn long822(rng: &mut Rng) -> (Vec<u8>, Vec<u8>) {
+    let mut out = Derived::default();
+    let own = out.head(3, 0, 0);
+    let mut text = b"x:".to_vec();
+    while text.len() < 32_762 + rng.below(8) {
+        let named = rng.once_in(3) && text.len() < 32_750;
+        let inner = if named { out.head(2, 1, own) } else { own };
+        out.head(1, if named { 2 } else { 1 }, inner);
+        text.extend_from_slice(if named { b"x<@a:b.c@[d]>," } else { b"a@b," });
+    }
+    text.push(b';');
+    (text, out.heads)
+}
+
+/// Bytes, tokens or symbols that tell something by RFC 822.
+fn soup822(rng: &mut Rng) -> Vec<u8> {
+    let telling = b"<>@,;:.[]\\\"()<>@,;:..@@[] \t\r\nxxxyyat\xFF";
+    let small: [&[u8]; 12] =
+        [b"x", b"\"q\"", b"at", b"@", b"<", b">", b":", b";", b",", b".", b"[1]", b"]"];
+    let length = rng.below(16);
+    if rng.once_in(60) {
+        return vec![b' '; 32_766 + rng.below(5)];
+    }
+    match rng.below(3) {
+        0 => (0..length).map(|_| telling[rng.below(telling.len())]).collect(),
+        1 => {
+            let tokens: Tokens = (0..length).map(|_| rng.pick(&small).to_vec()).collect();
+            glue_by(rng, &tokens, true, touches822)
+        }
+        _ => (0..length).flat_map(|_| token822(rng)).collect(),
+    }
+}
+
+/// A token of any sort, a faulty one now and then.
+fn token822(rng: &mut Rng) -> Vec<u8> {
+    match rng.below(24) {
+        0..=5 => rng.pick(&ATOMS822).to_vec(),
+        6..=7 => rng.pick(&QUOTED822).to_vec(),
+        8..=9 => literal(rng),
+        10..=12 => rng.pick(&SPACES).to_vec(),
+        13 if rng.once_in(2) => rng.pick(&FAULTS822).to_vec(),
+        14 if rng.once_in(4) => rng.pick(&FAULTS).to_vec(),
+        _ => rng.pick(&MARKS822).to_vec(),
+    }
+}
+
+/// An edition: most often 822, else 733 or a number that is none.
+pub fn edition(rng: &mut Rng) -> usize {
+    let others = [
+        0, 1, 732, 734, 821, 823, 65_536 + 733, 65_536 + 822, (1 << 32) + 733, (1 << 32) + 822,
+        733 << 8, usize::MAX,
+    ];
+    match rng.below(8) {
+        0 | 1 => others[rng.below(others.len())],
+        2 if rng.once_in(4) => rng.next() as usize >> rng.below(64),
+        2 => 733,
+        _ => 822,
     }
 }
 

@@ -3,6 +3,7 @@
 
 mod inputs;
 mod reader;
+mod reader822;
 
 use inputs::{Kind, Rng};
 use reader::Told;
@@ -21,7 +22,7 @@ extern "C" {
         told: *mut u64, told_len: usize,
     );
     fn rfc733_addresses(
-        message: *const u8, message_len: usize, start: usize, end: usize,
+        message: *const u8, message_len: usize, start: usize, end: usize, edition: usize,
         table: *mut u8, table_len: usize,
         told: *mut u64, told_len: usize,
     );
@@ -97,8 +98,20 @@ mod proved {
         answer(told)
     }
 
+    /// Fills the lent table and the lent array of numbers told.
+    pub fn addresses_of(
+        message: &[u8], start: usize, end: usize, edition: usize, table: &mut [u8],
+        told: &mut [u64],
+    ) {
+        let m = (message.as_ptr(), message.len());
+        let (out, t) = ((table.as_mut_ptr(), table.len()), (told.as_mut_ptr(), told.len()));
+        unsafe { rfc733_addresses(m.0, m.1, start, end, edition, out.0, out.1, t.0, t.1) }
+    }
+
     pub fn addresses(message: &[u8], start: usize, end: usize, table: &mut [u8]) -> Told {
-        fill(rfc733_addresses, message, start, end, table)
+        let mut told = UNSET;
+        addresses_of(message, start, end, 733, table, &mut told);
+        answer(told)
     }
 
     pub fn addresses_by_table(message: &[u8], start: usize, end: usize, table: &mut [u8]) -> Told {
@@ -153,7 +166,7 @@ const PATTERN: u8 = 0xA5;
 const LONGEST: usize = 32_768;
 
 /// Every answer number is below this.
-const NUMBERS: usize = 21;
+const NUMBERS: usize = 24;
 
 /// Seconds after which every tally must have counted.
 const LONG_ENOUGH: u64 = 5;
@@ -342,6 +355,45 @@ fn expanded_laws(case: &Case, store: &[u8], length: usize) {
     }
 }
 
+/// Reads a body under an edition and compares all that is told and the whole
+/// table, with rooms around what is needed; gives the number.
+fn compare_edition(rng: &mut Rng, case: &Case, edition: usize, seen: &mut Editions) -> u64 {
+    let (message, start, end) = (case.message, case.start, case.end);
+    let needed = reader822::addresses(message, start, end, edition, &mut []).count as usize;
+    let guess = if needed > 0 { needed } else { rng.below(6) };
+    let mut answer = 0;
+    for (lent, told_length) in [(room(rng, guess, 12), rng.below(5)), (12 * needed, 3)] {
+        let untouched = inputs::numbers(rng, told_length);
+        let mut proved = (untouched.clone(), vec![PATTERN; lent]);
+        proved::addresses_of(message, start, end, edition, &mut proved.1, &mut proved.0);
+        let mut wanted = (untouched, vec![PATTERN; lent]);
+        let told = reader822::addresses(message, start, end, edition, &mut wanted.1);
+        let all = [told.number, told.position, told.count];
+        wanted.0.iter_mut().zip(all).for_each(|(slot, number)| *slot = number);
+        if proved != wanted {
+            differ(case, &format!("addresses of edition {edition}"), lent, &proved, &wanted);
+        }
+        seen.count(case, edition, told, &wanted.1);
+        answer = told.number;
+    }
+    answer
+}
+
+/// Compares a list made by the rules of RFC 822, whose addresses are known.
+fn compare_derived(rng: &mut Rng, seed: u64, seen: &mut Seen) -> u64 {
+    let (body, wanted) = inputs::list822(rng);
+    let (message, start, end) = inputs::place(rng, body.clone());
+    let case = Case { seed, kind: Kind::List822, message: &message, start, end };
+    compare_body(rng, &case, seen);
+    let number = compare_edition(rng, &case, 822, &mut seen.editions);
+    if message.len() <= LONGEST && message.get(start..end) == Some(&body) {
+        let mut table = vec![PATTERN; 3 * wanted.len()];
+        proved::addresses_of(&message, start, end, 822, &mut table, &mut []);
+        agree(&case, "addresses made", 0, (number, heads(&table)), (0, wanted));
+    }
+    number
+}
+
 /// Prints the records of a store, and its tail.
 fn show_store(store: &[u8]) {
     for (number, record) in store.chunks(512).enumerate() {
@@ -372,6 +424,8 @@ fn compare_body(rng: &mut Rng, case: &Case, seen: &mut Seen) -> u64 {
         round_trip(case);
     }
     compare_touch(rng, case, told.number, &mut seen.touches);
+    let edition = inputs::edition(rng);
+    compare_edition(rng, case, edition, &mut seen.editions);
     told.number
 }
 
@@ -562,6 +616,66 @@ impl Expansions {
     }
 }
 
+/// Kind and depth of the addresses that a list by RFC 822 may have.
+const FORMS822: [(u8, u8); 6] = [(1, 0), (1, 1), (1, 2), (2, 0), (2, 1), (3, 0)];
+
+/// How often bodies were read under an edition, by what was told.
+#[derive(Default)]
+struct Editions {
+    /// Under 822, by the answer number.
+    numbers: [u64; NUMBERS],
+    /// Accepted under 822, by the forms and parts they have.
+    forms: [u64; 6],
+    parts: [u64; 8],
+    /// Accepted under 733.
+    older: u64,
+    /// By 21, positions being in order and not; by 1 in place of 21.
+    unknown: [u64; 2],
+    unknown_long: u64,
+}
+
+impl Editions {
+    fn count(&mut self, case: &Case, edition: usize, told: Told, table: &[u8]) {
+        let (message, start, end) = (case.message, case.start, case.end);
+        let disordered = start > end || end > message.len();
+        match (edition, told.number) {
+            (822, 0) => {
+                let records = table.chunks(12).take(told.count as usize);
+                for (times, form) in self.forms.iter_mut().zip(FORMS822) {
+                    *times += u64::from(records.clone().any(|r| (r[0], r[1]) == form));
+                }
+                let parts = reader822::parts(message, start, end);
+                self.parts.iter_mut().zip(parts).for_each(|(times, has)| *times += u64::from(has));
+            }
+            (733, number) => self.older += u64::from(number == 0),
+            (_, 21) => self.unknown[usize::from(disordered)] += 1,
+            (822, _) => {}
+            (_, number) => self.unknown_long += u64::from(number == 1),
+        }
+        self.numbers[told.number as usize] += u64::from(edition == 822);
+    }
+
+    /// Each tally with its name.
+    fn tallies(&self) -> Vec<(String, u64)> {
+        let mut all = vec![
+            ("edition 733, accepted".to_string(), self.older),
+            ("other edition".to_string(), self.unknown[0]),
+            ("other edition, positions disordered".to_string(), self.unknown[1]),
+            ("other edition, message too long".to_string(), self.unknown_long),
+        ];
+        for number in [0, 1, 3, 5, 6, 7, 8, 9, 11, 13, 23] {
+            all.push((format!("edition 822, number {number}"), self.numbers[number]));
+        }
+        for ((kind, depth), times) in FORMS822.iter().zip(self.forms) {
+            all.push((format!("edition 822, kind {kind} depth {depth}"), times));
+        }
+        for (part, times) in reader822::PARTS.iter().zip(self.parts) {
+            all.push((format!("822, {part}"), times));
+        }
+        all
+    }
+}
+
 /// Whether a record's list is refused by that number.
 fn is_refused(store: &[u8], record: usize, number: u64) -> bool {
     if record >= store.len() / 512 {
@@ -577,6 +691,7 @@ fn is_refused(store: &[u8], record: usize, number: u64) -> bool {
 struct Seen {
     touches: Touches,
     expansions: Expansions,
+    editions: Editions,
     /// Exchanges of comments by the answer number of the body.
     exchanged: [u64; 15],
     /// Exchanges of a comment that lies in another.
@@ -620,6 +735,7 @@ impl Seen {
         }
         all.extend(self.touches.tallies());
         all.extend(self.expansions.tallies());
+        all.extend(self.editions.tallies());
         all
     }
 
@@ -729,6 +845,9 @@ fn one_input(rng: &mut Rng, seed: u64, kind: Kind, seen: &mut Seen) -> u64 {
     if kind == Kind::Expansion {
         return compare_expansion(rng, seed, seen);
     }
+    if kind == Kind::List822 {
+        return compare_derived(rng, seed, seen);
+    }
     let body = inputs::body(rng, kind);
     let whole = Case { seed, kind, message: &body, start: 0, end: body.len() };
     match kind {
@@ -751,6 +870,9 @@ fn one_input(rng: &mut Rng, seed: u64, kind: Kind, seen: &mut Seen) -> u64 {
             }
             match kind {
                 Kind::Date | Kind::DateMutant => reader::date(&message, start, end).0.number,
+                Kind::Mutant822 | Kind::Soup822 => {
+                    compare_edition(rng, &case, 822, &mut seen.editions)
+                }
                 _ => list,
             }
         }

@@ -11,12 +11,12 @@ pub struct Told {
 }
 
 /// A refusal: number and position.
-type Fault = (u64, usize);
+pub type Fault = (u64, usize);
 
-const LONGEST: usize = 32_768;
+pub const LONGEST: usize = 32_768;
 const LEVELS: usize = 64;
 const FIELD_RECORD: usize = 8;
-const ADDRESS_RECORD: usize = 12;
+pub const ADDRESS_RECORD: usize = 12;
 
 const CR: u8 = 13;
 const LF: u8 = 10;
@@ -25,7 +25,7 @@ fn accepted(count: usize) -> Told {
     Told { number: 0, position: 0, count: count as u64 }
 }
 
-fn refused(fault: Fault) -> Told {
+pub fn refused(fault: Fault) -> Told {
     Told { number: fault.0, position: fault.1 as u64, count: 0 }
 }
 
@@ -38,7 +38,7 @@ fn is_blank(byte: u8) -> bool {
 }
 
 /// Writes the records into the table if they fit, else asks for more room.
-fn hand_over(records: &[u8], size: usize, table: &mut [u8]) -> Told {
+pub fn hand_over(records: &[u8], size: usize, table: &mut [u8]) -> Told {
     let needed = records.len() / size;
     if table.len() / size < needed {
         return short_of_room(needed);
@@ -48,7 +48,7 @@ fn hand_over(records: &[u8], size: usize, table: &mut [u8]) -> Told {
 }
 
 /// Appends a number in two bytes, high byte first.
-fn push_pair(out: &mut Vec<u8>, value: usize) {
+pub fn push_pair(out: &mut Vec<u8>, value: usize) {
     out.extend_from_slice(&(value as u16).to_be_bytes());
 }
 
@@ -128,7 +128,7 @@ pub fn known(name: &[u8]) -> u32 {
 // --------------------------------------------------------------- symbols
 
 #[derive(Clone, Copy, Debug, PartialEq, Eq)]
-enum Sort {
+pub enum Sort {
     Atom,
     Quoted,
     /// "@" or the atom "at".
@@ -138,7 +138,7 @@ enum Sort {
 }
 
 #[derive(Clone, Debug)]
-struct Symbol {
+pub struct Symbol {
     sort: Sort,
     start: usize,
     end: usize,
@@ -147,10 +147,10 @@ struct Symbol {
 }
 
 /// A byte together with its place in the message.
-type Placed = (usize, u8);
+pub type Placed = (usize, u8);
 
 /// The bytes of the body without the CRLF of each fold.
-fn unfold(message: &[u8], start: usize, end: usize) -> Vec<Placed> {
+pub fn unfold(message: &[u8], start: usize, end: usize) -> Vec<Placed> {
     let body = &message[start..end];
     let mut kept = Vec::with_capacity(body.len());
     let mut i = 0;
@@ -223,7 +223,7 @@ fn unquoted(bytes: &[Placed]) -> Symbol {
 
 /// One step inside quotes or a comment: the byte, whether a backslash took
 /// it, and the index behind it. `None` at the end of the body.
-fn inner_step(bytes: &[Placed], i: usize) -> Result<Option<(u8, bool, usize)>, Fault> {
+pub fn inner_step(bytes: &[Placed], i: usize) -> Result<Option<(u8, bool, usize)>, Fault> {
     let taken = matches!(bytes.get(i), Some((_, b'\\')));
     let at = if taken { i + 1 } else { i };
     match bytes.get(at) {
@@ -235,7 +235,7 @@ fn inner_step(bytes: &[Placed], i: usize) -> Result<Option<(u8, bool, usize)>, F
 }
 
 /// The index behind the comment that opens at `open`.
-fn comment_end(bytes: &[Placed], open: usize) -> Result<usize, Fault> {
+pub fn comment_end(bytes: &[Placed], open: usize) -> Result<usize, Fault> {
     let mut depth = 1u32;
     let mut i = open + 1;
     while let Some((byte, taken, next)) = inner_step(bytes, i)? {
@@ -253,7 +253,7 @@ fn comment_end(bytes: &[Placed], open: usize) -> Result<usize, Fault> {
 }
 
 /// The quoted-string that opens at `open` and the index behind it.
-fn quoted(bytes: &[Placed], open: usize) -> Result<(Symbol, usize), Fault> {
+pub fn quoted(bytes: &[Placed], open: usize) -> Result<(Symbol, usize), Fault> {
     let start = bytes[open].0;
     let mut meaning = Vec::new();
     let mut i = open + 1;

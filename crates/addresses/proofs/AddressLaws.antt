@@ -13,7 +13,8 @@ use Rattle.scanner.specs.declared.Next.{Next}
 use Rattle.scanner.specs.declared.Next.the-variants.{Found, Ended, Fault}
 use Rattle.grammar.specs.Language.{Refusal, unfit, unfinished, tooDeep, refused, number, positionOf}
 use Rattle.grammar.specs.Records.{recordBy, recordBytes, tableBytes}
-use Rattle.grammar.proofs.Trees.{Class, Atom, Quoted, At, LessThan, GreaterThan, Comma, Semicolon, Colon, Stray, Lexeme, Sym, of, Word, atomWord, quotedWord, Phrase, one, more, Address, mailbox, quoted, phraseThen, nodesThen, atomColon}
+use Rattle.grammar.proofs.Trees.{Class, Atom, Quoted, At, LessThan, GreaterThan, Comma, Semicolon, Colon, Stray, Dot, Literal, Lexeme, Sym, of, Word, atomWord, quotedWord, Phrase, one, more, Address, mailbox, quoted, phraseThen, nodesThen, atomColon}
+use Rattle.addresses.proofs.ClassCases.{BeginsNone}
 use Rattle.grammar.proofs.AddressMachine.{Here, inList, inTyped, phrase, firstAt, lone, levelsHere, fresh, run, judge, Spot}
 use Rattle.grammar.proofs.Complete.{begin, Clear, run-phrase, run-mailbox}
 use Rattle.grammar.proofs.Readers.{AddressEnds, endsAddress, at-unfit}
@@ -102,6 +103,8 @@ module _ (classes text : List ℕ) where
   behind-phrase n h p Semicolon t ys f (inr e) = absurd (true≢false e)
   behind-phrase n h p Colon t ys f o = absurd (true≢false f)
   behind-phrase n h p Stray t ys f o = refl
+  behind-phrase n h p Dot t ys f o = refl
+  behind-phrase n h p Literal t ys f o = refl
 
   end-phrase : (n : ℕ) (h : Here) (p : Phrase) → loneQuoted p ≡ false → judge (run n (phrase h p) []) ≡ refused unfinished []
   end-phrase n h p e = rw (not-lone h p e)
@@ -131,11 +134,20 @@ module _ (classes text : List ℕ) where
   -- ---- a symbol that begins no address
 
   -- "at", or what fits no rule
-  begins-none : (n : ℕ) (h : Here) (class : Class) (t : Lexeme) (ys : List Sym) → (class ≡ At) ⊎ (class ≡ Stray) → judge (run n (begin h) (of class t ∷ ys)) ≡ refused unfit (of class t ∷ ys)
-  begins-none n h class t ys (inl e) = rw e (ap judge (at-unfit n t ys h))
-  begins-none n h class t ys (inr e) = rw e refl
+  begins-none : (n : ℕ) (h : Here) (class : Class) (t : Lexeme) (ys : List Sym) → BeginsNone class → judge (run n (begin h) (of class t ∷ ys)) ≡ refused unfit (of class t ∷ ys)
+  begins-none n h Atom t ys o = absurd o
+  begins-none n h Quoted t ys o = absurd o
+  begins-none n h At t ys o = ap judge (at-unfit n t ys h)
+  begins-none n h LessThan t ys o = absurd o
+  begins-none n h GreaterThan t ys o = absurd o
+  begins-none n h Comma t ys o = absurd o
+  begins-none n h Semicolon t ys o = absurd o
+  begins-none n h Colon t ys o = absurd o
+  begins-none n h Stray t ys o = refl
+  begins-none n h Dot t ys o = refl
+  begins-none n h Literal t ys o = refl
 
-  pub none-begins : (class : Class) (a b : ℕ) (frame : Frame) → (class ≡ At) ⊎ (class ≡ Stray) → AddressStops classes text (symbolsAhead classes text (Found class a b)) frame noListGoesOn a
+  pub none-begins : (class : Class) (a b : ℕ) (frame : Frame) → BeginsNone class → AddressStops classes text (symbolsAhead classes text (Found class a b)) frame noListGoesOn a
   none-begins class a b frame o =
       record {
         why = unfit;

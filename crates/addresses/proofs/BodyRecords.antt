@@ -9,7 +9,7 @@ use Rattle.octets.specs.Classes.{classTable}
 use Rattle.scanner.proofs.Spans.{Placed, none, one, placed}
 use Rattle.grammar.specs.Records.{count, records}
 use Rattle.grammar.specs.Rfc733.{Derivation}
-use Rattle.grammar.proofs.Trees.{Class, Atom, Quoted, At, LessThan, GreaterThan, Comma, Semicolon, Colon, Stray, Sym}
+use Rattle.grammar.proofs.Trees.{Class, Atom, Quoted, At, LessThan, GreaterThan, Comma, Semicolon, Colon, Stray, Dot, Literal, Sym}
 use Rattle.grammar.proofs.Order.{leastBytes, InOrder, Ascending, records-ascend, count-half}
 use Rattle.addresses.specs.Outcome.{bodySymbols}
 use Rattle.addresses.proofs.Judgements.{ListBody}
@@ -24,6 +24,8 @@ least Comma start end h q = omega arith
 least Semicolon start end h q = omega arith
 least Colon start end h q = omega arith
 least Stray start end h q = omega arith
+least Dot start end h q = omega arith
+least Literal start end h q = omega arith
 
 -- symbols that lie in a text stand one after the other
 placed-in-order : {classes text : List ℕ} {end at : ℕ} {xs : List Sym} → at ≤ end → Placed classes text end at xs → InOrder at end xs

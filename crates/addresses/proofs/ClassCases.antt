@@ -1,7 +1,6 @@
 -- From an arm of a `match` on a class, or on what comes next, to a test of it. Assumes nothing.
 use mathlib.Core.Path.{_≡_, refl, sym}
 use mathlib.Core.Bool.{Bool, true, false, not, true≢false}
-use mathlib.Core.Logic.{_⊎_, inl, inr}
 use mathlib.Core.List.{List, [], _∷_}
 use Prim.Native.Nat.{ℕ}
 use lib.Dec.{T, lit<}
@@ -14,7 +13,7 @@ use Rattle.scanner.proofs.Next as next-declared
 use Rattle.scanner.specs.declared.Next.{Next}
 use Rattle.scanner.specs.declared.Next.the-variants.{Found, Ended, Fault}
 use Rattle.grammar.proofs.Readers.{endsAddress}
-use Rattle.grammar.proofs.Trees.{Class, Atom, Quoted, At, LessThan, GreaterThan, Comma, Semicolon, Colon, Stray}
+use Rattle.grammar.proofs.Trees.{Class, Atom, Quoted, At, LessThan, GreaterThan, Comma, Semicolon, Colon, Stray, Dot, Literal}
 
 -- a class's place in its declaration
 abbrev pub tag : Class → ℕ
@@ -26,7 +25,7 @@ implies true b = b
 implies false b = true
 
 abbrev all : List Class
-all = Atom ∷ Quoted ∷ At ∷ LessThan ∷ GreaterThan ∷ Comma ∷ Semicolon ∷ Colon ∷ Stray ∷ []
+all = Atom ∷ Quoted ∷ At ∷ LessThan ∷ GreaterThan ∷ Comma ∷ Semicolon ∷ Colon ∷ Stray ∷ Dot ∷ Literal ∷ []
 
 abbrev each : List ℕ → (Class → Bool) → Bool
 each ks test = every (λ n class. implies (hasKey ks n) (test class)) 0 all
@@ -46,6 +45,8 @@ by-class ks test t Comma o = of-key ks 5 (test Comma) (hasKey ks 5) refl (at (λ
 by-class ks test t Semicolon o = of-key ks 6 (test Semicolon) (hasKey ks 6) refl (at (λ n class. implies (hasKey ks n) (test class)) all Stray t 6 (lit< tt)) o
 by-class ks test t Colon o = of-key ks 7 (test Colon) (hasKey ks 7) refl (at (λ n class. implies (hasKey ks n) (test class)) all Stray t 7 (lit< tt)) o
 by-class ks test t Stray o = of-key ks 8 (test Stray) (hasKey ks 8) refl (at (λ n class. implies (hasKey ks n) (test class)) all Stray t 8 (lit< tt)) o
+by-class ks test t Dot o = of-key ks 9 (test Dot) (hasKey ks 9) refl (at (λ n class. implies (hasKey ks n) (test class)) all Stray t 9 (lit< tt)) o
+by-class ks test t Literal o = of-key ks 10 (test Literal) (hasKey ks 10) refl (at (λ n class. implies (hasKey ks n) (test class)) all Stray t 10 (lit< tt)) o
 
 is-false : (b : Bool) → not b ≡ true → b ≡ false
 is-false true e = absurd (true≢false (sym e))
@@ -61,14 +62,29 @@ no-symbol f a e g (Found class start end) o = absurd (miss (1 ∷ 2 ∷ []) 0 tt
 no-symbol f a e g Ended o = e
 no-symbol f a e g (Fault number p) o = g number p
 
--- what begins no address and does not end one
-pub at-or-stray : (class : Class) → OneOf (2 ∷ 4 ∷ 5 ∷ 6 ∷ 8 ∷ []) (tag class) → endsAddress class ≡ false → (class ≡ At) ⊎ (class ≡ Stray)
-at-or-stray Atom o e = absurd (miss (2 ∷ 4 ∷ 5 ∷ 6 ∷ 8 ∷ []) 0 tt o)
-at-or-stray Quoted o e = absurd (miss (2 ∷ 4 ∷ 5 ∷ 6 ∷ 8 ∷ []) 1 tt o)
-at-or-stray At o e = inl refl
-at-or-stray LessThan o e = absurd (miss (2 ∷ 4 ∷ 5 ∷ 6 ∷ 8 ∷ []) 3 tt o)
+-- a class that begins no address and does not end one: "at", or what fits no rule
+abbrev pub BeginsNone : Class → Type 0
+BeginsNone Atom = ⊥
+BeginsNone Quoted = ⊥
+BeginsNone At = Unit {0}
+BeginsNone LessThan = ⊥
+BeginsNone GreaterThan = ⊥
+BeginsNone Comma = ⊥
+BeginsNone Semicolon = ⊥
+BeginsNone Colon = ⊥
+BeginsNone Stray = Unit {0}
+BeginsNone Dot = Unit {0}
+BeginsNone Literal = Unit {0}
+
+pub at-or-stray : (class : Class) → OneOf (2 ∷ 4 ∷ 5 ∷ 6 ∷ 8 ∷ 9 ∷ 10 ∷ []) (tag class) → endsAddress class ≡ false → BeginsNone class
+at-or-stray Atom o e = absurd (miss (2 ∷ 4 ∷ 5 ∷ 6 ∷ 8 ∷ 9 ∷ 10 ∷ []) 0 tt o)
+at-or-stray Quoted o e = absurd (miss (2 ∷ 4 ∷ 5 ∷ 6 ∷ 8 ∷ 9 ∷ 10 ∷ []) 1 tt o)
+at-or-stray At o e = tt
+at-or-stray LessThan o e = absurd (miss (2 ∷ 4 ∷ 5 ∷ 6 ∷ 8 ∷ 9 ∷ 10 ∷ []) 3 tt o)
 at-or-stray GreaterThan o e = absurd (true≢false e)
 at-or-stray Comma o e = absurd (true≢false e)
 at-or-stray Semicolon o e = absurd (true≢false e)
-at-or-stray Colon o e = absurd (miss (2 ∷ 4 ∷ 5 ∷ 6 ∷ 8 ∷ []) 7 tt o)
-at-or-stray Stray o e = inr refl
+at-or-stray Colon o e = absurd (miss (2 ∷ 4 ∷ 5 ∷ 6 ∷ 8 ∷ 9 ∷ 10 ∷ []) 7 tt o)
+at-or-stray Stray o e = tt
+at-or-stray Dot o e = tt
+at-or-stray Literal o e = tt

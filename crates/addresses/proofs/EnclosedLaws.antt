@@ -15,7 +15,7 @@ use Rattle.grammar.specs.Language.{Refusal, unfit, unfinished, tooDeep, refused
 use Rattle.grammar.specs.Records.{AddressRecord, recordBy, recordBytes, tableBytes}
 use Rattle.grammar.specs.Rfc733.{sameClass, kindNumber, typedKind}
 use Rattle.grammar.proofs.HouseRule.{same-class}
-use Rattle.grammar.proofs.Trees.{Class, Atom, Quoted, At, LessThan, GreaterThan, Comma, Semicolon, Colon, Stray, Lexeme, Sym, of, Phrase, AddressList, empty, idle, Address, angle, group, typed, nameThen, atomColon}
+use Rattle.grammar.proofs.Trees.{Class, Atom, Quoted, At, LessThan, GreaterThan, Comma, Semicolon, Colon, Stray, Dot, Literal, Lexeme, Sym, of, Phrase, AddressList, empty, idle, Address, angle, group, typed, nameThen, atomColon}
 use Rattle.grammar.proofs.AnyMachine.{stopped}
 use Rattle.grammar.proofs.AddressMachine.{Here, inTyped, Level, inAngle, inGroup, list, want, asList, close, levelsHere, levelsAt, nameless, fresh, run, judge}
 use Rattle.grammar.proofs.Complete.{begin, doneAddress, doneList, Clear, complete-doneList, run-angle, run-group}
@@ -76,6 +76,8 @@ run-other Angle n h o t l Semicolon u ys v f = rw (complete-doneList (inAngle h 
 run-other Group n h o t l Semicolon u ys v f = absurd (true≢false f)
 run-other e n h o t l Colon u ys v f = absurd (true≢false (sym v))
 run-other e n h o t l Stray u ys v f = absurd (true≢false (sym v))
+run-other e n h o t l Dot u ys v f = absurd (true≢false (sym v))
+run-other e n h o t l Literal u ys v f = absurd (true≢false (sym v))
 
 run-unclosed : (e : Enclosure) (n : ℕ) (h : Here) (o : Option Phrase) (t : Lexeme) (l : AddressList) → judge (run n (doneList (levelIn e h o t) l) []) ≡ refused unfinished []
 run-unclosed Angle n h o t l = rw (complete-doneList (inAngle h o t) l)
@@ -277,6 +279,8 @@ module _ (classes text : List ℕ) where
           want-ends Semicolon e h = refl
           want-ends Colon e h = absurd (true≢false (sym e))
           want-ends Stray e h = absurd (true≢false (sym e))
+          want-ends Dot e h = absurd (true≢false (sym e))
+          want-ends Literal e h = absurd (true≢false (sym e))
       typed-wanted Ended x start′ table after f =
           record {
             why = unfinished;

@@ -10,12 +10,14 @@ use Rattle.scanner.specs.Symbols.{Symbol}
 use Rattle.scanner.specs.Scanning.{scan}
 use Rattle.scanner.specs.Answers.{faultOf, bodyScanned}
 use Rattle.scanner.specs.declared.Class.{Class}
-use Rattle.scanner.proofs.BodyChecks.{in-order, unless-refused, unless-none, Clean, refused-body, clean-body, body-case, when-refused}
+use Rattle.scanner.proofs.BodyChecks.{in-order, unless-refused, Clean, refused-body, clean-body, body-case, when-refused}
 use Rattle.grammar.specs.Language.{Refusal, Verdict, accepted, refused, number, positionOf}
 use Rattle.grammar.specs.Rfc733.{Derivation}
 use Rattle.grammar.proofs.Condition3.{answer, answer-accepts, answer-derives}
+use Rattle.addresses.specs.Editions.{edition733}
 use Rattle.addresses.specs.Outcome.{byVerdict, bodySymbols, readWithin, bodyRead}
 use Rattle.addresses.specs.Condition3.{IsList}
+use Rattle.addresses.proofs.AnyEdition.{verdict-decides}
 
 -- a body within its message that scans without fault to a list with this derivation
 pub record ListBody (message : List ℕ) (start end : ℕ) (k : Derivation) : Type 0 where
@@ -42,8 +44,7 @@ module _ (message : List ℕ) (start end : ℕ) (short : length message ≤ mess
   -- .. and where there is none, the verdict on the symbols decides, with any limit of levels
   pub decided-read : (limit : ℕ) → faultOf (scan (take end message) start) ≡ Accepted 0 → {v : Verdict Class Derivation} → answer limit (bodySymbols message start end) ≡ v
       → {A : Type 0} (refuse : ℕ → ℕ → A) (derive : Derivation → A) → readWithin limit refuse derive message start end ≡ byVerdict refuse derive end v
-  decided-read limit f e refuse derive =
-      in-order refuse message start end _ short ordered inside ∙ unless-none refuse (scan (take end message) start) _ f ∙ ap (byVerdict refuse derive end) e
+  decided-read limit f e refuse derive = verdict-decides edition733 (answer limit) message start end short ordered inside f refuse derive ∙ ap (byVerdict refuse derive end) e
 
   -- a refusal by the verdict
   pub refused-read : faultOf (scan (take end message) start) ≡ Accepted 0 → {why : Refusal} {rest : List (Symbol Class)} → answer levelLimit (bodySymbols message start end) ≡ refused why rest → RefusedBody message start end (number why) (positionOf end rest)

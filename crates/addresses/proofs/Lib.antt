@@ -8,6 +8,7 @@ pub mod AddressLaws
 pub mod EnclosedLaws
 pub mod ListLaws
 pub mod NamedLaws
+pub mod AnyEdition
 pub mod WholeLaws
 pub mod Judgements
 pub mod WithinLaws

@@ -9,7 +9,7 @@ use denote.Enum.Declared.{tagOf}
 use Rattle.scanner.proofs.Next as next-declared
 use Rattle.scanner.specs.declared.Next.{Next}
 use Rattle.scanner.specs.declared.Next.the-variants.{Found, Ended, Fault}
-use Rattle.grammar.proofs.Trees.{Class, Atom, Quoted, At, LessThan, GreaterThan, Comma, Semicolon, Colon, Stray, Lexeme, Sym, of, Phrase, one, phraseThen}
+use Rattle.grammar.proofs.Trees.{Class, Atom, Quoted, At, LessThan, GreaterThan, Comma, Semicolon, Colon, Stray, Dot, Literal, Lexeme, Sym, of, Phrase, one, phraseThen}
 use Rattle.grammar.proofs.TreeRecords.{phraseStart, phraseEnd}
 use Rattle.addresses.specs.Steps.{isWord, isQuoted, followsPhrase, loneQuoted, opening, House, symbolsFrom, lexemeAt, symbolAt, symbolsAhead, Ahead, FirstWord, WordsIs, NoMark, Named, Opening}
 use Rattle.addresses.specs.declared.Words.{Words}
@@ -20,16 +20,18 @@ use Rattle.addresses.proofs.ClassCases.{tag}
 use Rattle.addresses.proofs.PhraseLaws.{wordOf, word-symbol, word-lexeme, word-lone}
 
 -- a symbol behind a phrase that is no word and none of the marks of an address
-pub no-mark-found : (classes text : List ℕ) (class : Class) → OneOf (0 ∷ 1 ∷ 4 ∷ 5 ∷ 6 ∷ 8 ∷ []) (tag class) → isWord class ≡ false → followsPhrase classes text class ≡ false
+pub no-mark-found : (classes text : List ℕ) (class : Class) → OneOf (0 ∷ 1 ∷ 4 ∷ 5 ∷ 6 ∷ 8 ∷ 9 ∷ 10 ∷ []) (tag class) → isWord class ≡ false → followsPhrase classes text class ≡ false
 no-mark-found classes text Atom o e = absurd (true≢false e)
 no-mark-found classes text Quoted o e = absurd (true≢false e)
-no-mark-found classes text At o e = absurd (miss (0 ∷ 1 ∷ 4 ∷ 5 ∷ 6 ∷ 8 ∷ []) 2 tt o)
-no-mark-found classes text LessThan o e = absurd (miss (0 ∷ 1 ∷ 4 ∷ 5 ∷ 6 ∷ 8 ∷ []) 3 tt o)
+no-mark-found classes text At o e = absurd (miss (0 ∷ 1 ∷ 4 ∷ 5 ∷ 6 ∷ 8 ∷ 9 ∷ 10 ∷ []) 2 tt o)
+no-mark-found classes text LessThan o e = absurd (miss (0 ∷ 1 ∷ 4 ∷ 5 ∷ 6 ∷ 8 ∷ 9 ∷ 10 ∷ []) 3 tt o)
 no-mark-found classes text GreaterThan o e = refl
 no-mark-found classes text Comma o e = refl
 no-mark-found classes text Semicolon o e = refl
-no-mark-found classes text Colon o e = absurd (miss (0 ∷ 1 ∷ 4 ∷ 5 ∷ 6 ∷ 8 ∷ []) 7 tt o)
+no-mark-found classes text Colon o e = absurd (miss (0 ∷ 1 ∷ 4 ∷ 5 ∷ 6 ∷ 8 ∷ 9 ∷ 10 ∷ []) 7 tt o)
 no-mark-found classes text Stray o e = refl
+no-mark-found classes text Dot o e = refl
+no-mark-found classes text Literal o e = refl
 
 module _ (classes text : List ℕ) where
   pub no-mark-left : (low : ℕ) (r : Next) → Ahead classes text low r → OneOf (1 ∷ 2 ∷ []) (tagOf next-declared.the-type r) → NoMark classes text r

@@ -9,7 +9,7 @@ use Rattle.octets.specs.Numbers.{noListGoesOn, endsTooSoon}
 use Rattle.scanner.specs.declared.Next.{Next}
 use Rattle.scanner.specs.declared.Next.the-variants.{Found, Ended, Fault}
 use Rattle.grammar.specs.Language.{Refusal, unfit, unfinished, refused, number, positionOf}
-use Rattle.grammar.proofs.Trees.{Class, Atom, Quoted, At, LessThan, GreaterThan, Comma, Semicolon, Colon, Stray, Lexeme, Sym, of, Word, Phrase, Nodes, first, next, wordSymbol, nodesThen}
+use Rattle.grammar.proofs.Trees.{Class, Atom, Quoted, At, LessThan, GreaterThan, Comma, Semicolon, Colon, Stray, Dot, Literal, Lexeme, Sym, of, Word, Phrase, Nodes, first, next, wordSymbol, nodesThen}
 use Rattle.grammar.proofs.AddressMachine.{Here, State, firstAt, nextAt, node, run, judge}
 use Rattle.grammar.proofs.Complete.{run-word}
 use Rattle.grammar.proofs.Readers.{AddressEnds, endsAddress}
@@ -65,7 +65,11 @@ no-node n h p (next-open m u) Semicolon t xs e = refl
 no-node n h p (first-open u) Colon t xs e = refl
 no-node n h p (next-open m u) Colon t xs e = refl
 no-node n h p (first-open u) Stray t xs e = refl
+no-node n h p (first-open u) Dot t xs e = refl
+no-node n h p (first-open u) Literal t xs e = refl
 no-node n h p (next-open m u) Stray t xs e = refl
+no-node n h p (next-open m u) Dot t xs e = refl
+no-node n h p (next-open m u) Literal t xs e = refl
 
 node-wanted : (n : ℕ) (h : Here) (p : Phrase) (o : OpenNodes) → judge (run n (openState h p o) []) ≡ refused unfinished []
 node-wanted n h p (first-open t) = refl
@@ -82,6 +86,8 @@ followsNode Comma = true
 followsNode Semicolon = true
 followsNode Colon = false
 followsNode Stray = false
+followsNode Dot = false
+followsNode Literal = false
 
 behind-node : (n : ℕ) (h : Here) (p : Phrase) (m : Nodes) (class : Class) (t : Lexeme) (xs : List Sym) → followsNode class ≡ false → judge (run n (node h p m) (of class t ∷ xs)) ≡ refused unfit (of class t ∷ xs)
 behind-node n h p m Atom t xs e = refl
@@ -93,6 +99,8 @@ behind-node n h p m Comma t xs e = absurd (true≢false e)
 behind-node n h p m Semicolon t xs e = absurd (true≢false e)
 behind-node n h p m Colon t xs e = refl
 behind-node n h p m Stray t xs e = refl
+behind-node n h p m Dot t xs e = refl
+behind-node n h p m Literal t xs e = refl
 
 -- the next "at" opens again
 abbrev again : Nodes → Lexeme → OpenNodes

@@ -7,7 +7,7 @@ use native.Mathlib.Omega.{arith}
 use lib.ListN.{length}
 use Rattle.scanner.specs.declared.Next.{Next}
 use Rattle.scanner.specs.declared.Next.the-variants.{Found, Ended, Fault}
-use Rattle.grammar.proofs.Trees.{Class, Atom, Quoted, At, LessThan, GreaterThan, Comma, Semicolon, Colon, Stray, Lexeme, Sym, of, Word, atomWord, quotedWord, Phrase, one, more, wordSymbol, phraseThen}
+use Rattle.grammar.proofs.Trees.{Class, Atom, Quoted, At, LessThan, GreaterThan, Comma, Semicolon, Colon, Stray, Dot, Literal, Lexeme, Sym, of, Word, atomWord, quotedWord, Phrase, one, more, wordSymbol, phraseThen}
 use Rattle.grammar.proofs.TreeRecords.{wordLexeme, phraseStart, phraseEnd}
 use Rattle.addresses.specs.Steps.{isWord, isQuoted, loneQuoted, symbolsFrom, lexemeAt, symbolAt, symbolsAhead, Faultless, Standing, Ahead, Reached, NoWord, WordsIs}
 use Rattle.addresses.specs.declared.Words.{Words}
@@ -24,6 +24,8 @@ wordOf Comma t = atomWord t
 wordOf Semicolon t = atomWord t
 wordOf Colon t = atomWord t
 wordOf Stray t = atomWord t
+wordOf Dot t = atomWord t
+wordOf Literal t = atomWord t
 
 pub word-symbol : (class : Class) (t : Lexeme) → isWord class ≡ true → wordSymbol (wordOf class t) ≡ of class t
 word-symbol Atom t e = refl
@@ -35,6 +37,8 @@ word-symbol Comma t e = absurd (true≢false (sym e))
 word-symbol Semicolon t e = absurd (true≢false (sym e))
 word-symbol Colon t e = absurd (true≢false (sym e))
 word-symbol Stray t e = absurd (true≢false (sym e))
+word-symbol Dot t e = absurd (true≢false (sym e))
+word-symbol Literal t e = absurd (true≢false (sym e))
 
 pub word-lexeme : (class : Class) (t : Lexeme) → wordLexeme (wordOf class t) ≡ t
 word-lexeme Atom t = refl
@@ -46,6 +50,8 @@ word-lexeme Comma t = refl
 word-lexeme Semicolon t = refl
 word-lexeme Colon t = refl
 word-lexeme Stray t = refl
+word-lexeme Dot t = refl
+word-lexeme Literal t = refl
 
 -- the first word
 pub word-lone : (class : Class) (t : Lexeme) → isQuoted class ≡ loneQuoted (one (wordOf class t))
@@ -58,6 +64,8 @@ word-lone Comma t = refl
 word-lone Semicolon t = refl
 word-lone Colon t = refl
 word-lone Stray t = refl
+word-lone Dot t = refl
+word-lone Literal t = refl
 
 module _ (classes text : List ℕ) where
   -- the words so far, up to a position

@@ -1,4 +1,4 @@
--- Condition 3, over the grammar and apart from any reader, of an answer and a table afterwards.
+-- Condition 3, over any edition and apart from any reader, of an answer and a table afterwards.
 use Prim.Native.Nat.{ℕ, _≤_, _<_}
 use mathlib.Core.Path.{_≡_}
 use mathlib.Core.List.{List}
@@ -8,39 +8,49 @@ use Rattle.octets.specs.Numbers.{messageLimit, levelLimit, addressRecordSize}
 use Rattle.octets.specs.Stored.{roomFor}
 use Rattle.octets.specs.declared.answers.Answer.{Answer}
 use Rattle.octets.specs.declared.answers.Answer.the-variants.{Accepted, Refused, NoRoom}
-use Rattle.scanner.specs.Scanning.{scan}
+use Rattle.scanner.specs.Scanning.{scanBy}
 use Rattle.scanner.specs.Answers.{faultOf}
 use Rattle.scanner.specs.Symbols.{Symbol}
 use Rattle.scanner.specs.declared.Class.{Class}
-use Rattle.grammar.specs.Grammar.{levels}
-use Rattle.grammar.specs.Language.{Refusal, refused, number, positionOf}
+use Rattle.grammar.specs.Grammar.{Row, Derived, levels}
+use Rattle.grammar.specs.Language.{Refusal, refused, number, positionOf, Right}
 use Rattle.grammar.specs.Records.{count, records, tableBytes}
-use Rattle.grammar.specs.Rfc733.{Derivation, DerivedList, RightVerdict}
-use Rattle.addresses.specs.Outcome.{bodySymbols}
+use Rattle.grammar.specs.Rfc733.{Derivation}
+use Rattle.addresses.specs.Editions.{Edition, edition733}
+use Rattle.addresses.specs.Outcome.{symbolsIn}
 
--- these symbols have this derivation, of at most 64 levels
-pub record IsList (symbols : List (Symbol Class)) (k : Derivation) : Type 0 where
-  pub derived : DerivedList k symbols
-  pub within : levels k ≤ levelLimit
+module _ {N : Type 0} (edition : Edition N) where
+  -- these symbols have this derivation, of at most 64 levels
+  pub record IsListIn (symbols : List (Symbol Class)) (k : Row Class N) : Type 0 where
+    pub derived : Derived (edition .grammar) (edition .list) k symbols
+    pub within : levels k ≤ levelLimit
 
--- refused with 8, 9 or 10 at the first symbol at which no list of at most 64 levels goes on, or at the body's end
-pub record RightlyRefused (symbols : List (Symbol Class)) (end : ℕ) (r : Answer) : Type 0 where
-  pub why : Refusal
-  pub rest : List (Symbol Class)
-  pub right : RightVerdict symbols (refused why rest)
-  pub answer : r ≡ Refused (number why) (positionOf end rest)
+  -- refused with 8, 9 or 10 at the first symbol at which no list of at most 64 levels goes on, or at the body's end
+  pub record RightlyRefused (symbols : List (Symbol Class)) (end : ℕ) (r : Answer) : Type 0 where
+    pub why : Refusal
+    pub rest : List (Symbol Class)
+    pub right : Right (Derived (edition .grammar) (edition .list)) levels levelLimit symbols (refused why rest)
+    pub answer : r ≡ Refused (number why) (positionOf end rest)
 
--- what condition 3 says of the symbols of a body with this end, a lent table, the answer and the table afterwards
-pub record Settled (symbols : List (Symbol Class)) (end : ℕ) (table : List ℕ) (r : Answer) (after : List ℕ) : Type 0 where
-  -- a list, with room: accepted, with the count and the records of its one derivation, byte for byte, and nothing else changed
-  pub with-room : (k : Derivation) → IsList symbols k → count k ≤ roomFor addressRecordSize table → (r ≡ Accepted (count k)) × (after ≡ sets table 0 (tableBytes (records k)))
-  -- a list, without room: 11 with the number of its addresses
-  pub without-room : (k : Derivation) → IsList symbols k → roomFor addressRecordSize table < count k → (r ≡ NoRoom (count k)) × (after ≡ table)
-  -- no list: refused, whatever the room
-  pub no-list : ((k : Derivation) → IsList symbols k → ⊥) → RightlyRefused symbols end r × (after ≡ table)
+  -- what condition 3 says of the symbols of a body with this end, a lent table, the answer and the table afterwards
+  pub record Settled (symbols : List (Symbol Class)) (end : ℕ) (table : List ℕ) (r : Answer) (after : List ℕ) : Type 0 where
+    -- a list, with room: accepted, with the count and the records of its one derivation, byte for byte, and nothing else changed
+    pub with-room : (k : Row Class N) → IsListIn symbols k → count k ≤ roomFor addressRecordSize table → (r ≡ Accepted (count k)) × (after ≡ sets table 0 (tableBytes (records k)))
+    -- a list, without room: 11 with the number of its addresses
+    pub without-room : (k : Row Class N) → IsListIn symbols k → roomFor addressRecordSize table < count k → (r ≡ NoRoom (count k)) × (after ≡ table)
+    -- no list: refused, whatever the room
+    pub no-list : ((k : Row Class N) → IsListIn symbols k → ⊥) → RightlyRefused symbols end r × (after ≡ table)
 
--- condition 3 speaks of a body that scans without fault, with its positions in order, in a message within the limit
+  -- condition 3 speaks of a body that scans without fault, with its positions in order, in a message within the limit
+  abbrev pub Condition3In : List ℕ → ℕ → ℕ → List ℕ → Answer → List ℕ → Type 0
+  Condition3In message start end table r after =
+      length message ≤ messageLimit → start ≤ end → end ≤ length message → faultOf (scanBy (edition .classes) (take end message) start) ≡ Accepted 0
+      → Settled (symbolsIn edition message start end) end table r after
+
+-- ---- in RFC 733
+
+abbrev pub IsList : List (Symbol Class) → Derivation → Type 0
+IsList symbols k = IsListIn edition733 symbols k
+
 abbrev pub Condition3 : List ℕ → ℕ → ℕ → List ℕ → Answer → List ℕ → Type 0
-Condition3 message start end table r after =
-    length message ≤ messageLimit → start ≤ end → end ≤ length message → faultOf (scan (take end message) start) ≡ Accepted 0
-    → Settled (bodySymbols message start end) end table r after
+Condition3 message start end table r after = Condition3In edition733 message start end table r after

@@ -11,13 +11,15 @@ use Rattle.octets.specs.Stored.{roomFor}
 use Rattle.octets.specs.declared.answers.Answer.{Answer}
 use Rattle.octets.specs.declared.answers.Answer.the-variants.{Accepted, Refused, NoRoom}
 use Rattle.scanner.specs.Symbols.{Symbol}
-use Rattle.scanner.specs.Scanning.{scan, symbolsOf}
+use Rattle.scanner.specs.Scanning.{scanBy, symbolsOf}
 use Rattle.scanner.specs.Answers.{bodyChecked, unlessFault}
 use Rattle.scanner.specs.declared.Class.{Class}
+use Rattle.grammar.specs.Grammar.{Row}
 use Rattle.grammar.specs.Language.{Verdict, accepted, refused, number, positionOf}
 use Rattle.grammar.specs.Records.{count, records, tableBytes}
 use Rattle.grammar.specs.Rfc733.{Derivation}
 use Rattle.grammar.proofs.Condition3.{answer}
+use Rattle.addresses.specs.Editions.{Edition, edition733}
 
 -- an answer, and the lent bytes afterwards
 pub record Outcome : Type 0 where
@@ -29,28 +31,44 @@ abbrev pub refusal : List ℕ → ℕ → ℕ → Outcome
 refusal table number position = record { answer = Refused number position; table = table }
 
 -- a derivation: its records at the front of the table, or 11 with their count where there is too little room
-abbrev pub derived : List ℕ → Derivation → Outcome
+abbrev pub derived : {N : Type 0} → List ℕ → Row Class N → Outcome
 derived table k =
     pick (ltb (roomFor addressRecordSize table) (count k)) (record { answer = NoRoom (count k); table = table })
     (record { answer = Accepted (count k); table = sets table 0 (tableBytes (records k)) })
 
 -- a verdict on a body with this end: what is answered of a derivation, or the refusal
-abbrev pub byVerdict : {A : Type 0} → (ℕ → ℕ → A) → (Derivation → A) → ℕ → Verdict Class Derivation → A
+abbrev pub byVerdict : {N A : Type 0} → (ℕ → ℕ → A) → (Row Class N → A) → ℕ → Verdict Class (Row Class N) → A
 byVerdict refuse derive end (accepted k) = derive k
 byVerdict refuse derive end (refused why rest) = refuse (number why) (positionOf end rest)
 
 -- .. where its records are written
-abbrev pub decided : ℕ → List ℕ → Verdict Class Derivation → Outcome
+abbrev pub decided : {N : Type 0} → ℕ → List ℕ → Verdict Class (Row Class N) → Outcome
 decided end table verdict = byVerdict (refusal table) (derived table) end verdict
 
--- the symbols of the body of a message from `start` up to `end`
-abbrev pub bodySymbols : List ℕ → ℕ → ℕ → List (Symbol Class)
-bodySymbols message start end = symbolsOf (scan (take end message) start)
+-- ---- in any edition, by a verdict on the symbols
 
--- what is answered for any message and positions, of a list of at most so many levels or of a refusal
+-- the symbols of the body of a message from `start` up to `end`
+abbrev pub symbolsIn : {N : Type 0} → Edition N → List ℕ → ℕ → ℕ → List (Symbol Class)
+symbolsIn edition message start end = edition .taken (symbolsOf (scanBy (edition .classes) (take end message) start))
+
+-- what is answered for any message and positions, of a derivation or of a refusal
+abbrev pub readIn : {N A : Type 0} → Edition N → (List (Symbol Class) → Verdict Class (Row Class N)) → (ℕ → ℕ → A) → (Row Class N → A) → List ℕ → ℕ → ℕ → A
+readIn edition verdict refuse derive message start end =
+    bodyChecked refuse message start end
+    (unlessFault refuse (scanBy (edition .classes) (take end message) start) (byVerdict refuse derive end (verdict (symbolsIn edition message start end))))
+
+-- the outcome for any message, positions and table
+abbrev pub outcomeIn : {N : Type 0} → Edition N → (List (Symbol Class) → Verdict Class (Row Class N)) → List ℕ → ℕ → ℕ → List ℕ → Outcome
+outcomeIn edition verdict message start end table = readIn edition verdict (refusal table) (derived table) message start end
+
+-- ---- in RFC 733
+
+abbrev pub bodySymbols : List ℕ → ℕ → ℕ → List (Symbol Class)
+bodySymbols message start end = symbolsIn edition733 message start end
+
+-- what is answered of a list of at most so many levels or of a refusal
 abbrev pub readWithin : {A : Type 0} → ℕ → (ℕ → ℕ → A) → (Derivation → A) → List ℕ → ℕ → ℕ → A
-readWithin limit refuse derive message start end =
-    bodyChecked refuse message start end (unlessFault refuse (scan (take end message) start) (byVerdict refuse derive end (answer limit (bodySymbols message start end))))
+readWithin limit refuse derive message start end = readIn edition733 (answer limit) refuse derive message start end
 
 -- .. of at most 64 levels
 abbrev pub bodyRead : {A : Type 0} → (ℕ → ℕ → A) → (Derivation → A) → List ℕ → ℕ → ℕ → A

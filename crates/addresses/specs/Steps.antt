@@ -15,7 +15,7 @@ use Rattle.scanner.specs.declared.Next.the-variants.{Found, Ended, Fault}
 use Rattle.scanner.proofs.Meanings.{meaningAt}
 use Rattle.grammar.specs.Language.{Refusal, refused, number, positionOf}
 use Rattle.grammar.specs.Records.{AddressRecord, tableBytes}
-use Rattle.grammar.proofs.Trees.{Class, Atom, Quoted, At, LessThan, GreaterThan, Comma, Semicolon, Colon, Stray, Lexeme, Sym, of, Word, atomWord, quotedWord, Phrase, one, more, Nodes, Place, empty, AddressList, idle, Address, mailbox, angle, group, phraseThen, nameThen, nodesThen, atomColon}
+use Rattle.grammar.proofs.Trees.{Class, Atom, Quoted, At, LessThan, GreaterThan, Comma, Semicolon, Colon, Stray, Dot, Literal, Lexeme, Sym, of, Word, atomWord, quotedWord, Phrase, one, more, Nodes, Place, empty, AddressList, idle, Address, mailbox, angle, group, phraseThen, nameThen, nodesThen, atomColon}
 use Rattle.grammar.proofs.AddressMachine.{Here, Level, inAngle, inGroup, list, firstAt, levelsHere, levelsAt, nameless, fresh, run, judge}
 use Rattle.grammar.proofs.Complete.{begin, doneAddress, doneList, Clear}
 use Rattle.grammar.proofs.Readers.{AddressEnds, ListEnds, endsAddress}
@@ -44,6 +44,8 @@ isWord Comma = false
 isWord Semicolon = false
 isWord Colon = false
 isWord Stray = false
+isWord Dot = false
+isWord Literal = false
 
 abbrev pub isQuoted : Class → Bool
 isQuoted Atom = false
@@ -55,6 +57,8 @@ isQuoted Comma = false
 isQuoted Semicolon = false
 isQuoted Colon = false
 isQuoted Stray = false
+isQuoted Dot = false
+isQuoted Literal = false
 
 -- what comes next may stand behind an address
 abbrev pub endsAddressNext : Next → Bool
@@ -307,6 +311,8 @@ module _ (classes text : List ℕ) where
   followsPhrase Semicolon = false
   followsPhrase Colon = true
   followsPhrase Stray = false
+  followsPhrase Dot = false
+  followsPhrase Literal = false
 
   abbrev pub NoMark : Next → Type 0
   NoMark (Found class start end) = followsPhrase class ≡ false

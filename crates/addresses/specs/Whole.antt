@@ -5,36 +5,42 @@ use mathlib.Core.List.{List}
 use Prim.Native.Nat.{ℕ, _≤_}
 use lib.ListN.{length}
 use lib.Seq.{sets}
-use Rattle.octets.specs.Numbers.{messageLimit, levelLimit}
+use Rattle.octets.specs.Numbers.{messageLimit}
 use Rattle.octets.specs.declared.answers.Answer.{Answer}
 use Rattle.scanner.specs.Scanning.{scanBy}
 use Rattle.scanner.specs.Answers.{unlessFault}
-use Rattle.grammar.specs.Language.{Refusal, accepted, refused, number, positionOf}
+use Rattle.scanner.specs.Symbols.{Symbol}
+use Rattle.scanner.specs.declared.Class.{Class}
+use Rattle.grammar.specs.Grammar.{Row}
+use Rattle.grammar.specs.Language.{Refusal, Verdict, accepted, refused, number, positionOf}
 use Rattle.grammar.specs.Records.{count, records, tableBytes}
-use Rattle.grammar.specs.Rfc733.{Derivation}
 use Rattle.grammar.proofs.Condition3.{answer}
-use Rattle.grammar.proofs.Trees.{Sym}
 use Rattle.addresses.specs.Outcome.{refusal, byVerdict, decided}
 use Rattle.addresses.specs.Steps.{symbolsFrom, Faultless}
 use Rattle.grammar.specs.declared.Whole.{Whole}
 use Rattle.grammar.specs.declared.Whole.the-variants.{Listed, Refused}
 
-module _ (classes text : List ℕ) where
-  pub record Body (at : ℕ) : Type 0 where
-    pub inside : at ≤ length text
-    pub short : length text ≤ messageLimit
-    pub faultless : Faultless classes text at
+pub record Body (classes text : List ℕ) (at : ℕ) : Type 0 where
+  pub inside : at ≤ length text
+  pub short : length text ≤ messageLimit
+  pub faultless : Faultless classes text at
 
+-- the symbols from a position on are a list of RFC 733 of at most so many levels
+abbrev pub endsWithin : List ℕ → List ℕ → ℕ → ℕ → Bool
+endsWithin classes text limit at = byVerdict (λ n p. false) (λ k. true) (length text) (answer limit (symbolsFrom classes text at))
+
+-- by any verdict on the symbols
+module _ {N : Type 0} (verdict : List (Symbol Class) → Verdict Class (Row Class N)) (classes text : List ℕ) where
   pub record IsListed (at : ℕ) (table after : List ℕ) (n : ℕ) : Type 0 where
-    pub derivation : Derivation
-    pub verdict : answer levelLimit (symbolsFrom classes text at) ≡ accepted derivation
+    pub derivation : Row Class N
+    pub verdict-is : verdict (symbolsFrom classes text at) ≡ accepted derivation
     pub count-is : n ≡ count derivation
     pub stored : after ≡ sets table 0 (tableBytes (records derivation))
 
   pub record IsRefused (at number-told place : ℕ) : Type 0 where
     pub why : Refusal
-    pub rest : List Sym
-    pub verdict : answer levelLimit (symbolsFrom classes text at) ≡ refused why rest
+    pub rest : List (Symbol Class)
+    pub verdict-is : verdict (symbolsFrom classes text at) ≡ refused why rest
     pub number-is : number-told ≡ number why
     pub place-is : place ≡ positionOf (length text) rest
 
@@ -42,16 +48,12 @@ module _ (classes text : List ℕ) where
   WholeIs at table after (Listed n) = IsListed at table after n
   WholeIs at table after (Refused number-told place) = IsRefused at number-told place
 
-  -- the symbols from a position on are a list of at most so many levels
-  abbrev pub endsWithin : ℕ → ℕ → Bool
-  endsWithin limit at = byVerdict (λ n p. false) (λ k. true) (length text) (answer limit (symbolsFrom classes text at))
-
   -- what is decided of the symbols from a position on
   pub record TwiceIs (at : ℕ) (table after : List ℕ) (r : Answer) : Type 0 where
-    pub answer-is : r ≡ decided (length text) table (answer levelLimit (symbolsFrom classes text at)) .answer
-    pub table-is : after ≡ decided (length text) table (answer levelLimit (symbolsFrom classes text at)) .table
+    pub answer-is : r ≡ decided (length text) table (verdict (symbolsFrom classes text at)) .answer
+    pub table-is : after ≡ decided (length text) table (verdict (symbolsFrom classes text at)) .table
 
   -- .. unless there is a fault
   pub record TextIs (at : ℕ) (table after : List ℕ) (r : Answer) : Type 0 where
-    pub answer-is : r ≡ unlessFault (refusal table) (scanBy classes text at) (decided (length text) table (answer levelLimit (symbolsFrom classes text at))) .answer
-    pub table-is : after ≡ unlessFault (refusal table) (scanBy classes text at) (decided (length text) table (answer levelLimit (symbolsFrom classes text at))) .table
+    pub answer-is : r ≡ unlessFault (refusal table) (scanBy classes text at) (decided (length text) table (verdict (symbolsFrom classes text at))) .answer
+    pub table-is : after ≡ unlessFault (refusal table) (scanBy classes text at) (decided (length text) table (verdict (symbolsFrom classes text at))) .table

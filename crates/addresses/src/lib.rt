@@ -6,8 +6,9 @@ ghost use Prim.Native.Nat.{_+_, _*_, _-_, _≤_, _<_};
 ghost use lib.ListN.{length};
 ghost use lib.Seq.{sets};
 ghost use Rattle.octets.specs.Text.{part};
-ghost use Rattle.octets.specs.Numbers.{messageLimit};
+ghost use Rattle.octets.specs.Numbers.{messageLimit, levelLimit};
 ghost use Rattle.grammar.specs.Records.{recordBy, recordBytes};
+ghost use Rattle.grammar.proofs.Condition3.{answer};
 ghost use Rattle.addresses.specs.Steps.{isWord, isQuoted, endsAddressNext, refusedNext, closing, enclosureKind, Faultless, Standing, Reached, WordsIs, NodesIs, TypedAtomIs, Opened, MailboxIs, Lone, LoneIs, CloseIs, Entered, ListIs, BeginsAddress, AddressAt, NamedFirst, EnclosedIs, ColonFirst, TypedFirst};
 ghost use Rattle.addresses.specs.Whole.{Body, WholeIs, endsWithin, TwiceIs, TextIs};
 ghost use Rattle.addresses.specs.Outcome.{outcome};
@@ -538,7 +539,7 @@ fn read_typed(
 // The list from a position of a text on to its end.
 fn read_whole(classes: &[u8; 256], text: &[u8], table: &mut [u8], at: usize) -> Whole
     requires { ⌜ Body (now classes) (now text) at ⌝ }
-    ensures { λ r. ⌜ WholeIs (now (classes .entry)) (now (text .entry)) at (now (table .entry)) (now (table .exit)) r ⌝ }
+    ensures { λ r. ⌜ WholeIs (answer levelLimit) (now (classes .entry)) (now (text .entry)) at (now (table .entry)) (now (table .exit)) r ⌝ }
 {
     let frame = Frame {
         levels: LEVEL_LIMIT,
@@ -559,7 +560,7 @@ fn read_whole(classes: &[u8; 256], text: &[u8], table: &mut [u8], at: usize) -> 
 // A text without fault: a run on the empty part of the table for the answer, and then, if there is room, the run that writes.
 fn read_twice(classes: &[u8; 256], text: &[u8], table: &mut [u8], at: usize) -> Answer
     requires { ⌜ Body (now classes) (now text) at ⌝ }
-    ensures { λ r. ⌜ TwiceIs (now (classes .entry)) (now (text .entry)) at (now (table .entry)) (now (table .exit)) r ⌝ }
+    ensures { λ r. ⌜ TwiceIs (answer levelLimit) (now (classes .entry)) (now (text .entry)) at (now (table .entry)) (now (table .exit)) r ⌝ }
 {
     match read_whole(classes, text, &mut table[..0], at) {
         Whole::Refused(number, place) => Answer::Refused(number, place),
@@ -578,7 +579,7 @@ fn read_twice(classes: &[u8; 256], text: &[u8], table: &mut [u8], at: usize) -> 
 // A text from a position on: its first fault, or what it holds.
 fn read_text(classes: &[u8; 256], text: &[u8], table: &mut [u8], at: usize) -> Answer
     requires { ⌜ (at ≤ length (now text)) × (length (now text) ≤ messageLimit) ⌝ }
-    ensures { λ r. ⌜ TextIs (now (classes .entry)) (now (text .entry)) at (now (table .entry)) (now (table .exit)) r ⌝ }
+    ensures { λ r. ⌜ TextIs (answer levelLimit) (now (classes .entry)) (now (text .entry)) at (now (table .entry)) (now (table .exit)) r ⌝ }
 {
     match scanner::fault_by(classes, text, at) {
         Answer::Refused(number, place) => Answer::Refused(number, place),

@@ -4,11 +4,11 @@
 ghost use mathlib.Core.Path.{_≡_};
 ghost use mathlib.Core.List.{_∷_, []};
 ghost use lib.Seq.{sets};
-ghost use Rattle.octets.specs.Choice.{pick};
 ghost use Rattle.scanner.specs.Answers.{bodyScanned};
 ghost use Rattle.header.specs.Names.{knownOf};
 ghost use Rattle.header.specs.Split.{splitAnswer, splitTable};
 ghost use Rattle.addresses.specs.Outcome.{outcome};
+ghost use Rattle.editions.specs.Outcome.{outcomeOf};
 ghost use Rattle.dates.specs.Answers.{dateAnswer, valueOf};
 ghost use Rattle.plain.specs.Written.{plainOutcome};
 ghost use Rattle.expansion.specs.Outcome.{expandOutcome};
@@ -90,21 +90,25 @@ pub extern "C" fn rfc733_scan(message: &[u8], start: usize, end: usize, array: &
     tell(array, scanner::scan_body(message, start, end));
 }
 
-// Read the address list in the body of a message from start up to end: records of 12 bytes in the table.
+// Read the address list in the body of a message from start up to end by the rules of an edition, 733 or 822: records of 12 bytes in the table.
 #[no_mangle]
 pub extern "C" fn rfc733_addresses(
     message: &[u8],
     start: usize,
     end: usize,
+    edition: usize,
     table: &mut [u8],
     array: &mut [u64],
 )
-    ensures { λ _. ⌜ (now (table .exit) ≡ outcome (now (message .entry)) start end (now (table .entry)) .table) × (now (array .exit) ≡ told (now (array .entry)) (outcome (now (message .entry)) start end (now (table .entry)) .answer)) ⌝ }
+    ensures { λ _. ⌜ (now (table .exit) ≡ outcomeOf edition (now (message .entry)) start end (now (table .entry)) .table) × (now (array .exit) ≡ told (now (array .entry)) (outcomeOf edition (now (message .entry)) start end (now (table .entry)) .answer)) ⌝ }
 {
-    tell(array, addresses::read_addresses(message, start, end, table));
+    tell(
+        array,
+        editions::read_addresses(message, start, end, edition, table),
+    );
 }
 
-// The same by the second reader, which calls itself nowhere and keeps its levels in an array.
+// The address list of RFC 733 by the second reader, which calls itself nowhere and keeps its levels in an array.
 #[no_mangle]
 pub extern "C" fn rfc733_addresses_by_table(
     message: &[u8],

@@ -17,8 +17,8 @@ use octets::letters::same_bytes;
 use octets::numbers::MESSAGE_LIMIT;
 use octets::stored::load_byte;
 use report::line;
-use report::records;
 use report::text;
+use report::written;
 
 // The place behind the first such mark from a place on.
 fn behind(part: &[u8], from: usize, mark: u8) -> usize
@@ -116,18 +116,6 @@ fn put_body(vector: &[u8], body: &mut [u8]) -> usize
     p
 }
 
-// Each record that an answer says is written, or of more than ten the first two and the last two.
-fn show_records(table: &[u8], answer: Answer) {
-    if let Answer::Accepted(many) = answer {
-        if many <= 10 {
-            records(table, 0, many);
-            return;
-        }
-        records(table, 0, 2);
-        records(table, many - 2, many);
-    }
-}
-
 // Whether two answers have the same number, position and count.
 fn same_answer(one: Answer, other: Answer) -> bool {
     if number(one) != number(other) {
@@ -144,7 +132,7 @@ fn show_both(vector: &[u8], body: &[u8], first: &mut [u8], second: &mut [u8]) {
     let one = addresses::read_addresses(body, 0, body.len(), first);
     let other = engine::read_addresses(body, 0, body.len(), second);
     line(vector, other);
-    show_records(second, other);
+    written(second, other);
     if !same_answer(one, other) {
         text(b"    the readers differ\n");
     }

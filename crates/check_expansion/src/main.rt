@@ -6,11 +6,10 @@
 // - "+": bytes for the end of the store.
 // - ">" or a digit: a message behind ">" that is opened with the store. Before the ">" may stand how much room is lent, or the
 //   body's start and end with ":" between them; otherwise the room is 4,096 bytes, and the message all body.
-// Behind that first byte, and behind "|" and ">", "~" stands for CR, "^" for LF, "$" for a zero, "!" for byte 128, and "{64<}" for
-// 64 times "<".
+// What stands behind that first byte, and behind "|" and ">", is read by `report::vectors`.
 // Printed are the lines, and below each message the answer's number, position and count, the openings, and the text in brackets.
 // Where other bytes of the room are changed, or a room of one byte less gets another answer than 11, a line says so.
-ghost use Prim.Native.Nat.{_≤_, _<_};
+ghost use Prim.Native.Nat.{_≤_};
 ghost use lib.ListN.{length};
 use expansion::Expanded;
 use libc::STDIN_FILENO;
@@ -19,158 +18,20 @@ use octets::answers::count;
 use octets::answers::number;
 use octets::numbers::TOO_LITTLE_ROOM;
 use octets::stored::load_byte;
+use report::UNTOUCHED;
 use report::answer;
 use report::decimal;
 use report::text;
+use report::unless_kept;
+use report::vectors::find;
+use report::vectors::number_at;
+use report::vectors::put;
 
 const RECORD_SIZE: usize = 512;
 
 const NAME_SIZE: usize = 64;
 // The bytes of the room.
 const ROOM: usize = 4096;
-// What stands in the room when it is lent.
-const UNTOUCHED: u8 = 170;
-
-// The place of the first such mark from a place on, or the end.
-fn find(part: &[u8], from: usize, mark: u8) -> usize
-    requires { ⌜ from ≤ length (now part) ⌝ }
-    ensures { λ r. ⌜ (from ≤ r) × (r ≤ length (now (part .entry))) ⌝ }
-{
-    let mut i = from;
-    while i < part.len() {
-        if part[i] == mark {
-            return i;
-        }
-        i += 1;
-    }
-    i
-}
-
-fn is_digit(b: u8) -> bool {
-    if b < b'0' {
-        return false;
-    }
-    b <= b'9'
-}
-
-// The number whose digits stand from a place on, or its last seven digits.
-fn number_at(part: &[u8], from: usize) -> usize {
-    let mut i = from;
-    let mut n: usize = 0;
-    while i < part.len() {
-        let b = part[i];
-        if b < b'0' {
-            return n;
-        }
-        if b'9' < b {
-            return n;
-        }
-        n = n % 1000000 * 10 + (b - b'0') as usize;
-        i += 1;
-    }
-    n
-}
-
-// The place behind the digits that stand from a place on.
-fn behind_digits(part: &[u8], from: usize) -> usize {
-    let mut i = from;
-    while i < part.len() {
-        if !is_digit(part[i]) {
-            return i;
-        }
-        i += 1;
-    }
-    i
-}
-
-// What a byte of a vector stands for.
-fn meant(b: u8) -> u8 {
-    match b {
-        b'~' => b'\r',
-        b'^' => b'\n',
-        b'$' => 0,
-        b'!' => 128,
-        _ => b,
-    }
-}
-
-// Put a byte at a place, if there is room: the place behind it.
-fn put_byte(out: &mut [u8], at: usize, b: u8) -> usize
-    requires { ⌜ at ≤ length (now out) ⌝ }
-    ensures { λ r. ⌜ r ≤ length (now (out .entry)) ⌝ }
-{
-    if out.len() <= at {
-        return at;
-    }
-    out[at] = b;
-    at + 1
-}
-
-// Put what the bytes of a part from one place up to another stand for, as far as there is room: the place behind them.
-fn put_bytes(part: &[u8], from: usize, to: usize, out: &mut [u8], at: usize) -> usize
-    requires { ⌜ at ≤ length (now out) ⌝ }
-    ensures { λ r. ⌜ r ≤ length (now (out .entry)) ⌝ }
-{
-    let mut i = from;
-    let mut n = at;
-    while i < to {
-        n = put_byte(out, n, meant(load_byte(part, i)));
-        i += 1;
-    }
-    n
-}
-
-// Put the same bytes so many times.
-fn put_times(part: &[u8], from: usize, to: usize, times: usize, out: &mut [u8], at: usize) -> usize
-    requires { ⌜ at ≤ length (now out) ⌝ }
-    ensures { λ r. ⌜ r ≤ length (now (out .entry)) ⌝ }
-{
-    let mut i: usize = 0;
-    let mut n = at;
-    while i < times {
-        n = put_bytes(part, from, to, out, n);
-        i += 1;
-    }
-    n
-}
-
-// Put what stands at a place of a part: a byte, or bytes in braces.
-fn put_piece(part: &[u8], i: usize, out: &mut [u8], at: usize) -> usize
-    requires { ⌜ (i < length (now part)) × (at ≤ length (now out)) ⌝ }
-    ensures { λ r. ⌜ r ≤ length (now (out .entry)) ⌝ }
-{
-    if part[i] != b'{' {
-        return put_bytes(part, i, i + 1, out, at);
-    }
-    let first = behind_digits(part, i + 1);
-    let brace = find(part, i, b'}');
-    put_times(part, first, brace, number_at(part, i + 1), out, at)
-}
-
-// The place behind what stands at a place.
-fn behind_piece(part: &[u8], i: usize) -> usize
-    requires { ⌜ i < length (now part) ⌝ }
-    ensures { λ r. ⌜ i < r ⌝ }
-{
-    if part[i] != b'{' {
-        return i + 1;
-    }
-    find(part, i, b'}') + 1
-}
-
-// Put what a part from one place up to another stands for, as far as there is room: how many bytes.
-fn put(part: &[u8], from: usize, to: usize, out: &mut [u8]) -> usize
-    requires { ⌜ to ≤ length (now part) ⌝ }
-    ensures { λ r. ⌜ r ≤ length (now (out .entry)) ⌝ }
-{
-    let mut i = from;
-    let mut n: usize = 0;
-    while i < to {
-        n = put_piece(part, i, out, n);
-        i = behind_piece(part, i);
-    }
-    n
-}
 
 // Put the same byte everywhere.
 fn fill(out: &mut [u8], b: u8) {
@@ -214,18 +75,6 @@ fn put_stored(line: &[u8], store: &mut [u8], used: usize) -> usize
     }
 }
 
-// Whether a room is as it was, from a place on.
-fn is_kept(room: &[u8], from: usize) -> bool {
-    let mut i = from;
-    while i < room.len() {
-        if room[i] != UNTOUCHED {
-            return false;
-        }
-        i += 1;
-    }
-    true
-}
-
 // The first bytes of a room, in brackets, if it has so many.
 fn show_text(room: &[u8], many: usize) {
     text(b"    [");
@@ -267,9 +116,7 @@ fn show_answer(given: Answer, openings: usize, room: &[u8]) {
     if let Answer::Accepted(many) = given {
         show_text(room, many);
     }
-    if !is_kept(room, written(given)) {
-        text(b"    the text is changed\n");
-    }
+    unless_kept(room, written(given), b"    the text is changed\n");
 }
 
 // Say where a room of one byte less than a text gives other than 11, the text's length and the same openings, or is changed.
@@ -290,9 +137,7 @@ fn show_less(message: &[u8], start: usize, end: usize, store: &[u8], many: usize
     if again != openings {
         text(b"    less room has other openings\n");
     }
-    if !is_kept(&room, 0) {
-        text(b"    less room is changed\n");
-    }
+    unless_kept(&room, 0, b"    less room is changed\n");
 }
 
 // Open a message's body from start up to end, with so much room.
@@ -331,10 +176,10 @@ fn show_vector(line: &[u8], store: &[u8]) {
 
 // Whether a line that starts with this byte holds a message.
 fn starts_vector(b: u8) -> bool {
-    if b == b'>' {
-        return true;
+    match b {
+        b'>' | b'0'..=b'9' => true,
+        _ => false,
     }
-    is_digit(b)
 }
 
 // A line, and what it gives with the store: how many bytes then stand in the store.

@@ -25,6 +25,8 @@ fn class_text(class: Class) {
         Class::Semicolon => text(b"    semicolon"),
         Class::Colon => text(b"    colon"),
         Class::Stray => text(b"    stray"),
+        Class::Dot => text(b"    dot"),
+        Class::Literal => text(b"    literal"),
     }
 }
 

@@ -11,43 +11,12 @@ use libc::STDIN_FILENO;
 use octets::numbers::ACCEPTED;
 use report::decimal;
 use report::text;
+use report::vectors::find;
+use report::vectors::number_at;
 use touch::Touched;
 
 // What stands in a path when it is lent: no record has this number.
 const UNTOUCHED: u64 = 1000000000;
-
-// The place of the first such mark from a place on, or the end.
-fn find(part: &[u8], from: usize, mark: u8) -> usize
-    requires { ⌜ from ≤ length (now part) ⌝ }
-    ensures { λ r. ⌜ (from ≤ r) × (r ≤ length (now (part .entry))) ⌝ }
-{
-    let mut i = from;
-    while i < part.len() {
-        if part[i] == mark {
-            return i;
-        }
-        i += 1;
-    }
-    i
-}
-
-// The number whose digits stand from a place on, or its last seven digits.
-fn number_at(part: &[u8], from: usize) -> usize {
-    let mut i = from;
-    let mut n: usize = 0;
-    while i < part.len() {
-        let b = part[i];
-        if b < b'0' {
-            return n;
-        }
-        if b'9' < b {
-            return n;
-        }
-        n = n % 1000000 * 10 + (b - b'0') as usize;
-        i += 1;
-    }
-    n
-}
 
 // What a byte behind another stands for.
 fn meant(before: u8, b: u8) -> u8 {

@@ -17,7 +17,7 @@ use Rattle.octets.proofs.ChoiceLaws.{both-false}
 use Rattle.octets.proofs.Parts.{part-cons, part-none, part-drop, part-take}
 use Rattle.scanner.specs.Scanning.{Scanned, ended, faultAt, scanBy}
 use Rattle.scanner.specs.declared.Class.{Class}
-use Rattle.scanner.specs.declared.Class.the-variants.{Atom, Quoted, At, LessThan, GreaterThan, Comma, Semicolon, Colon, Stray}
+use Rattle.scanner.specs.declared.Class.the-variants.{Atom, Quoted, At, LessThan, GreaterThan, Comma, Semicolon, Colon, Stray, Dot, Literal}
 use Rattle.scanner.proofs.Class.{the-type}
 use Rattle.scanner.proofs.Meanings.{meaningAt}
 use Rattle.scanner.proofs.Unfolding.{SymbolAt}
@@ -166,11 +166,11 @@ pub left-here : (classes text : List ℕ) (at end : ℕ) → end ≤ at → left
 unfolding left runs
 left-here classes text at end h = rw (part-none text at end h)
 
--- the parts of a symbol that is no quoted-string are those of its bytes
-unquoted : (classes text : List ℕ) (class : Class) (start end : ℕ) → OneOf (0 ∷ 2 ∷ 3 ∷ 4 ∷ 5 ∷ 6 ∷ 7 ∷ 8 ∷ []) (tagOf the-type class)
+-- the parts of a symbol that is no quoted-string and no literal are those of its bytes
+unquoted : (classes text : List ℕ) (class : Class) (start end : ℕ) → OneOf (0 ∷ 2 ∷ 3 ∷ 4 ∷ 5 ∷ 6 ∷ 7 ∷ 8 ∷ 9 ∷ []) (tagOf the-type class)
     → partsOf classes class (meaningAt classes text class start end) ≡ runs classes (part text start end)
 unquoted classes text Atom start end o = refl
-unquoted classes text Quoted start end o = absurd (miss (0 ∷ 2 ∷ 3 ∷ 4 ∷ 5 ∷ 6 ∷ 7 ∷ 8 ∷ []) 1 tt o)
+unquoted classes text Quoted start end o = absurd (miss (0 ∷ 2 ∷ 3 ∷ 4 ∷ 5 ∷ 6 ∷ 7 ∷ 8 ∷ 9 ∷ []) 1 tt o)
 unquoted classes text At start end o = refl
 unquoted classes text LessThan start end o = refl
 unquoted classes text GreaterThan start end o = refl
@@ -178,6 +178,23 @@ unquoted classes text Comma start end o = refl
 unquoted classes text Semicolon start end o = refl
 unquoted classes text Colon start end o = refl
 unquoted classes text Stray start end o = refl
+unquoted classes text Dot start end o = refl
+unquoted classes text Literal start end o = absurd (miss (0 ∷ 2 ∷ 3 ∷ 4 ∷ 5 ∷ 6 ∷ 7 ∷ 8 ∷ 9 ∷ []) 10 tt o)
+
+-- a quoted-string or a literal is one part
+quoted : (classes text : List ℕ) (class : Class) (start end : ℕ) → OneOf (1 ∷ 10 ∷ []) (tagOf the-type class)
+    → partsOf classes class (meaningAt classes text class start end) ≡ record { key = otherPart; bytes = [] } ∷ []
+quoted classes text Atom start end o = absurd (miss (1 ∷ 10 ∷ []) 0 tt o)
+quoted classes text Quoted start end o = refl
+quoted classes text At start end o = absurd (miss (1 ∷ 10 ∷ []) 2 tt o)
+quoted classes text LessThan start end o = absurd (miss (1 ∷ 10 ∷ []) 3 tt o)
+quoted classes text GreaterThan start end o = absurd (miss (1 ∷ 10 ∷ []) 4 tt o)
+quoted classes text Comma start end o = absurd (miss (1 ∷ 10 ∷ []) 5 tt o)
+quoted classes text Semicolon start end o = absurd (miss (1 ∷ 10 ∷ []) 6 tt o)
+quoted classes text Colon start end o = absurd (miss (1 ∷ 10 ∷ []) 7 tt o)
+quoted classes text Stray start end o = absurd (miss (1 ∷ 10 ∷ []) 8 tt o)
+quoted classes text Dot start end o = absurd (miss (1 ∷ 10 ∷ []) 9 tt o)
+quoted classes text Literal start end o = refl
 
 module _ (classes text : List ℕ) (at end : ℕ) (h : end ≤ at) where
   no-part : end ≤ length text → parts classes (scanBy classes text end) ≡ [] → TokenIs classes text (left classes text at end) (record { key = noPart; start = end; stop = end; end = end })
@@ -202,12 +219,13 @@ module _ (classes text : List ℕ) (at end : ℕ) (h : end ≤ at) where
   unfolding parts
   part-fault w e = no-part w (ap (λ (x : Scanned). parts classes x) e)
 
-  pub part-quoted : {start stop : ℕ} → SymbolAt classes text end Quoted start stop
+  pub part-quoted : {class : Class} {start stop : ℕ} → SymbolAt classes text end class start stop → OneOf (1 ∷ 10 ∷ []) (tagOf the-type class)
       → TokenIs classes text (left classes text at end) (record { key = otherPart; start = stop; stop = stop; end = stop })
   unfolding firstKey firstBytes after parts
-  part-quoted {start} {stop} x =
+  part-quoted {class} {start} {stop} x o =
       let l : left classes text at end ≡ record { key = otherPart; bytes = [] } ∷ left classes text stop stop =
       left-here classes text at end h ∙ ap (λ (s : Scanned). parts classes s) (x .same)
+      ∙ ap (λ (r : List Part). r ++ parts classes (scanBy classes text stop)) (quoted classes text class start stop o)
       ∙ ap (λ (r : List Part). record { key = otherPart; bytes = [] } ∷ r) (sym (left-here classes text stop stop (omega arith))) in
       record {
         key-is = rw l;
@@ -218,7 +236,7 @@ module _ (classes text : List ℕ) (at end : ℕ) (h : end ≤ at) where
         place = record { order = omega arith; inside = x .within };
       }
 
-  pub part-unquoted : {class : Class} {start stop : ℕ} → SymbolAt classes text end class start stop → OneOf (0 ∷ 2 ∷ 3 ∷ 4 ∷ 5 ∷ 6 ∷ 7 ∷ 8 ∷ []) (tagOf the-type class)
+  pub part-unquoted : {class : Class} {start stop : ℕ} → SymbolAt classes text end class start stop → OneOf (0 ∷ 2 ∷ 3 ∷ 4 ∷ 5 ∷ 6 ∷ 7 ∷ 8 ∷ 9 ∷ []) (tagOf the-type class)
       → left classes text at end ≡ left classes text start stop
   unfolding left parts
   part-unquoted {class} {start} {stop} x o =

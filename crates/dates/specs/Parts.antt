@@ -9,7 +9,7 @@ use Rattle.octets.specs.Classes.{letter, digit}
 use Rattle.octets.specs.Octets.{plusByte, commaByte, minusByte, colonByte}
 use Rattle.scanner.specs.Scanning.{Scanned, ended, next, faultAt}
 use Rattle.scanner.specs.declared.Class.{Class}
-use Rattle.scanner.specs.declared.Class.the-variants.{Atom, Quoted, At, LessThan, GreaterThan, Comma, Semicolon, Colon, Stray}
+use Rattle.scanner.specs.declared.Class.the-variants.{Atom, Quoted, At, LessThan, GreaterThan, Comma, Semicolon, Colon, Stray, Dot, Literal}
 
 -- a part: its key and its bytes. The key is the class `letter` or `digit` of a run, a mark's own byte, or `otherPart`
 pub record Part : Type 0 where
@@ -48,7 +48,7 @@ unfoldable pub runs : List ℕ → List ℕ → List Part
 runs classes [] = []
 runs classes (b ∷ rest) = before (keyOf classes b) b (runs classes rest)
 
--- the parts of a symbol: a quoted-string is no part of a date
+-- the parts of a symbol: a quoted-string is no part of a date, nor is a domain literal, which RFC 733 has not
 abbrev pub partsOf : List ℕ → Class → List ℕ → List Part
 partsOf classes Atom meaning = runs classes meaning
 partsOf classes Quoted meaning = record { key = otherPart; bytes = [] } ∷ []
@@ -59,6 +59,8 @@ partsOf classes Comma meaning = runs classes meaning
 partsOf classes Semicolon meaning = runs classes meaning
 partsOf classes Colon meaning = runs classes meaning
 partsOf classes Stray meaning = runs classes meaning
+partsOf classes Dot meaning = runs classes meaning
+partsOf classes Literal meaning = record { key = otherPart; bytes = [] } ∷ []
 
 -- the parts of what a body scans to
 unfoldable pub parts : List ℕ → Scanned → List Part

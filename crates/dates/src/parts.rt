@@ -112,7 +112,7 @@ pub(crate) fn next_part(classes: &[u8; 256], text: &[u8], at: usize, end: usize)
     }
     match scanner::next_by(classes, text, end) {
         Next::Found(class, start, stop) => match class {
-            Class::Quoted => Token {
+            Class::Quoted | Class::Literal => Token {
                 key: OTHER_PART,
                 start: stop,
                 stop,

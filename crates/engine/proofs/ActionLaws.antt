@@ -8,8 +8,8 @@ use lib.ListN.{getD}
 use native.Mathlib.Omega.{arith}
 use Rattle.octets.proofs.Tables.{at}
 use Rattle.grammar.specs.Rfc733.{classNumber}
-use Rattle.grammar.proofs.Trees.{Class, Atom, Quoted, At, LessThan, GreaterThan, Comma, Semicolon, Colon, Stray}
-use Rattle.engine.specs.Actions.{Mode, atPlace, atStart, atFirstAtom, wanting, atAtom, atQuoted, atWords, behindAt, atNode, behindAddress, modeNumber, Act, refuses, begins, adds, passes, opens, opensNamed, turnsTyped, endsAtComma, closes, endsAndCloses, finishes, endsAndFinishes, actNumber, no, entry, Row, rowOf, onClass, actionOf, columns, cells, modeCount, modes, actionTable}
+use Rattle.grammar.proofs.Trees.{Class, Atom, Quoted, At, LessThan, GreaterThan, Comma, Semicolon, Colon, Stray, Dot, Literal}
+use Rattle.engine.specs.Actions.{Mode, atPlace, atStart, atFirstAtom, wanting, atAtom, atQuoted, atWords, behindAt, atNode, behindAddress, modeNumber, Act, refuses, begins, adds, passes, opens, opensNamed, turnsTyped, endsAtComma, closes, endsAndCloses, finishes, endsAndFinishes, actNumber, no, entry, Row, rowOf, onClass, actionOf, columns, cells, endColumn, modeCount, modes, actionTable}
 
 pub mode-small : (m : Mode) → modeNumber m < modeCount
 mode-small atPlace = omega arith
@@ -23,7 +23,7 @@ mode-small behindAt = omega arith
 mode-small atNode = omega arith
 mode-small behindAddress = omega arith
 
-pub class-small : (c : Class) → classNumber c < 9
+pub class-small : (c : Class) → classNumber c < endColumn
 class-small Atom = omega arith
 class-small Quoted = omega arith
 class-small At = omega arith
@@ -33,6 +33,8 @@ class-small Comma = omega arith
 class-small Semicolon = omega arith
 class-small Colon = omega arith
 class-small Stray = omega arith
+class-small Dot = omega arith
+class-small Literal = omega arith
 
 -- ---- the table, entry by entry
 
@@ -45,7 +47,7 @@ abbrev right : ℕ → ℕ → Bool
 right i e = eqb e (entryAt i)
 
 -- one test over the whole table, at each entry
-rule : (i : ℕ) → i < 100 → getD actionTable i 0 ≡ entryAt i
+rule : (i : ℕ) → i < modeCount * columns → getD actionTable i 0 ≡ entryAt i
 unfolding actionTable
 rule i h = eqb→eq (getD actionTable i 0) (entryAt i) (at right actionTable 0 tt i h)
 
@@ -79,14 +81,16 @@ cell-at r Comma = refl
 cell-at r Semicolon = refl
 cell-at r Colon = refl
 cell-at r Stray = refl
+cell-at r Dot = refl
+cell-at r Literal = refl
 
 -- what is done in a mode at a symbol of a class
 pub entry-at : (m : Mode) (c : Class) → getD actionTable (modeNumber m * columns + classNumber c) 0 ≡ entry (actionOf m c)
 entry-at m c = column-at m (classNumber c) (omega (arith, class-small c)) ∙ ap entry (cell-at (rowOf m) c)
 
 -- .. and at the end of the text
-pub end-entry : (m : Mode) → getD actionTable (modeNumber m * columns + 9) 0 ≡ entry (rowOf m .end)
-end-entry m = column-at m 9 (omega arith)
+pub end-entry : (m : Mode) → getD actionTable (modeNumber m * columns + endColumn) 0 ≡ entry (rowOf m .end)
+end-entry m = column-at m endColumn (omega arith)
 
 -- ---- what is done, by its number
 

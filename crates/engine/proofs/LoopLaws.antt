@@ -19,13 +19,13 @@ use Rattle.grammar.proofs.AnyMachine.{ended, stopped, atEnd, standsBy}
 use Rattle.grammar.proofs.Trees.{Class, Atom}
 use Rattle.grammar.proofs.AddressMachine.{State, stepOn, step, run, judge}
 use Rattle.grammar.proofs.AddressMachine as machine
-use Rattle.grammar.proofs.Condition3.{asRows}
+use Rattle.grammar.proofs.Condition3.{asRows, answer}
 use Rattle.grammar.proofs.Rows.{asRow}
 use Rattle.grammar.proofs.TreeRecords.{tree-records, tree-count}
 use Rattle.addresses.specs.Steps.{symbolsFrom, symbolsAhead, lexemeAt, Faultless}
 use Rattle.addresses.specs.Whole.{Body, WholeIs}
 use Rattle.addresses.proofs.NextLaws.{NextIs, next-is}
-use Rattle.engine.specs.Actions.{modeNumber, columns, modeCount, entry, rowOf, actionOf, actionTable}
+use Rattle.engine.specs.Actions.{modeNumber, columns, endColumn, modeCount, entry, rowOf, actionOf, actionTable}
 use Rattle.engine.specs.Stands.{modeOf, stackSize, Stands}
 use Rattle.engine.specs.Turns.{Follows, GoesTo, StopsBy, Turning, Finishing, FinishedIs}
 use Rattle.engine.specs.Expecting.{stopOf, StopsAtEnd, StopsAtSymbol}
@@ -48,8 +48,8 @@ module _ {text lent : List ℕ} {s : State} {e : Engine} {stack table : List ℕ
   entry-of c column q k i = entry-on column q i ∙ ap (λ n. getD actionTable (modeNumber (modeOf s) * columns + n) 0) k ∙ entry-at (modeOf s) c
 
   -- at the end
-  pub end-of : {actions : List ℕ} {action : ℕ} → actions ≡ actionTable → action ≡ getD actions (e .mode * columns + 9) 0 → action ≡ entry (rowOf (modeOf s) .end)
-  end-of q i = entry-on 9 q i ∙ end-entry (modeOf s)
+  pub end-of : {actions : List ℕ} {action : ℕ} → actions ≡ actionTable → action ≡ getD actions (e .mode * columns + endColumn) 0 → action ≡ entry (rowOf (modeOf s) .end)
+  end-of q i = entry-on endColumn q i ∙ end-entry (modeOf s)
 
 -- ---- symbol by symbol
 
@@ -119,7 +119,7 @@ module _ {classes text lent : List ℕ} {from : ℕ} {e : Engine} {stack table :
       record {
         table = table;
         stands = stands-as (r .stood ∙ ap (standsBy step levelLimit (r .state)) (x .same) ∙ rw (g .steps) refl) (g .kept) (r .stands);
-        refused = record { why = g .why; rest = symbolsAhead classes text (Found c a b); verdict = ap asRows (ap judge v); number-is = g .number-is; place-is = refl };
+        refused = record { why = g .why; rest = symbolsAhead classes text (Found c a b); verdict-is = ap asRows (ap judge v); number-is = g .number-is; place-is = refl };
       }
 
   -- no symbol is left
@@ -131,16 +131,16 @@ module _ {classes text lent : List ℕ} {from : ℕ} {e : Engine} {stack table :
 -- ---- the end
 
 module _ {classes text lent : List ℕ} {from : ℕ} {e : Engine} {stack table : List ℕ} (x : StopsAtEnd classes text lent from stack table e) where
-  pub ended-finishing : {actions : List ℕ} {action : ℕ} → actions ≡ actionTable → action ≡ getD actions (e .mode * columns + 9) 0 → Finishing text lent (stopOf classes text from) e action stack table
+  pub ended-finishing : {actions : List ℕ} {action : ℕ} → actions ≡ actionTable → action ≡ getD actions (e .mode * columns + endColumn) 0 → Finishing text lent (stopOf classes text from) e action stack table
   ended-finishing q i = record { stands = x .stands; action-is = end-of (x .stands) q i }
 
-  pub ended-whole : (after : List ℕ) (w : Whole) → FinishedIs text lent (stopOf classes text from) after w → WholeIs classes text from lent after w
+  pub ended-whole : (after : List ℕ) (w : Whole) → FinishedIs text lent (stopOf classes text from) after w → WholeIs (answer levelLimit) classes text from lent after w
   ended-whole after (Listed n) f =
       record {
         derivation = asRow (f .tree);
-        verdict = ap asRows (ap judge (x .reads) ∙ ap atEnd (f .is));
+        verdict-is = ap asRows (ap judge (x .reads) ∙ ap atEnd (f .is));
         count-is = omega (arith, f .count-is, tree-count (f .tree));
         stored = f .stored ∙ ap (λ rs. sets lent 0 (tableBytes rs)) (sym (tree-records (f .tree)));
       }
   ended-whole after (Refused n p) f =
-      record { why = unfinished; rest = []; verdict = ap asRows (ap judge (x .reads) ∙ ap atEnd (f .is)); number-is = f .number-is; place-is = f .place-is }
+      record { why = unfinished; rest = []; verdict-is = ap asRows (ap judge (x .reads) ∙ ap atEnd (f .is)); number-is = f .number-is; place-is = f .place-is }

@@ -5,7 +5,7 @@ use mathlib.Core.Option.{Option, none, some}
 use native.Mathlib.Omega.{arith}
 use Rattle.grammar.specs.Language.{unfit}
 use Rattle.grammar.proofs.AnyMachine.{go, stop}
-use Rattle.grammar.proofs.Trees.{Class, Atom, Quoted, At, LessThan, GreaterThan, Comma, Semicolon, Colon, Stray, Lexeme, Word, atomWord, quotedWord, Phrase, one, more, Nodes, first, next, Place, empty, comma, AddressList, idle, full, Address, mailbox, quoted}
+use Rattle.grammar.proofs.Trees.{Class, Atom, Quoted, At, LessThan, GreaterThan, Comma, Semicolon, Colon, Stray, Dot, Literal, Lexeme, Word, atomWord, quotedWord, Phrase, one, more, Nodes, first, next, Place, empty, comma, AddressList, idle, full, Address, mailbox, quoted}
 use Rattle.grammar.proofs.AddressMachine.{Here, inList, inTyped, Level, top, inAngle, inGroup, State, list, phrase, firstAt, nextAt, node, want, close, enter, Began, fresh, phraseColon, stepOn, finish, wholeOf}
 use Rattle.grammar.proofs.Complete.{begin}
 use Rattle.engine.specs.Actions.{Mode, atPlace, wanting, atWords, behindAddress, Act, refuses, begins, adds, passes, opens, opensNamed, turnsTyped, endsAtComma, closes, endsAndCloses, finishes, endsAndFinishes, Action, _then_, placeRow, wordsRow, rowOf, onClass, actionOf}
@@ -154,6 +154,8 @@ module _ (n : ℕ) (t : Lexeme) where
   at-place k r o e Semicolon = record { level = k; sofar = idle r; at = refl; steps = refl; mode-is = refl }
   at-place k r o e Colon = record { here = inList k r; at = refl; steps = refl; mode-is = refl }
   at-place k r o e Stray = refl
+  at-place k r o e Dot = refl
+  at-place k r o e Literal = refl
 
   at-atom : (h : Here) (a : Lexeme) (o : Option Began) → fresh h ≡ o → (c : Class) → DoesSo (onClass (wordsRow (colonOf o)) c) n (phrase h (one (atomWord a))) c t
   at-atom h a o e Atom = record { here = h; sofar = one (atomWord a); word = atomWord t; at = refl; is = atomIs; steps = refl; mode-is = refl }
@@ -166,6 +168,8 @@ module _ (n : ℕ) (t : Lexeme) where
   at-atom h a none e Colon = record { here = h; name = one (atomWord a); at = refl; steps = ap (phraseColon n h (one (atomWord a)) t) e; mode-is = refl }
   at-atom h a (some b) e Colon = record { here = b .here; colon = b .colon; atom = a; at = ap (λ g. phrase g (one (atomWord a))) (fresh-some h b e); steps = ap (phraseColon n h (one (atomWord a)) t) e; mode-is = refl }
   at-atom h a o e Stray = refl
+  at-atom h a o e Dot = refl
+  at-atom h a o e Literal = refl
 
   -- in each mode the machine does what the table says
   pub does : (s : State) (c : Class) → DoesSo (actionOf (modeOf s) c) n s c t
@@ -179,6 +183,8 @@ module _ (n : ℕ) (t : Lexeme) where
   does (list k (full r a)) Semicolon = record { level = k; sofar = full r a; at = refl; steps = refl; mode-is = refl }
   does (list k (full r a)) Colon = refl
   does (list k (full r a)) Stray = refl
+  does (list k (full r a)) Dot = refl
+  does (list k (full r a)) Literal = refl
   does (phrase h (one (atomWord a))) c = rw (atom-row (fresh h)) (at-atom h a (fresh h) refl c)
   does (phrase h (one (quotedWord q))) Atom = record { here = h; sofar = one (quotedWord q); word = atomWord t; at = refl; is = atomIs; steps = refl; mode-is = refl }
   does (phrase h (one (quotedWord q))) Quoted = record { here = h; sofar = one (quotedWord q); word = quotedWord t; at = refl; is = quotedIs; steps = refl; mode-is = refl }
@@ -189,6 +195,8 @@ module _ (n : ℕ) (t : Lexeme) where
   does (phrase h (one (quotedWord q))) Semicolon = record { here = h; address = quoted q; ended = lone; steps = refl; mode-is = refl }
   does (phrase h (one (quotedWord q))) Colon = record { here = h; name = one (quotedWord q); at = refl; steps = refl; mode-is = refl }
   does (phrase h (one (quotedWord q))) Stray = refl
+  does (phrase h (one (quotedWord q))) Dot = refl
+  does (phrase h (one (quotedWord q))) Literal = refl
   does (phrase h (more p w)) Atom = record { here = h; sofar = more p w; word = atomWord t; at = refl; is = atomIs; steps = refl; mode-is = refl }
   does (phrase h (more p w)) Quoted = record { here = h; sofar = more p w; word = quotedWord t; at = refl; is = quotedIs; steps = refl; mode-is = refl }
   does (phrase h (more p w)) At = record { after = firstAt h (more p w) t; keeps = toAt; steps = refl; mode-is = refl }
@@ -198,6 +206,8 @@ module _ (n : ℕ) (t : Lexeme) where
   does (phrase h (more p w)) Semicolon = refl
   does (phrase h (more p w)) Colon = record { here = h; name = more p w; at = refl; steps = refl; mode-is = refl }
   does (phrase h (more p w)) Stray = refl
+  does (phrase h (more p w)) Dot = refl
+  does (phrase h (more p w)) Literal = refl
   does (firstAt h p v) Atom = record { after = node h p (first v (atomWord t)); keeps = toNode Atom atomIs; steps = refl; mode-is = refl }
   does (firstAt h p v) Quoted = record { after = node h p (first v (quotedWord t)); keeps = toNode Quoted quotedIs; steps = refl; mode-is = refl }
   does (firstAt h p v) At = refl
@@ -207,6 +217,8 @@ module _ (n : ℕ) (t : Lexeme) where
   does (firstAt h p v) Semicolon = refl
   does (firstAt h p v) Colon = refl
   does (firstAt h p v) Stray = refl
+  does (firstAt h p v) Dot = refl
+  does (firstAt h p v) Literal = refl
   does (nextAt h p m v) Atom = record { after = node h p (next m v (atomWord t)); keeps = toNextNode Atom atomIs; steps = refl; mode-is = refl }
   does (nextAt h p m v) Quoted = record { after = node h p (next m v (quotedWord t)); keeps = toNextNode Quoted quotedIs; steps = refl; mode-is = refl }
   does (nextAt h p m v) At = refl
@@ -216,6 +228,8 @@ module _ (n : ℕ) (t : Lexeme) where
   does (nextAt h p m v) Semicolon = refl
   does (nextAt h p m v) Colon = refl
   does (nextAt h p m v) Stray = refl
+  does (nextAt h p m v) Dot = refl
+  does (nextAt h p m v) Literal = refl
   does (node h p m) Atom = refl
   does (node h p m) Quoted = refl
   does (node h p m) At = record { after = nextAt h p m t; keeps = toNextAt; steps = refl; mode-is = refl }
@@ -225,6 +239,8 @@ module _ (n : ℕ) (t : Lexeme) where
   does (node h p m) Semicolon = record { here = h; address = mailbox p m; ended = boxed; steps = refl; mode-is = refl }
   does (node h p m) Colon = refl
   does (node h p m) Stray = refl
+  does (node h p m) Dot = refl
+  does (node h p m) Literal = refl
   does (want h v a u) Atom = record { here = inTyped h v a u; word = atomWord t; at = refl; is = atomIs; steps = refl; mode-is = refl }
   does (want h v a u) Quoted = record { here = inTyped h v a u; word = quotedWord t; at = refl; is = quotedIs; steps = refl; mode-is = refl }
   does (want h v a u) At = refl
@@ -234,6 +250,8 @@ module _ (n : ℕ) (t : Lexeme) where
   does (want h v a u) Semicolon = refl
   does (want h v a u) Colon = record { here = inTyped h v a u; at = refl; steps = refl; mode-is = refl }
   does (want h v a u) Stray = refl
+  does (want h v a u) Dot = refl
+  does (want h v a u) Literal = refl
 
 -- ---- the end
 

@@ -4,7 +4,7 @@
 use Prim.Native.Nat.{ℕ, _+_, _*_}
 use mathlib.Core.List.{List, [], _∷_, _++_}
 use Rattle.scanner.specs.declared.Class.{Class}
-use Rattle.scanner.specs.declared.Class.the-variants.{Atom, Quoted, At, LessThan, GreaterThan, Comma, Semicolon, Colon, Stray}
+use Rattle.scanner.specs.declared.Class.the-variants.{Atom, Quoted, At, LessThan, GreaterThan, Comma, Semicolon, Colon, Stray, Dot, Literal}
 
 -- ---- modes
 
@@ -167,19 +167,25 @@ onClass r Comma = r .comma
 onClass r Semicolon = r .semicolon
 onClass r Colon = r .colon
 onClass r Stray = r .stray
+onClass r Dot = r .stray
+onClass r Literal = r .stray
 
 -- what is done in a mode at a symbol of a class
 abbrev pub actionOf : Mode → Class → Action
 actionOf mode c = onClass (rowOf mode) c
 
--- the columns of a row
+-- the columns of a row: RFC 733 has no dot and no domain literal, so theirs are as that of any other
 abbrev pub columns : ℕ
-columns = 10
+columns = 12
 
 -- .. in order
 abbrev pub cells : Row → List Action
 cells r =
-    r .atom ∷ r .quoted ∷ r .at ∷ r .less ∷ r .greater ∷ r .comma ∷ r .semicolon ∷ r .colon ∷ r .stray ∷ r .end ∷ []
+    r .atom ∷ r .quoted ∷ r .at ∷ r .less ∷ r .greater ∷ r .comma ∷ r .semicolon ∷ r .colon ∷ r .stray ∷ r .stray ∷ r .stray ∷ r .end ∷ []
+
+-- the column of the end
+abbrev pub endColumn : ℕ
+endColumn = 11
 
 -- the rows
 abbrev pub modeCount : ℕ

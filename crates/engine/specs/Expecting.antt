@@ -8,6 +8,7 @@ use Rattle.scanner.specs.declared.Class.{Class}
 use Rattle.grammar.proofs.AnyMachine.{ended, standsBy}
 use Rattle.grammar.proofs.Trees.{AddressList, Address}
 use Rattle.grammar.proofs.AddressMachine.{Here, Level, State, close, levelsAt, step, finish, run, start}
+use Rattle.grammar.proofs.Condition3.{answer}
 use Rattle.addresses.specs.Steps.{symbolsFrom}
 use Rattle.addresses.specs.Whole.{IsRefused}
 use Rattle.expected.specs.Things.{ifNamed, sumOf}
@@ -34,7 +35,7 @@ pub record StopsAtEnd (classes text lent : List ℕ) (from : ℕ) (stack table :
 pub record StopsAtSymbol (classes text lent : List ℕ) (from : ℕ) (stack : List ℕ) (number-told place : ℕ) (e : Engine) : Type 0 where
   pub table : List ℕ
   pub stands : Stands text lent (stopOf classes text from) e stack table
-  pub refused : IsRefused classes text from number-told place
+  pub refused : IsRefused (answer levelLimit) classes text from number-told place
 
 abbrev pub RunIs : List ℕ → List ℕ → List ℕ → ℕ → List ℕ → List ℕ → Stopped → Type 0
 RunIs classes text lent from stack table (AtEnd e) = StopsAtEnd classes text lent from stack table e

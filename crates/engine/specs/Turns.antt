@@ -12,7 +12,7 @@ use Rattle.octets.specs.Numbers.{messageLimit, levelLimit, addressRecordSize, e
 use Rattle.octets.specs.Choice.{pick}
 use Rattle.octets.specs.Text.{part}
 use Rattle.scanner.specs.declared.Class.{Class}
-use Rattle.scanner.specs.declared.Class.the-variants.{Atom, Quoted, At, LessThan, GreaterThan, Comma, Semicolon, Colon, Stray}
+use Rattle.scanner.specs.declared.Class.the-variants.{Atom, Quoted, At, LessThan, GreaterThan, Comma, Semicolon, Colon, Stray, Dot, Literal}
 use Rattle.grammar.specs.Language.{Refusal, number}
 use Rattle.grammar.specs.Records.{recordBy, recordBytes, tableBytes}
 use Rattle.grammar.specs.Rfc733.{kindNumber, mailbox, angleList, group, quoted}
@@ -40,6 +40,8 @@ isAngle Comma = false
 isAngle Semicolon = false
 isAngle Colon = false
 isAngle Stray = false
+isAngle Dot = false
+isAngle Literal = false
 
 -- the kind of what a bracket or a mark of groups opens
 abbrev pub kindIf : Bool → ℕ

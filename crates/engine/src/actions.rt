@@ -2,7 +2,8 @@
 
 // A row for each mode: at a place of a list; right behind the ":" of a nameless group; behind one atom there; behind the two
 // colons of a typed address; one atom; one quoted-string; more words; behind "at"; behind a node; behind another address.
-// The columns: atom, quoted-string, "at", "<", ">", ",", ";", ":", any other, the end of the text.
+// The columns: atom, quoted-string, "at", "<", ">", ",", ";", ":", any other, a dot and a domain literal, which
+// RFC 733 has not, the end of the text.
 pub const ACTIONS: [u8; TABLE_SIZE] = [
     20,
     21,
@@ -13,6 +14,8 @@ pub const ACTIONS: [u8; TABLE_SIZE] = [
     137,
     65,
     0,
+    0,
+    0,
     160,
     18,
     21,
@@ -22,6 +25,8 @@ pub const ACTIONS: [u8; TABLE_SIZE] = [
     48,
     137,
     65,
+    0,
+    0,
     0,
     160,
     38,
@@ -34,6 +39,8 @@ pub const ACTIONS: [u8; TABLE_SIZE] = [
     99,
     0,
     0,
+    0,
+    0,
     20,
     21,
     0,
@@ -44,6 +51,8 @@ pub const ACTIONS: [u8; TABLE_SIZE] = [
     65,
     0,
     0,
+    0,
+    0,
     38,
     38,
     55,
@@ -52,6 +61,8 @@ pub const ACTIONS: [u8; TABLE_SIZE] = [
     0,
     0,
     80,
+    0,
+    0,
     0,
     0,
     38,
@@ -62,6 +73,8 @@ pub const ACTIONS: [u8; TABLE_SIZE] = [
     112,
     153,
     80,
+    0,
+    0,
     0,
     176,
     38,
@@ -74,8 +87,12 @@ pub const ACTIONS: [u8; TABLE_SIZE] = [
     80,
     0,
     0,
+    0,
+    0,
     56,
     56,
+    0,
+    0,
     0,
     0,
     0,
@@ -91,6 +108,8 @@ pub const ACTIONS: [u8; TABLE_SIZE] = [
     153,
     112,
     153,
+    0,
+    0,
     0,
     0,
     176,
@@ -103,15 +122,17 @@ pub const ACTIONS: [u8; TABLE_SIZE] = [
     137,
     0,
     0,
+    0,
+    0,
     160,
 ];
 
 // The entries of the table.
-pub const TABLE_SIZE: usize = 100;
+pub const TABLE_SIZE: usize = 120;
 // The columns of a row.
-pub const COLUMNS: usize = 10;
+pub const COLUMNS: usize = 12;
 // The column of the end of the text.
-pub const END: usize = 9;
+pub const END: usize = 11;
 // An entry is this many times its act, plus the next mode.
 pub const MODE_ROOM: u8 = 16;
 // The mode behind one quoted-string.

@@ -7,6 +7,7 @@ ghost use Prim.Native.Nat.{_+_, _*_, _≤_, _<_};
 ghost use lib.ListN.{length, getD, set};
 ghost use Rattle.octets.specs.Numbers.{messageLimit, levelLimit};
 ghost use Rattle.grammar.specs.Rfc733.{classNumber};
+ghost use Rattle.grammar.proofs.Condition3.{answer};
 ghost use Rattle.addresses.specs.Whole.{Body, WholeIs, TwiceIs, TextIs};
 ghost use Rattle.addresses.specs.Steps.{symbolsFrom};
 ghost use Rattle.addresses.specs.Outcome.{outcome};
@@ -116,6 +117,8 @@ fn column_of(class: Class) -> usize
         Class::Semicolon => 6,
         Class::Colon => 7,
         Class::Stray => 8,
+        Class::Dot => 9,
+        Class::Literal => 10,
     }
 }
 
@@ -501,7 +504,7 @@ fn read_whole(
     at: usize,
 ) -> Whole
     requires { ⌜ Body (now classes) (now text) at × (now actions ≡ actionTable) ⌝ }
-    ensures { λ r. ⌜ WholeIs (now (classes .entry)) (now (text .entry)) at (now (table .entry)) (now (table .exit)) r ⌝ }
+    ensures { λ r. ⌜ WholeIs (answer levelLimit) (now (classes .entry)) (now (text .entry)) at (now (table .entry)) (now (table .exit)) r ⌝ }
 {
     let mut stack: [u32; STACK_SIZE] = [0; STACK_SIZE];
     match run(classes, actions, text, &mut stack, table, at) {
@@ -522,7 +525,7 @@ fn read_twice(
     at: usize,
 ) -> Answer
     requires { ⌜ Body (now classes) (now text) at × (now actions ≡ actionTable) ⌝ }
-    ensures { λ r. ⌜ TwiceIs (now (classes .entry)) (now (text .entry)) at (now (table .entry)) (now (table .exit)) r ⌝ }
+    ensures { λ r. ⌜ TwiceIs (answer levelLimit) (now (classes .entry)) (now (text .entry)) at (now (table .entry)) (now (table .exit)) r ⌝ }
 {
     match read_whole(classes, actions, text, &mut table[..0], at) {
         Whole::Refused(number, place) => Answer::Refused(number, place),
@@ -547,7 +550,7 @@ fn read_text(
     at: usize,
 ) -> Answer
     requires { ⌜ (at ≤ length (now text)) × (length (now text) ≤ messageLimit) × (now actions ≡ actionTable) ⌝ }
-    ensures { λ r. ⌜ TextIs (now (classes .entry)) (now (text .entry)) at (now (table .entry)) (now (table .exit)) r ⌝ }
+    ensures { λ r. ⌜ TextIs (answer levelLimit) (now (classes .entry)) (now (text .entry)) at (now (table .entry)) (now (table .exit)) r ⌝ }
 {
     match scanner::fault_by(classes, text, at) {
         Answer::Refused(number, place) => Answer::Refused(number, place),

@@ -14,7 +14,7 @@ use Rattle.octets.specs.declared.answers.Answer.the-variants.{Accepted, Refused
 use Rattle.scanner.specs.Kinds.{kindOf, characterKind}
 use Rattle.scanner.specs.Characters.{Character, character, foldAt, InFold, lineFeed, white, charactersFrom, charactersAt}
 use Rattle.scanner.specs.Characters as characters
-use Rattle.scanner.specs.Scanning.{Scanned, faultAt, State, outside, inAtom, inQuoted, takingInQuoted, inComment, takingInComment, Move, go, halt, move, followedBy, then, scanFrom, scan}
+use Rattle.scanner.specs.Scanning.{Scanned, faultAt, State, outside, inAtom, inQuoted, takingInQuoted, inLiteral, takingInLiteral, inComment, takingInComment, Move, go, halt, move, followedBy, then, scanFrom, scan}
 use Rattle.scanner.specs.Answers.{unlessFault, faultOf}
 use Rattle.scanner.proofs.CharacterLaws.{plain-here, no-fold}
 use Rattle.grammar.proofs.Trees.{Sym}
@@ -111,6 +111,8 @@ opens-comment outside tail p o = opens-by outside (inComment 0 p) tail p refl (e
 opens-comment (inAtom start end t) tail p o = opens-by (inAtom start end t) (inComment 0 p) tail p refl (ends {base = 0} tail characters.none 1 (p + 1) _ _ (comment 0 0 0 refl))
 opens-comment (inQuoted start t) tail p o = never o
 opens-comment (takingInQuoted start t) tail p o = never o
+opens-comment (inLiteral start) tail p o = never o
+opens-comment (takingInLiteral start) tail p o = never o
 opens-comment (inComment depth start) tail p o = opens-by (inComment depth start) (inComment (suc depth) start) tail p refl (ends {base = suc depth} tail characters.none 1 (p + 1) _ _ (comment 0 0 (suc depth) (omega arith)))
 opens-comment (takingInComment depth start) tail p o = never o
 

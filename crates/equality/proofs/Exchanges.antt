@@ -18,9 +18,9 @@ use Rattle.scanner.specs.Scanning.{Scanned, ended, State, outside, inComment, M
 use Rattle.equality.specs.Comments.{stateOf, stateAfter, opensComment, closes, isComment}
 use Rattle.equality.specs.Exchange.{Place, MayHoldComment, messageWith, endWith}
 use Rattle.equality.proofs.Splits.{apart-before-open, apart-behind, split}
-use Rattle.equality.proofs.Shifts.{AlikeScans, both-fault, alike-followed, alike-scan, same-symbols, shifted}
+use Rattle.equality.proofs.Shifts.{AlikeScans, both-fault, alike-followed, alike-from, same-symbols, shifted}
 use Rattle.equality.proofs.InComments.{never}
-use Rattle.equality.proofs.Through.{endedBy, behindComment, comment-scans}
+use Rattle.equality.proofs.Through.{endedBy, behindComment, behind-alike, comment-scans}
 use Rattle.equality.proofs.LastBytes.{comment-ends-no-line}
 
 -- ---- the same characters before what scans alike
@@ -67,7 +67,7 @@ module _ (pre post : List ℕ) (from : ℕ) where
       rw (comment-characters one c, comment-characters other d)
       (same-front (charactersFrom characters.none pre from) _ _ outside
       (λ state e. rw (comment-scans state (c .inside) (from + length pre) (charactersFrom characters.none post (from + length pre + length one)) (o state e) (c .closed), comment-scans state (d .inside) (from + length pre) (charactersFrom characters.none post (from + length pre + length other)) (o state e) (d .closed))
-      (alike-followed (same-symbols (endedBy state)) (alike-scan (shifted post characters.none _ _) (behindComment state)))))
+      (alike-followed (same-symbols (endedBy state)) (alike-from (shifted post characters.none _ _) (behindComment state) (behindComment state) (behind-alike state (o state e))))))
 
 -- ---- the body of a message with a comment in it
 

@@ -49,7 +49,7 @@ pub data AlikeScans : Scanned → Scanned → Type 0 where
   both-next : {x y : Sym} {r s : Scanned} → AlikeSymbol x y → AlikeScans r s → AlikeScans (next x r) (next y s)
   both-fault : (n p q : ℕ) → AlikeScans (faultAt n p) (faultAt n q)
 
-data AlikeStates : State → State → Type 0 where
+pub data AlikeStates : State → State → Type 0 where
   outsides : AlikeStates outside outside
   atoms : (a e a′ e′ : ℕ) (t : List ℕ) → AlikeStates (inAtom a e t) (inAtom a′ e′ t)
   quoteds : (a a′ : ℕ) (t : List ℕ) → AlikeStates (inQuoted a t) (inQuoted a′ t)
@@ -132,23 +132,12 @@ alike-end (taking-quoteds a a′ t) = both-fault quotedNotClosed a a′
 alike-end (comments d a a′) = both-fault commentNotClosed a a′
 alike-end (taking-comments d a a′) = both-fault commentNotClosed a a′
 
-alike-from : {xs ys : List Character} → AlikeCharacters xs ys → (s s′ : State) → AlikeStates s s′ → AlikeScans (scanFrom classTable xs s) (scanFrom classTable ys s′)
+-- from alike states on
+pub alike-from : {xs ys : List Character} → AlikeCharacters xs ys → (s s′ : State) → AlikeStates s s′ → AlikeScans (scanFrom classTable xs s) (scanFrom classTable ys s′)
 unfolding scanFrom
 alike-from none-left s s′ h = alike-end h
 alike-from (one-more b p q folded {xs} {ys} a) s s′ h =
     alike-then (λ z. scanFrom classTable xs z) (λ z. scanFrom classTable ys z) (alike-move (character-view b folded) h b p q) (λ z z′ i. alike-from a z z′ i)
-
-alike-itself : (s : State) → AlikeStates s s
-alike-itself outside = outsides
-alike-itself (inAtom a e t) = atoms a e a e t
-alike-itself (inQuoted a t) = quoteds a a t
-alike-itself (takingInQuoted a t) = taking-quoteds a a t
-alike-itself (inComment d a) = comments d a a
-alike-itself (takingInComment d a) = taking-comments d a a
-
--- from the same state on
-pub alike-scan : {xs ys : List Character} → AlikeCharacters xs ys → (state : State) → AlikeScans (scanFrom classTable xs state) (scanFrom classTable ys state)
-alike-scan a state = alike-from a state state (alike-itself state)
 
 pub same-symbols : (xs : List Sym) → AlikeSymbols xs xs
 same-symbols [] = no-symbol

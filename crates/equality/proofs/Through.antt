@@ -10,11 +10,11 @@ use Rattle.scanner.specs.Symbols.{Symbol}
 use Rattle.scanner.specs.Kinds.{kindOf}
 use Rattle.scanner.specs.Characters.{Character, charactersFrom}
 use Rattle.scanner.specs.Characters as characters
-use Rattle.scanner.specs.Scanning.{State, outside, inAtom, inQuoted, takingInQuoted, inComment, takingInComment, Move, atom, closed, followedBy, then, scanFrom}
+use Rattle.scanner.specs.Scanning.{State, outside, inAtom, inQuoted, takingInQuoted, inLiteral, takingInLiteral, inComment, takingInComment, Move, atom, closed, followedBy, then, scanFrom}
 use Rattle.scanner.specs.declared.Class.{Class}
 use Rattle.equality.specs.Comments.{opensComment, isEmpty, closes}
 use Rattle.equality.proofs.InComments.{never, closesBy, Within, comment, closes-within, Does, faults, leaves, goes-on, does}
-use Rattle.equality.proofs.Shifts.{AlikeCharacters, none-left, one-more, shifted}
+use Rattle.equality.proofs.Shifts.{AlikeCharacters, none-left, one-more, shifted, AlikeStates, outsides, comments}
 
 -- ---- in a comment
 
@@ -44,6 +44,8 @@ endedBy outside = []
 endedBy (inAtom start end t) = atom start end t ∷ []
 endedBy (inQuoted start t) = []
 endedBy (takingInQuoted start t) = []
+endedBy (inLiteral start) = []
+endedBy (takingInLiteral start) = []
 endedBy (inComment depth start) = []
 endedBy (takingInComment depth start) = []
 
@@ -53,8 +55,21 @@ behindComment outside = outside
 behindComment (inAtom start end t) = outside
 behindComment (inQuoted start t) = inQuoted start t
 behindComment (takingInQuoted start t) = takingInQuoted start t
+behindComment (inLiteral start) = inLiteral start
+behindComment (takingInLiteral start) = takingInLiteral start
 behindComment (inComment depth start) = inComment depth start
 behindComment (takingInComment depth start) = takingInComment depth start
+
+-- .. is alike itself
+pub behind-alike : (state : State) → opensComment state ≡ true → AlikeStates (behindComment state) (behindComment state)
+behind-alike outside o = outsides
+behind-alike (inAtom start end t) o = outsides
+behind-alike (inQuoted start t) o = never o
+behind-alike (takingInQuoted start t) o = never o
+behind-alike (inLiteral start) o = never o
+behind-alike (takingInLiteral start) o = never o
+behind-alike (inComment depth start) o = comments depth start start
+behind-alike (takingInComment depth start) o = never o
 
 pub comment-scans : (state : State) (inside : List ℕ) (p : ℕ) (behind : List Character) → opensComment state ≡ true → closes (charactersFrom characters.none inside 1) (inComment 0 0) ≡ true
     → scanFrom classTable (charactersFrom characters.none (openByte ∷ inside) p ++ behind) state ≡ followedBy (endedBy state) (scanFrom classTable behind (behindComment state))
@@ -63,5 +78,7 @@ comment-scans outside inside p behind o l = through {base = 0} behind (shifted i
 comment-scans (inAtom start end t) inside p behind o l = ap (followedBy (atom start end t ∷ [])) (through {base = 0} behind (shifted inside characters.none 1 (p + 1)) _ _ (comment 0 0 0 refl) l)
 comment-scans (inQuoted start t) inside p behind o l = never o
 comment-scans (takingInQuoted start t) inside p behind o l = never o
+comment-scans (inLiteral start) inside p behind o l = never o
+comment-scans (takingInLiteral start) inside p behind o l = never o
 comment-scans (inComment depth start) inside p behind o l = through {base = suc depth} behind (shifted inside characters.none 1 (p + 1)) _ _ (comment 0 0 (suc depth) (omega arith)) l
 comment-scans (takingInComment depth start) inside p behind o l = never o

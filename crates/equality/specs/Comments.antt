@@ -13,7 +13,7 @@ use Rattle.octets.specs.declared.answers.Answer.the-variants.{Accepted}
 use Rattle.scanner.specs.Kinds.{characterKind}
 use Rattle.scanner.specs.Characters.{Character, character, charactersFrom, charactersAt}
 use Rattle.scanner.specs.Characters as characters
-use Rattle.scanner.specs.Scanning.{State, outside, inAtom, inQuoted, takingInQuoted, inComment, takingInComment, Move, go, halt, move, scan}
+use Rattle.scanner.specs.Scanning.{State, outside, inAtom, inQuoted, takingInQuoted, inLiteral, takingInLiteral, inComment, takingInComment, Move, go, halt, move, scan}
 use Rattle.scanner.specs.Answers.{faultOf}
 
 -- ---- where scanning stands
@@ -34,12 +34,15 @@ stateAfter (c ∷ rest) state = elim (stateBehind state c) [ none ↦ none | som
 
 -- ---- where a comment may stand
 
--- a "(" opens a comment outside, in an atom, which it ends, and in a comment; not in a quoted-string nor behind a backslash
+-- a "(" opens a comment outside, in an atom, which it ends, and in a comment; not in a quoted-string, in a domain literal nor
+-- behind a backslash
 abbrev pub opensComment : State → Bool
 opensComment outside = true
 opensComment (inAtom start end t) = true
 opensComment (inQuoted start t) = false
 opensComment (takingInQuoted start t) = false
+opensComment (inLiteral start) = false
+opensComment (takingInLiteral start) = false
 opensComment (inComment depth start) = true
 opensComment (takingInComment depth start) = false
 
@@ -55,6 +58,8 @@ isOutside outside = true
 isOutside (inAtom start end t) = false
 isOutside (inQuoted start t) = false
 isOutside (takingInQuoted start t) = false
+isOutside (inLiteral start) = false
+isOutside (takingInLiteral start) = false
 isOutside (inComment depth start) = false
 isOutside (takingInComment depth start) = false
 

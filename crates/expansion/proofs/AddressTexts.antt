@@ -12,7 +12,7 @@ use Rattle.grammar.specs.Rfc733.{sameClass}
 use Rattle.scanner.specs.Scanning.{scanBy, symbol}
 use Rattle.scanner.specs.Answers.{nextOf}
 use Rattle.scanner.specs.declared.Class.{Class}
-use Rattle.scanner.specs.declared.Class.the-variants.{Atom, Quoted, At, LessThan, GreaterThan, Comma, Semicolon, Colon, Stray}
+use Rattle.scanner.specs.declared.Class.the-variants.{Atom, Quoted, At, LessThan, GreaterThan, Comma, Semicolon, Colon, Stray, Dot, Literal}
 use Rattle.scanner.specs.declared.Next.{Next}
 use Rattle.scanner.specs.declared.Next.the-variants.{Found}
 use Rattle.scanner.proofs.Meanings.{meaningAt}
@@ -38,6 +38,8 @@ colon-by x xs Comma = refl
 colon-by x xs Semicolon = refl
 colon-by x xs Colon = refl
 colon-by x xs Stray = refl
+colon-by x xs Dot = refl
+colon-by x xs Literal = refl
 
 colon-class : (c : Class) → pick (ends c) false (sameClass Colon c) ≡ sameClass Colon c
 colon-class Atom = refl
@@ -49,6 +51,8 @@ colon-class Comma = refl
 colon-class Semicolon = refl
 colon-class Colon = refl
 colon-class Stray = refl
+colon-class Dot = refl
+colon-class Literal = refl
 
 until-colon : (xs : List Sym) → colonNext (untilEnd xs) ≡ colonNext xs
 until-colon [] = refl

@@ -6,7 +6,7 @@ use mathlib.Core.List.{List, [], _∷_}
 use Rattle.scanner.specs.Scanning.{Scanned, ended, next, faultAt, symbolsOf, scanBy, symbol}
 use Rattle.scanner.specs.Answers.{nextOf}
 use Rattle.scanner.specs.declared.Class.{Class}
-use Rattle.scanner.specs.declared.Class.the-variants.{Atom, Quoted, At, LessThan, GreaterThan, Comma, Semicolon, Colon, Stray}
+use Rattle.scanner.specs.declared.Class.the-variants.{Atom, Quoted, At, LessThan, GreaterThan, Comma, Semicolon, Colon, Stray, Dot, Literal}
 use Rattle.scanner.specs.declared.Next.{Next}
 use Rattle.scanner.proofs.Meanings.{meaningAt}
 use Rattle.scanner.proofs.Unfolding.{SymbolAt}
@@ -71,6 +71,8 @@ module _ (classes text : List ℕ) where
   by-sort Semicolon end = refl
   by-sort Colon end = refl
   by-sort Stray end = refl
+  by-sort Dot end = refl
+  by-sort Literal end = refl
 
   held-by-sort : (class : Class) (end : ℕ) (s t : Sort) → s ≡ sortOf class → t ≡ s → HeldSort t class end
   held-by-sort class end s t e f = rw (f ∙ e) (by-sort class end)
@@ -161,6 +163,8 @@ by-turn store Comma here fresh rest = refl
 by-turn store Semicolon here fresh rest = refl
 by-turn store Colon here fresh rest = refl
 by-turn store Stray here fresh rest = refl
+by-turn store Dot here fresh rest = refl
+by-turn store Literal here fresh rest = refl
 
 pub stored-is : (o : Option ℕ) (i : ℕ) → asRecord o ≡ Stored i → o ≡ some i
 stored-is none i e = absurd (let z : _≡_ {A = ℕ} 0 1 = cc in omega arith)
@@ -229,6 +233,8 @@ from-in store Comma here fresh rest g h k = h
 from-in store Semicolon here fresh rest g h k = else-in store here rest g k
 from-in store Colon here fresh rest g h k = else-in store here rest g k
 from-in store Stray here fresh rest g h k = else-in store here rest g k
+from-in store Dot here fresh rest g h k = else-in store here rest g k
+from-in store Literal here fresh rest g h k = else-in store here rest g k
 
 first-in : (store : List ℕ) (starts : Bool) (xs : List Sym) → InStore store (firstOf store starts xs)
 first-in store starts [] = tt

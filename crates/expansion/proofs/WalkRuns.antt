@@ -13,7 +13,7 @@ use Rattle.octets.proofs.Writes.{wrote-both}
 use Rattle.scanner.specs.Scanning.{scan, scanBy, symbolsOf, symbol}
 use Rattle.scanner.specs.Answers.{nextOf}
 use Rattle.scanner.specs.declared.Class.{Class}
-use Rattle.scanner.specs.declared.Class.the-variants.{Atom, Quoted, At, LessThan, GreaterThan, Comma, Semicolon, Colon, Stray}
+use Rattle.scanner.specs.declared.Class.the-variants.{Atom, Quoted, At, LessThan, GreaterThan, Comma, Semicolon, Colon, Stray, Dot, Literal}
 use Rattle.scanner.specs.declared.Next.{Next}
 use Rattle.scanner.specs.declared.Next.the-variants.{Found, Ended, Fault}
 use Rattle.scanner.proofs.Meanings.{meaningAt}
@@ -60,6 +60,8 @@ no-include Comma place xs e = refl
 no-include Semicolon place xs e = refl
 no-include Colon place xs e = absurd (let o : _≡_ {A = ℕ} 0 1 = cc in omega arith)
 no-include Stray place xs e = refl
+no-include Dot place xs e = refl
+no-include Literal place xs e = refl
 
 outside : (inner e : Bool) → pick inner false e ≡ true → e ≡ true
 outside true e h = absurd (let o : _≡_ {A = ℕ} 0 1 = cc in omega arith)

@@ -15,7 +15,7 @@ use Rattle.octets.specs.Numbers.{levelLimit}
 use Rattle.octets.specs.Text.{bytes}
 use Rattle.grammar.specs.Grammar.{begins}
 use Rattle.grammar.specs.Rfc733.{sameClass, kindNumber, typedKind, include, postal, otherTyped}
-use Rattle.grammar.proofs.Trees.{Class, Atom, Quoted, At, LessThan, GreaterThan, Comma, Semicolon, Colon, Stray, Lexeme, Sym, of, atomWord, quotedWord, Phrase, one, more, Nodes, first, next, comma, AddressList, idle, full, mailbox, angle, group, quoted, typed, wordSymbol, phraseThen, nodesThen, placeThen, listThen, addressThen, placeLawful, listLawful, addressLawful, placeLevels, listLevels, addressLevels}
+use Rattle.grammar.proofs.Trees.{Class, Atom, Quoted, At, LessThan, GreaterThan, Comma, Semicolon, Colon, Stray, Dot, Literal, Lexeme, Sym, of, atomWord, quotedWord, Phrase, one, more, Nodes, first, next, comma, AddressList, idle, full, mailbox, angle, group, quoted, typed, wordSymbol, phraseThen, nodesThen, placeThen, listThen, addressThen, placeLawful, listLawful, addressLawful, placeLevels, listLevels, addressLevels}
 use Rattle.grammar.proofs.Trees as trees
 use Rattle.grammar.proofs.HouseRule.{oneAtom, placeAtomGroup, listAtomGroup, atomColon-list, oneAtom-false, oneAtom-true}
 use Rattle.grammar.proofs.HouseRule as house
@@ -143,6 +143,8 @@ module _ (store : List ℕ) (opening : WalkOpening) (placeOf : ℕ → ℕ) (bas
       by Semicolon e′ = refl
       by Colon e′ = absurd (let o : _≡_ {A = ℕ} 0 1 = cc in omega arith)
       by Stray e′ = absurd (let o : _≡_ {A = ℕ} 0 1 = cc in omega arith)
+      by Dot e′ = absurd (let o : _≡_ {A = ℕ} 0 1 = cc in omega arith)
+      by Literal e′ = absurd (let o : _≡_ {A = ℕ} 0 1 = cc in omega arith)
 
   joins-typed : (xs : List Sym) → Joins xs → (p : Place) (s : List Bool) (u : ℕ) (k : Place → ℕ → Trail) → W p (true ∷ s) xs u k ≡ W p s xs u k
   joins-typed [] j p s u k = refl
@@ -167,6 +169,8 @@ module _ (store : List ℕ) (opening : WalkOpening) (placeOf : ℕ → ℕ) (bas
       by Semicolon e′ = refl
       by Colon e′ = absurd (let o : _≡_ {A = ℕ} 0 1 = cc in omega arith)
       by Stray e′ = absurd (let o : _≡_ {A = ℕ} 0 1 = cc in omega arith)
+      by Dot e′ = absurd (let o : _≡_ {A = ℕ} 0 1 = cc in omega arith)
+      by Literal e′ = absurd (let o : _≡_ {A = ℕ} 0 1 = cc in omega arith)
 
   -- ---- skipping an Include
 
@@ -199,6 +203,8 @@ module _ (store : List ℕ) (opening : WalkOpening) (placeOf : ℕ → ℕ) (bas
       by Semicolon e′ = refl
       by Colon e′ = absurd (let o : _≡_ {A = ℕ} 0 1 = cc in omega arith)
       by Stray e′ = absurd (let o : _≡_ {A = ℕ} 0 1 = cc in omega arith)
+      by Dot e′ = absurd (let o : _≡_ {A = ℕ} 0 1 = cc in omega arith)
+      by Literal e′ = absurd (let o : _≡_ {A = ℕ} 0 1 = cc in omega arith)
 
   module _ (p : Place) (s : List Bool) (u : ℕ) (k : Place → ℕ → Trail) where
     skip-phrase : (n : Phrase) (inner : Bool) (xs : List Sym) → skip inner p s (phraseThen n xs) u k ≡ skip inner p s xs u k

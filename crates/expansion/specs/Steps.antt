@@ -21,7 +21,7 @@ use Rattle.plain.specs.declared.places.Place.the-variants.{Start}
 use Rattle.expansion.specs.Walk.{Sym, untilEnd, ends, innerAfter, levelsAfter, includeNext, includeHere, behindOne, inTyped, sought, Trail, halted, wrote, before, writing, walk, walkWithin, walked, Phase, nothing, words, nodes, onlyFrom, namedBy}
 use Rattle.expansion.specs.Walk as seek
 use Rattle.scanner.specs.declared.Class.{Class}
-use Rattle.scanner.specs.declared.Class.the-variants.{Atom, Quoted, At, LessThan, GreaterThan, Comma, Semicolon, Colon, Stray}
+use Rattle.scanner.specs.declared.Class.the-variants.{Atom, Quoted, At, LessThan, GreaterThan, Comma, Semicolon, Colon, Stray, Dot, Literal}
 use Rattle.expansion.specs.declared.Sort.{Sort}
 use Rattle.expansion.specs.declared.Sort.the-variants.{Word, Less, Other}
 use Rattle.expansion.specs.declared.Sort.the-variants as sort
@@ -70,6 +70,8 @@ sortOf Comma = Other
 sortOf Semicolon = Other
 sortOf Colon = Other
 sortOf Stray = Other
+sortOf Dot = Other
+sortOf Literal = Other
 
 -- levels as bits, the innermost the lowest
 abbrev pub bitsOf : List Bool → ℕ
@@ -126,6 +128,8 @@ turnOf Comma = Parts
 turnOf Semicolon = Within
 turnOf Colon = Within
 turnOf Stray = Within
+turnOf Dot = Within
+turnOf Literal = Within
 
 -- what is found at it
 abbrev pub onTurn : Turn → Option ℕ → Option ℕ → Option ℕ → Option ℕ

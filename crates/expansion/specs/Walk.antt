@@ -13,7 +13,7 @@ use Rattle.octets.specs.Text.{bytes}
 use Rattle.scanner.specs.Symbols.{Symbol}
 use Rattle.scanner.specs.Scanning.{scan, symbolsOf}
 use Rattle.scanner.specs.declared.Class.{Class}
-use Rattle.scanner.specs.declared.Class.the-variants.{Atom, Quoted, At, LessThan, GreaterThan, Comma, Semicolon, Colon, Stray}
+use Rattle.scanner.specs.declared.Class.the-variants.{Atom, Quoted, At, LessThan, GreaterThan, Comma, Semicolon, Colon, Stray, Dot, Literal}
 use Rattle.grammar.specs.Grammar.{levels, begins}
 use Rattle.grammar.specs.Rfc733.{sameClass}
 use Rattle.plain.specs.Walking.{symbolText, after, afterAtom, afterComma, colonNext, walkText}
@@ -88,6 +88,8 @@ levelsAfter Comma place colon s = withoutTyped s
 levelsAfter Semicolon place colon s = withoutOne (withoutTyped s)
 levelsAfter Colon place colon s = pick (isTyping place) s (withList s)
 levelsAfter Stray place colon s = s
+levelsAfter Dot place colon s = s
+levelsAfter Literal place colon s = s
 
 -- ---- what an Include leads to
 
@@ -102,6 +104,8 @@ ends Comma = true
 ends Semicolon = true
 ends Colon = false
 ends Stray = false
+ends Dot = false
+ends Literal = false
 
 -- symbols up to the end of an address
 abbrev pub untilEnd : List Sym → List Sym
@@ -124,6 +128,8 @@ heldFrom Comma xs r = neither
 heldFrom Semicolon xs r = neither
 heldFrom Colon xs r = neither
 heldFrom Stray xs r = neither
+heldFrom Dot xs r = neither
+heldFrom Literal xs r = neither
 
 -- .. by the symbols behind its second ":"
 abbrev pub heldBy : List Sym → Held
@@ -157,6 +163,8 @@ onlyFrom Comma phase rest = both (notWords phase) (rest nothing)
 onlyFrom Semicolon phase rest = false
 onlyFrom Colon phase rest = false
 onlyFrom Stray phase rest = false
+onlyFrom Dot phase rest = false
+onlyFrom Literal phase rest = false
 
 -- mailboxes only, up to ">"
 abbrev pub only : Phase → List Sym → Bool
@@ -209,6 +217,8 @@ innerAfter Comma inner = inner
 innerAfter Semicolon inner = inner
 innerAfter Colon inner = inner
 innerAfter Stray inner = inner
+innerAfter Dot inner = inner
+innerAfter Literal inner = inner
 
 -- the opening of a record: its number, the position and the levels around, the place, the openings, and what follows
 abbrev pub WalkOpening : Type 0
@@ -230,6 +240,8 @@ module _ (store : List ℕ) where
   firstFrom Semicolon here fresh rest = orElse here rest
   firstFrom Colon here fresh rest = orElse here rest
   firstFrom Stray here fresh rest = orElse here rest
+  firstFrom Dot here fresh rest = orElse here rest
+  firstFrom Literal here fresh rest = orElse here rest
 
   -- of the addresses up to ">" the first that is a record's name; `starts`: an address begins here
   abbrev pub firstOf : Bool → List Sym → Option ℕ

@@ -197,6 +197,8 @@ fn levels_after(class: Class, place: Place, colon: bool, levels: Levels) -> Leve
             with_list(levels)
         }
         Class::Stray => levels,
+        Class::Dot => levels,
+        Class::Literal => levels,
     }
 }
 
@@ -216,6 +218,8 @@ fn ends_address(class: Class) -> bool
         Class::Semicolon => true,
         Class::Colon => false,
         Class::Stray => false,
+        Class::Dot => false,
+        Class::Literal => false,
     }
 }
 
@@ -285,6 +289,8 @@ fn sort_of(class: Class) -> Sort
         Class::Semicolon => Sort::Other,
         Class::Colon => Sort::Other,
         Class::Stray => Sort::Other,
+        Class::Dot => Sort::Other,
+        Class::Literal => Sort::Other,
     }
 }
 
@@ -360,6 +366,8 @@ fn only_step(class: Class, phase: Phase) -> Only
         Class::Semicolon => Only::Done(false),
         Class::Colon => Only::Done(false),
         Class::Stray => Only::Done(false),
+        Class::Dot => Only::Done(false),
+        Class::Literal => Only::Done(false),
     }
 }
 
@@ -404,6 +412,8 @@ fn turn_of(class: Class) -> Turn
         Class::Semicolon => Turn::Within,
         Class::Colon => Turn::Within,
         Class::Stray => Turn::Within,
+        Class::Dot => Turn::Within,
+        Class::Literal => Turn::Within,
     }
 }
 
@@ -567,6 +577,8 @@ fn inner_after(class: Class, inner: bool) -> bool
         Class::Semicolon => inner,
         Class::Colon => inner,
         Class::Stray => inner,
+        Class::Dot => inner,
+        Class::Literal => inner,
     }
 }
 

@@ -3,7 +3,7 @@ use Prim.Native.Nat.{ℕ}
 use mathlib.Core.Path.{_≡_, refl}
 use mathlib.Core.Bool.{Bool, true, false}
 use mathlib.Core.Option.{Option, none, some}
-use Rattle.grammar.proofs.Trees.{Class, Atom, Quoted, At, LessThan, GreaterThan, Comma, Semicolon, Colon, Stray, Lexeme, Word, atomWord, quotedWord, Phrase, AddressList, idle, full}
+use Rattle.grammar.proofs.Trees.{Class, Atom, Quoted, At, LessThan, GreaterThan, Comma, Semicolon, Colon, Stray, Dot, Literal, Lexeme, Word, atomWord, quotedWord, Phrase, AddressList, idle, full}
 use Rattle.grammar.proofs.AddressMachine.{Here, Level, State, list, phrase, firstAt, nextAt, node, want, Spot, Began, complete, begun, onWord, onAt, onComma, onGreaterThan, onSemicolon, onLessThan, onColon, inList, inTyped, entered, withinLimit, endAngle, endGroup, top, inAngle, inGroup, phraseColon, stepOn}
 use Rattle.octets.specs.Choice.{either}
 use Rattle.expected.specs.Things.{word}
@@ -87,6 +87,8 @@ step-any n s Comma t u = comma-any (complete s) t u
 step-any n s Semicolon t u = semicolon-any (complete s) t u
 step-any n s Colon t u = colon-any n s t u
 step-any n s Stray t u = refl
+step-any n s Dot t u = refl
+step-any n s Literal t u = refl
 
 -- ---- in any state
 

@@ -5,10 +5,11 @@ use mathlib.Core.Path.{_≡_, refl, sym, ap, _∙_}
 use mathlib.Core.Option.{Option, none, some}
 use mathlib.Core.List.{List, [], _∷_}
 use Rattle.scanner.specs.declared.Class.{Class}
-use Rattle.scanner.specs.declared.Class.the-variants.{Atom, Quoted, At, LessThan, GreaterThan, Comma, Semicolon, Colon, Stray}
+use Rattle.scanner.specs.declared.Class.the-variants.{Atom, Quoted, At, LessThan, GreaterThan, Comma, Semicolon, Colon, Stray, Dot, Literal}
 use Rattle.grammar.specs.Grammar.{levels}
 use Rattle.grammar.specs.Language.{GoesOn, FirstRefused, unfit, unfinished, tooDeep, Verdict, accepted, refused, Right}
-use Rattle.grammar.specs.Rfc733.{Derivation, DerivedList, RightWithin}
+use Rattle.grammar.specs.Rfc733.{list, rfc733, Derivation, DerivedList, RightWithin}
+use Rattle.grammar.proofs.AnyReader.{Reads}
 use Rattle.grammar.proofs.OnlyRight.{only-right}
 use Rattle.grammar.proofs.AnyMachine as any-machine
 use Rattle.grammar.proofs.AnyMachine.{Step, go, stop, Result, after, atEnd, not-too-deep}
@@ -102,6 +103,10 @@ answer-accepts limit {k} {xs} d v = sym (answer-only limit xs (accepted k) (d, v
 pub answer-derives : (limit : ℕ) {k : Derivation} {xs : List Sym} → answer limit xs ≡ accepted k → DerivedList k xs × (levels k ≤ limit)
 answer-derives limit {k} {xs} e = rw e at (answer-right limit xs)
 
+-- what is proved of this edition
+pub reads : Reads rfc733 list 0 answer
+reads = record { right = λ limit h xs. answer-right limit xs; one = λ k k′ xs d e. one-derivation d e }
+
 -- ---- the place of 10
 
 -- these symbols begin with "<" or ":"
@@ -137,6 +142,8 @@ deep-step n s Comma t xs e = absurd (not-too-deep n (onComma (complete s) t) (ma
 deep-step n s Semicolon t xs e = absurd (not-too-deep n (onSemicolon (complete s) t) (machine .steady n s (of Semicolon t)) e)
 deep-step n s Colon t xs e = colon t xs
 deep-step n s Stray t xs e = absurd (not-too-deep n (stop unfit) (machine .steady n s (of Stray t)) e)
+deep-step n s Dot t xs e = absurd (not-too-deep n (stop unfit) (machine .steady n s (of Dot t)) e)
+deep-step n s Literal t xs e = absurd (not-too-deep n (stop unfit) (machine .steady n s (of Literal t)) e)
 
 deep-run : (n : ℕ) (s : State) (xs : List Sym) → DeepAt (judge (run n s xs))
 deep-run n s [] = deep-end (finish s)

@@ -15,3 +15,11 @@ pub mod TreeRecords
 pub mod RecordLaws
 pub mod Order
 pub mod Examples
+pub mod Pieces
+pub mod Arrows
+pub mod Trees822
+pub mod Ranks
+pub mod Machine822
+pub mod Complete822
+pub mod AnyReader
+pub mod Condition822

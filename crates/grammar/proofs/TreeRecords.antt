@@ -96,14 +96,14 @@ addressRecords a depth parent i = addressRecord a depth parent ∷ insideRecords
 
 -- ---- the symbols of a tree: the first and the last of them
 
-yield-append : {C N : Type 0} (row : Row C N) (xs : List _) → yieldThen row xs ≡ yield row ++ xs
+pub yield-append : {C N : Type 0} (row : Row C N) (xs : List _) → yieldThen row xs ≡ yield row ++ xs
 yield-append nil xs = refl
 yield-append (leaf x row) xs = ap (λ l. x ∷ l) (yield-append row xs)
 yield-append (branch rule parts row) xs =
     yield-append parts (yieldThen row xs) ∙ ap (λ l. yield parts ++ l) (yield-append row xs) ∙ sym (append-assoc (yield parts) (yield row) xs)
     ∙ ap (λ l. l ++ xs) (sym (yield-append parts (yield row)))
 
-last-append : (q : ℕ) (zs : List Sym) (x : Sym) (xs : List Sym) → lastEnd q (zs ++ (x ∷ xs)) ≡ lastEnd (x .lexeme .end) xs
+pub last-append : (q : ℕ) (zs : List Sym) (x : Sym) (xs : List Sym) → lastEnd q (zs ++ (x ∷ xs)) ≡ lastEnd (x .lexeme .end) xs
 last-append q [] x xs = refl
 last-append q (z ∷ zs) x xs = last-append (z .lexeme .end) zs x xs
 

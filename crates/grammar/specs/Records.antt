@@ -27,6 +27,16 @@ recordBy kind depth parent start end nameStart nameEnd =
 abbrev pub noRecord : AddressRecord
 noRecord = recordBy 0 0 0 0 0 0 0
 
+-- .. with another end
+abbrev pub withEnd : AddressRecord → ℕ → AddressRecord
+withEnd r e = recordBy (r .kind) (r .depth) (r .parent) (r .start) e (r .nameStart) (r .nameEnd)
+
+-- records, one of which, by its number, gets another end
+abbrev pub setEnd : ℕ → ℕ → List AddressRecord → List AddressRecord
+setEnd i e [] = []
+setEnd zero e (r ∷ rs) = withEnd r e ∷ rs
+setEnd (suc i) e (r ∷ rs) = r ∷ setEnd i e rs
+
 -- ---- of symbols
 
 -- the end of the last of these symbols; where there is none, this position
@@ -103,6 +113,10 @@ recordBytes r =
     ++ bytesOf numberWidth (r .end)
     ++ bytesOf numberWidth (r .nameStart)
     ++ bytesOf numberWidth (r .nameEnd))
+
+-- where the end stands in them
+abbrev pub endOffset : ℕ
+endOffset = 6
 
 -- the bytes of a table of records
 abbrev pub tableBytes : List AddressRecord → List ℕ

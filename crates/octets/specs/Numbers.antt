@@ -103,3 +103,11 @@ leadsNowhere = 19
 -- 20: opening number 65
 abbrev pub tooManyOpenings : ℕ
 tooManyOpenings = 20
+
+-- 21: an edition other than 733 and 822
+abbrev pub editionUnknown : ℕ
+editionUnknown = 21
+
+-- 23: domain literal not closed, or with a bare "[" in it
+abbrev pub literalNotClosed : ℕ
+literalNotClosed = 23

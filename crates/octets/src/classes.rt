@@ -35,6 +35,12 @@ pub const OTHER: u8 = 14;
 
 pub const ABOVE_127: u8 = 15;
 
+pub const DOT: u8 = 16;
+
+pub const OPEN_BRACKET: u8 = 17;
+
+pub const CLOSE_BRACKET: u8 = 18;
+
 // A function that looks bytes up in a loop takes this table by reference.
 pub const CLASSES: [u8; 256] = [
     1,

@@ -50,3 +50,7 @@ pub const DATE_IMPOSSIBLE: u8 = 14;
 pub const LEADS_NOWHERE: u8 = 19;
 
 pub const TOO_MANY_OPENINGS: u8 = 20;
+
+pub const EDITION_UNKNOWN: u8 = 21;
+
+pub const LITERAL_NOT_CLOSED: u8 = 23;

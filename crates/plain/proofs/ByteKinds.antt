@@ -5,18 +5,18 @@ use native.Mathlib.Omega.{arith}
 use mathlib.Core.Path.{_≡_}
 use mathlib.Core.Bool.{Bool, true, false}
 use mathlib.Core.List.{List, [], _∷_}
-use borrow.Author.Tests.{ne-eqb}
-use lib.Dec.{eqb, T}
+use borrow.Author.Tests.{ne-eqb, ltb-true}
+use lib.Dec.{ltb, eqb, T}
 use lib.ListN.{getD, List·getD-eq-default}
 use mir.Val.{hasKey}
 use Rattle.octets.specs.Choice.{pick, either}
-use Rattle.octets.specs.Classes.{classOf, classTable, white, control, letter, openParenthesis, closeParenthesis, lessThan, greaterThan, atSign, comma, semicolon, colon, backslash, quote, above127}
-use Rattle.octets.proofs.Tables.{every, at}
+use Rattle.octets.specs.Classes.{classOf, classTable, white, control, letter, openParenthesis, closeParenthesis, lessThan, greaterThan, atSign, comma, semicolon, colon, backslash, quote, above127, dot, openBracket, closeBracket}
+use Rattle.octets.proofs.Tables.{is-true, every, at}
 use Rattle.scanner.specs.Kinds.{kindOfClass, kindOf}
 use Rattle.scanner.proofs.MoveLaws.{tag}
 use Rattle.plain.specs.PlainText.{needsBackslash}
 
--- ---- kinds by cases
+-- ---- the kinds of RFC 733 by cases
 
 pub data KindView : _ → Type 0 where
   isWhite : KindView (kindOfClass white)
@@ -39,26 +39,35 @@ or-else : (test : Bool) {a b : _} → KindView a → KindView b → KindView (pi
 or-else true x y = x
 or-else false x y = y
 
-class-view : (c : ℕ) → KindView (kindOfClass c)
-class-view c =
+class-view : (c : ℕ) → c < dot → KindView (kindOfClass c)
+class-view c h =
     or-else (eqb c white) isWhite (or-else (eqb c control) isControl (or-else (eqb c openParenthesis) isOpen (or-else (eqb c closeParenthesis) isClose
     (or-else (eqb c lessThan) isLess (or-else (eqb c greaterThan) isGreater (or-else (eqb c atSign) isAt (or-else (eqb c comma) isComma
     (or-else (eqb c semicolon) isSemicolon (or-else (eqb c colon) isColon (or-else (eqb c backslash) isBackslash (or-else (eqb c quote) isQuote
-    (or-else (eqb c above127) isAbove isPlain))))))))))))
+    (or-else (eqb c above127) isAbove (rw (ne-eqb c dot (λ e. omega arith), ne-eqb c openBracket (λ e. omega arith), ne-eqb c closeBracket (λ e. omega arith)) isPlain)))))))))))))
+
+-- RFC 733 has no class for a dot or a square bracket
+no-dot : (b : ℕ) → getD classTable b 0 < dot
+unfolding classTable classOf
+no-dot b =
+    elim (decLt b 256) [
+      | yes h ↦ ltb-true (getD classTable b 0) dot (is-true (ltb (getD classTable b 0) dot) (at (λ b class. ltb class dot) classTable 0 tt b (omega arith)))
+      | no h ↦ rw (List·getD-eq-default classTable 0 {n = b} (omega arith)) (omega arith)
+    ]
 
 -- the kind of any byte
 pub byte-view : (b : ℕ) → KindView (kindOf classTable b)
 unfolding kindOf
-byte-view b = or-else (eqb b 13) isReturn (class-view (getD classTable b 0))
+byte-view b = or-else (eqb b 13) isReturn (class-view (getD classTable b 0) (no-dot b))
 
 -- ---- data
 
 -- the kinds of `Data` and `Taken`
 abbrev pub dataKeys : List ℕ
-dataKeys = 0 ∷ 1 ∷ 3 ∷ 4 ∷ 5 ∷ 8 ∷ []
+dataKeys = 0 ∷ 1 ∷ 3 ∷ 4 ∷ 5 ∷ 8 ∷ 10 ∷ 11 ∷ []
 
 abbrev pub takenKeys : List ℕ
-takenKeys = 0 ∷ 1 ∷ 2 ∷ 3 ∷ 4 ∷ 5 ∷ 6 ∷ 7 ∷ 8 ∷ []
+takenKeys = 0 ∷ 1 ∷ 2 ∷ 3 ∷ 4 ∷ 5 ∷ 6 ∷ 7 ∷ 8 ∷ 10 ∷ 11 ∷ []
 
 -- a byte of this kind is data as the plain text writes it: as it is, or behind a backslash
 abbrev pub fits : ℕ → ℕ → Bool

@@ -8,7 +8,7 @@ use borrow.Author.Tests.{eqb-true, lt-ltb, le-ltb}
 use lib.Dec.{eqb, ltb}
 use lib.ListN.{length, getD}
 use Rattle.octets.specs.Choice.{pick}
-use Rattle.octets.specs.Classes.{white, control, openParenthesis, closeParenthesis, lessThan, greaterThan, atSign, comma, semicolon, colon, backslash, quote, above127}
+use Rattle.octets.specs.Classes.{white, control, openParenthesis, closeParenthesis, lessThan, greaterThan, atSign, comma, semicolon, colon, backslash, quote, above127, dot, openBracket, closeBracket}
 use Rattle.scanner.specs.Kinds.{kindOfClass, kindOf}
 use Rattle.scanner.specs.Characters.{Character, character, foldAt, charactersAt}
 use Rattle.scanner.proofs.CharacterLaws.{no-character, plain-at, fold-at, fold-within}
@@ -48,7 +48,8 @@ module _ (classes : List ℕ) (b : ℕ) (rest : List Character) where
       rw (e, f)
       (or-else (eqb c white) w (or-else (eqb c control) record { is = refl } (or-else (eqb c openParenthesis) record { is = refl } (or-else (eqb c closeParenthesis) record { is = refl }
       (or-else (eqb c lessThan) record { is = refl } (or-else (eqb c greaterThan) record { is = refl } (or-else (eqb c atSign) record { is = refl } (or-else (eqb c comma) record { is = refl }
-      (or-else (eqb c semicolon) record { is = refl } (or-else (eqb c colon) record { is = refl } (or-else (eqb c above127) record { is = refl } record { is = refl })))))))))))
+      (or-else (eqb c semicolon) record { is = refl } (or-else (eqb c colon) record { is = refl } (or-else (eqb c above127) record { is = refl } (or-else (eqb c dot) record { is = refl }
+      (or-else (eqb c openBracket) record { is = refl } (or-else (eqb c closeBracket) record { is = refl } record { is = refl }))))))))))))))
 
   by-class : (c : ℕ) (x y : Bool) → eqb c quote ≡ x → eqb c backslash ≡ y
       → datum inside (kindOfClass c) b (dataFrom classes (walked inside (kindOfClass c)) rest) ≡ byRole classes (pick x Closes (pick y Takes Datum)) b rest

@@ -19,10 +19,10 @@ use Rattle.octets.proofs.ChoiceLaws.{both-parts, either-parts}
 use Rattle.scanner.specs.Kinds.{kindOfClass, kindOf, characterKind}
 use Rattle.scanner.specs.Characters.{Character, character, foldAt, InFold, lineFeed, charactersFrom, charactersAt}
 use Rattle.scanner.specs.Characters as characters
-use Rattle.scanner.specs.Scanning.{Scanned, next, faultAt, State, outside, inAtom, inQuoted, takingInQuoted, inComment, takingInComment, Move, go, halt, atomClass, moveOutside, endingWith, moveInAtom, moveInQuoted, closed, moveInComment, take, move, atEnd, followedBy, then, scanFrom, scan, symbolsOf}
+use Rattle.scanner.specs.Scanning.{Scanned, next, faultAt, State, outside, inAtom, inQuoted, takingInQuoted, inLiteral, takingInLiteral, inComment, takingInComment, Move, go, halt, atomClass, moveOutside, endingWith, moveInAtom, moveInQuoted, closed, moveInComment, take, move, atEnd, followedBy, then, scanFrom, scan, symbolsOf}
 use Rattle.scanner.specs.Scanning as scanning
 use Rattle.scanner.proofs.MoveLaws.{tag}
-use Rattle.grammar.proofs.Trees.{Class, Atom, Quoted, At, LessThan, GreaterThan, Comma, Semicolon, Colon, Stray, Sym, of, atomWord, quotedWord, Phrase, one, more, Nodes, first, Place, comma, AddressList, idle, full, wordSymbol, phraseThen, nameThen, nodesThen, placeThen, listThen, addressThen}
+use Rattle.grammar.proofs.Trees.{Class, Atom, Quoted, At, LessThan, GreaterThan, Comma, Semicolon, Colon, Stray, Dot, Literal, Sym, of, atomWord, quotedWord, Phrase, one, more, Nodes, first, Place, comma, AddressList, idle, full, wordSymbol, phraseThen, nameThen, nodesThen, placeThen, listThen, addressThen}
 use Rattle.grammar.proofs.Trees as trees
 use Rattle.grammar.specs.Rfc733.{kindNumber}
 use Rattle.grammar.specs.Rfc733 as rfc733
@@ -43,6 +43,8 @@ WritableText Comma bs = Unit {0}
 WritableText Semicolon bs = Unit {0}
 WritableText Colon bs = Unit {0}
 WritableText Stray bs = Unit {0}
+WritableText Dot bs = Unit {0}
+WritableText Literal bs = Unit {0}
 
 abbrev pub WritableSymbols : List Sym → Type 0
 WritableSymbols [] = Unit {0}
@@ -96,12 +98,14 @@ abbrev Begun : List ℕ → Type 0
 Begun [] = ⊥
 Begun (b ∷ bs) = IsPlain b × Each IsPlain bs
 
--- words that are being read
+-- words that are being read; RFC 733 has no literal
 abbrev GoodState : State → Type 0
 GoodState outside = Unit {0}
 GoodState (inAtom s e t) = Begun t
 GoodState (inQuoted s t) = Each IsDatum t
 GoodState (takingInQuoted s t) = Each IsDatum t
+GoodState (inLiteral s) = ⊥
+GoodState (takingInLiteral s) = ⊥
 GoodState (inComment d s) = Unit {0}
 GoodState (takingInComment d s) = Unit {0}
 
@@ -233,6 +237,8 @@ good-move (inAtom s e t) {k} b p w h =
     good-in-atom (w .view) s e t b p (w .plain) h (good-ending (scanning.atom s e t) (moveOutside k b p) (good-atom t h) (good-outside (w .view) b p (w .plain)))
 good-move (inQuoted s t) b p w h = good-in-quoted (w .view) s t b p (w .data-is) h
 good-move (takingInQuoted s t) b p w h = good-taken (w .view) (inQuoted s (t ++ (b ∷ []))) p (λ z. each-and IsDatum t b h (w .data-is z))
+good-move (inLiteral s) b p w h = absurd h
+good-move (takingInLiteral s) b p w h = absurd h
 good-move (inComment d s) b p w h = good-in-comment (w .view) d s p
 good-move (takingInComment d s) b p w h = good-taken (w .view) (inComment d s) p (λ z. tt)
 
@@ -252,6 +258,8 @@ good-end outside h = tt
 good-end (inAtom s e t) h = (good-atom t h, tt)
 good-end (inQuoted s t) h = tt
 good-end (takingInQuoted s t) h = tt
+good-end (inLiteral s) h = absurd h
+good-end (takingInLiteral s) h = absurd h
 good-end (inComment d s) h = tt
 good-end (takingInComment d s) h = tt
 

@@ -9,14 +9,14 @@ use lib.Seq.{sets}
 use types.Run.{OneOf, miss}
 use denote.Enum.Declared.{tagOf}
 use Rattle.octets.specs.Writing.{Wrote}
-use Rattle.octets.proofs.Writes.{wrote-both}
+use Rattle.octets.proofs.Writes.{wrote-nothing, wrote-both}
 use Rattle.scanner.proofs.Class.{the-type as class-type}
 use Rattle.scanner.proofs.Next.{the-type as next-type}
 use Rattle.grammar.specs.Rfc733.{sameClass}
 use Rattle.scanner.specs.Scanning.{Scanned, ended, next, faultAt, symbolsOf, scanBy}
 use Rattle.scanner.specs.Answers.{nextOf}
 use Rattle.scanner.specs.declared.Class.{Class}
-use Rattle.scanner.specs.declared.Class.the-variants.{Atom, Quoted, At, LessThan, GreaterThan, Comma, Semicolon, Colon, Stray}
+use Rattle.scanner.specs.declared.Class.the-variants.{Atom, Quoted, At, LessThan, GreaterThan, Comma, Semicolon, Colon, Stray, Dot, Literal}
 use Rattle.scanner.specs.declared.Next.{Next}
 use Rattle.scanner.specs.declared.Next.the-variants.{Found, Ended, Fault}
 use Rattle.scanner.proofs.Meanings.{meaningAt}
@@ -36,7 +36,7 @@ colon-of (next x rest) = refl
 colon-of (faultAt number p) = refl
 
 -- a class that is not ":"
-pub not-colon : (class : Class) → OneOf (0 ∷ 1 ∷ 2 ∷ 3 ∷ 4 ∷ 5 ∷ 6 ∷ 8 ∷ []) (tagOf class-type class) → false ≡ sameClass Colon class
+pub not-colon : (class : Class) → OneOf (0 ∷ 1 ∷ 2 ∷ 3 ∷ 4 ∷ 5 ∷ 6 ∷ 8 ∷ 9 ∷ 10 ∷ []) (tagOf class-type class) → false ≡ sameClass Colon class
 not-colon Atom o = refl
 not-colon Quoted o = refl
 not-colon At o = refl
@@ -44,8 +44,25 @@ not-colon LessThan o = refl
 not-colon GreaterThan o = refl
 not-colon Comma o = refl
 not-colon Semicolon o = refl
-not-colon Colon o = absurd (miss (0 ∷ 1 ∷ 2 ∷ 3 ∷ 4 ∷ 5 ∷ 6 ∷ 8 ∷ []) 7 tt o)
+not-colon Colon o = absurd (miss (0 ∷ 1 ∷ 2 ∷ 3 ∷ 4 ∷ 5 ∷ 6 ∷ 8 ∷ 9 ∷ 10 ∷ []) 7 tt o)
 not-colon Stray o = refl
+not-colon Dot o = refl
+not-colon Literal o = refl
+
+-- what fits no rule is not written, and the place stays
+pub unwritten : (class : Class) → OneOf (8 ∷ 9 ∷ 10 ∷ []) (tagOf class-type class) → (meaning : List ℕ) (place : Place) (colon : Bool) (out : List ℕ) (n : ℕ)
+    → Wrote (symbolText class meaning place colon) out n out n × (place ≡ after class place colon)
+unwritten Atom o meaning place colon out n = absurd (miss (8 ∷ 9 ∷ 10 ∷ []) 0 tt o)
+unwritten Quoted o meaning place colon out n = absurd (miss (8 ∷ 9 ∷ 10 ∷ []) 1 tt o)
+unwritten At o meaning place colon out n = absurd (miss (8 ∷ 9 ∷ 10 ∷ []) 2 tt o)
+unwritten LessThan o meaning place colon out n = absurd (miss (8 ∷ 9 ∷ 10 ∷ []) 3 tt o)
+unwritten GreaterThan o meaning place colon out n = absurd (miss (8 ∷ 9 ∷ 10 ∷ []) 4 tt o)
+unwritten Comma o meaning place colon out n = absurd (miss (8 ∷ 9 ∷ 10 ∷ []) 5 tt o)
+unwritten Semicolon o meaning place colon out n = absurd (miss (8 ∷ 9 ∷ 10 ∷ []) 6 tt o)
+unwritten Colon o meaning place colon out n = absurd (miss (8 ∷ 9 ∷ 10 ∷ []) 7 tt o)
+unwritten Stray o meaning place colon out n = (wrote-nothing _ _, refl)
+unwritten Dot o meaning place colon out n = (wrote-nothing _ _, refl)
+unwritten Literal o meaning place colon out n = (wrote-nothing _ _, refl)
 
 -- no symbol comes
 abbrev pub NoneComes : Next → Type 0

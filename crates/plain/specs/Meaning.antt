@@ -7,7 +7,7 @@ use lib.Dec.{eqb}
 use Rattle.octets.specs.Choice.{pick}
 use Rattle.scanner.specs.Symbols.{Symbol}
 use Rattle.scanner.specs.declared.Class.{Class}
-use Rattle.scanner.specs.declared.Class.the-variants.{Atom, Quoted, At, LessThan, GreaterThan, Comma, Semicolon, Colon, Stray}
+use Rattle.scanner.specs.declared.Class.the-variants.{Atom, Quoted, At, LessThan, GreaterThan, Comma, Semicolon, Colon, Stray, Dot, Literal}
 use Rattle.grammar.specs.Grammar.{Makes, nil, leaf, branch}
 use Rattle.grammar.specs.Records.{meaningOf, partOf, nameOf}
 use Rattle.grammar.specs.Rfc733.{Derivation, kindNumber, mailbox}
@@ -44,6 +44,8 @@ andSymbol before Comma meaning = before
 andSymbol before Semicolon meaning = before
 andSymbol before Colon meaning = before
 andSymbol before Stray meaning = before
+andSymbol before Dot meaning = before
+andSymbol before Literal meaning = before
 
 -- words, and then those among symbols
 abbrev pub wordsAfter : Words → List (Symbol Class) → Words

@@ -7,7 +7,7 @@ use Rattle.octets.specs.Text.{bytes}
 use Rattle.scanner.specs.Symbols.{Symbol}
 use Rattle.scanner.specs.Scanning.{symbolsOf, scanBy}
 use Rattle.scanner.specs.declared.Class.{Class}
-use Rattle.scanner.specs.declared.Class.the-variants.{Atom, Quoted, At, LessThan, GreaterThan, Comma, Semicolon, Colon, Stray}
+use Rattle.scanner.specs.declared.Class.the-variants.{Atom, Quoted, At, LessThan, GreaterThan, Comma, Semicolon, Colon, Stray, Dot, Literal}
 use Rattle.grammar.specs.Rfc733.{sameClass}
 use Rattle.plain.specs.PlainText.{quotedText}
 use Rattle.plain.specs.declared.places.Place.{Place}
@@ -77,7 +77,7 @@ afterComma Node = Parted
 afterComma Closed = Parted
 afterComma Parted = Parted
 
--- a symbol with what stands before it
+-- a symbol with what stands before it; RFC 733 has no dot and no domain literal
 abbrev pub symbolText : Class → List ℕ → Place → Bool → List ℕ → List ℕ
 symbolText Atom meaning place colon rest = gapText (gapBefore place colon) (meaning ++ rest)
 symbolText Quoted meaning place colon rest = gapText (gapBefore place false) (quotedText meaning rest)
@@ -88,6 +88,8 @@ symbolText Comma meaning place colon rest = rest
 symbolText Semicolon meaning place colon rest = bytes ";" ++ rest
 symbolText Colon meaning place colon rest = gapText (gapBeforeColon place) (bytes ":" ++ rest)
 symbolText Stray meaning place colon rest = rest
+symbolText Dot meaning place colon rest = rest
+symbolText Literal meaning place colon rest = rest
 
 -- the place behind a symbol
 abbrev pub after : Class → Place → Bool → Place
@@ -100,6 +102,8 @@ after Comma place colon = afterComma place
 after Semicolon place colon = Closed
 after Colon place colon = afterColon place
 after Stray place colon = place
+after Dot place colon = place
+after Literal place colon = place
 
 -- ":" comes next
 abbrev pub colonNext : List (Symbol Class) → Bool

@@ -230,7 +230,7 @@ fn put_symbol(
             let m = put_gap(out, n, places::gap_before_colon(place));
             put(out, m, b':')
         }
-        Class::Stray => n,
+        Class::Stray | Class::Dot | Class::Literal => n,
     }
 }
 

@@ -144,6 +144,6 @@ pub fn after(class: Class, place: Place, colon: bool) -> Place
         Class::Comma => after_comma(place),
         Class::Semicolon => Place::Closed,
         Class::Colon => after_colon(place),
-        Class::Stray => place,
+        Class::Stray | Class::Dot | Class::Literal => place,
     }
 }

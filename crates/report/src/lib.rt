@@ -1,4 +1,6 @@
-// What the programs that run vectors print.
+// What the programs that run vectors print, and how they read them.
+pub mod vectors;
+
 use octets::answers::Answer;
 use octets::answers::count;
 use octets::answers::number;
@@ -7,6 +9,9 @@ use octets::numbers::ADDRESS_RECORD_SIZE;
 use octets::numbers::MESSAGE_LIMIT;
 use octets::stored::load_byte;
 use octets::stored::load_two;
+
+// What stands in a room when a program lends it.
+pub const UNTOUCHED: u8 = 170;
 
 // A text on standard output.
 pub fn text(part: &[u8]) {
@@ -66,6 +71,30 @@ pub fn records(table: &[u8], from: usize, to: usize) {
     let mut i = from;
     while i < to {
         record(table, i);
+        i += 1;
+    }
+}
+
+// Each address record that an answer says is written, or of more than ten the first two and the last two.
+pub fn written(table: &[u8], given: Answer) {
+    if let Answer::Accepted(many) = given {
+        if many <= 10 {
+            records(table, 0, many);
+            return;
+        }
+        records(table, 0, 2);
+        records(table, many - 2, many);
+    }
+}
+
+// A note, if a room is not as it was lent from a place on.
+pub fn unless_kept(room: &[u8], from: usize, note: &[u8]) {
+    let mut i = from;
+    while i < room.len() {
+        if room[i] != UNTOUCHED {
+            text(note);
+            return;
+        }
         i += 1;
     }
 }

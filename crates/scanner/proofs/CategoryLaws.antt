@@ -23,9 +23,9 @@ use Rattle.scanner.specs.declared.Gap.{Gap}
 use Rattle.scanner.specs.declared.Gap.the-variants.{Outside, Comment, Taking}
 use Rattle.scanner.specs.declared.Passed.the-variants.{To, Over}
 use Rattle.scanner.specs.declared.Class.{Class}
-use Rattle.scanner.specs.declared.Class.the-variants.{Atom, Quoted, At, LessThan, GreaterThan, Comma, Semicolon, Colon, Stray}
+use Rattle.scanner.specs.declared.Class.the-variants.{Atom, Quoted, At, LessThan, GreaterThan, Comma, Semicolon, Colon, Stray, Dot, Literal}
 use Rattle.scanner.specs.declared.Kind.{Kind}
-use Rattle.scanner.specs.declared.Kind.the-variants.{White, Control, Return, Plain, Open, Close, Quote, Backslash, Mark, Above}
+use Rattle.scanner.specs.declared.Kind.the-variants.{White, Control, Return, Plain, Open, Close, Quote, Backslash, Mark, Above, OpenBracket, CloseBracket}
 use Rattle.scanner.specs.declared.Category.{Category}
 use Rattle.scanner.specs.declared.Category.the-variants as category
 use Rattle.scanner.proofs.Class.{the-type}
@@ -47,17 +47,21 @@ word-symbol Comma t o = absurd (miss (0 ∷ 1 ∷ []) 5 tt o)
 word-symbol Semicolon t o = absurd (miss (0 ∷ 1 ∷ []) 6 tt o)
 word-symbol Colon t o = absurd (miss (0 ∷ 1 ∷ []) 7 tt o)
 word-symbol Stray t o = absurd (miss (0 ∷ 1 ∷ []) 8 tt o)
+word-symbol Dot t o = absurd (miss (0 ∷ 1 ∷ []) 9 tt o)
+word-symbol Literal t o = absurd (miss (0 ∷ 1 ∷ []) 10 tt o)
 
-pub mark-symbol : (class : Class) (t : List ℕ) → OneOf (3 ∷ 4 ∷ 5 ∷ 6 ∷ 7 ∷ []) (tagOf the-type class) → category.Mark ≡ ofSymbol class t
-mark-symbol Atom t o = absurd (miss (3 ∷ 4 ∷ 5 ∷ 6 ∷ 7 ∷ []) 0 tt o)
-mark-symbol Quoted t o = absurd (miss (3 ∷ 4 ∷ 5 ∷ 6 ∷ 7 ∷ []) 1 tt o)
-mark-symbol At t o = absurd (miss (3 ∷ 4 ∷ 5 ∷ 6 ∷ 7 ∷ []) 2 tt o)
+pub mark-symbol : (class : Class) (t : List ℕ) → OneOf (3 ∷ 4 ∷ 5 ∷ 6 ∷ 7 ∷ 9 ∷ 10 ∷ []) (tagOf the-type class) → category.Mark ≡ ofSymbol class t
+mark-symbol Atom t o = absurd (miss (3 ∷ 4 ∷ 5 ∷ 6 ∷ 7 ∷ 9 ∷ 10 ∷ []) 0 tt o)
+mark-symbol Quoted t o = absurd (miss (3 ∷ 4 ∷ 5 ∷ 6 ∷ 7 ∷ 9 ∷ 10 ∷ []) 1 tt o)
+mark-symbol At t o = absurd (miss (3 ∷ 4 ∷ 5 ∷ 6 ∷ 7 ∷ 9 ∷ 10 ∷ []) 2 tt o)
 mark-symbol LessThan t o = refl
 mark-symbol GreaterThan t o = refl
 mark-symbol Comma t o = refl
 mark-symbol Semicolon t o = refl
 mark-symbol Colon t o = refl
-mark-symbol Stray t o = absurd (miss (3 ∷ 4 ∷ 5 ∷ 6 ∷ 7 ∷ []) 8 tt o)
+mark-symbol Stray t o = absurd (miss (3 ∷ 4 ∷ 5 ∷ 6 ∷ 7 ∷ 9 ∷ 10 ∷ []) 8 tt o)
+mark-symbol Dot t o = refl
+mark-symbol Literal t o = refl
 
 -- the bytes of a symbol tell as much as its meaning
 by-place : (classes text : List ℕ) (class : Class) (start end : ℕ) → ofSymbol class (meaningAt classes text class start end) ≡ ofSymbol class (part text start end)
@@ -70,24 +74,28 @@ by-place classes text Comma start end = refl
 by-place classes text Semicolon start end = refl
 by-place classes text Colon start end = refl
 by-place classes text Stray start end = refl
+by-place classes text Dot start end = refl
+by-place classes text Literal start end = refl
 
 -- ---- between symbols
 
 -- a byte that begins a symbol or is a fault
 abbrev pub NoGap : Kind → Type 0
-NoGap kind = OneOf (1 ∷ 2 ∷ 3 ∷ 5 ∷ 6 ∷ 7 ∷ 8 ∷ 9 ∷ []) (tag kind)
+NoGap kind = OneOf (1 ∷ 2 ∷ 3 ∷ 5 ∷ 6 ∷ 7 ∷ 8 ∷ 9 ∷ 10 ∷ 11 ∷ []) (tag kind)
 
 leads-nowhere : (kind : Kind) (b p : ℕ) (rest : State → Category) → NoGap kind → (takenIn outside kind ≡ category.Nothing) × (behind (move outside kind b p) rest ≡ category.Nothing)
-leads-nowhere White b p rest o = absurd (miss (1 ∷ 2 ∷ 3 ∷ 5 ∷ 6 ∷ 7 ∷ 8 ∷ 9 ∷ []) 0 tt o)
+leads-nowhere White b p rest o = absurd (miss (1 ∷ 2 ∷ 3 ∷ 5 ∷ 6 ∷ 7 ∷ 8 ∷ 9 ∷ 10 ∷ 11 ∷ []) 0 tt o)
 leads-nowhere Control b p rest o = (refl, refl)
 leads-nowhere Return b p rest o = (refl, refl)
 leads-nowhere Plain b p rest o = (refl, refl)
-leads-nowhere Open b p rest o = absurd (miss (1 ∷ 2 ∷ 3 ∷ 5 ∷ 6 ∷ 7 ∷ 8 ∷ 9 ∷ []) 4 tt o)
+leads-nowhere Open b p rest o = absurd (miss (1 ∷ 2 ∷ 3 ∷ 5 ∷ 6 ∷ 7 ∷ 8 ∷ 9 ∷ 10 ∷ 11 ∷ []) 4 tt o)
 leads-nowhere Close b p rest o = (refl, refl)
 leads-nowhere Quote b p rest o = (refl, refl)
 leads-nowhere Backslash b p rest o = (refl, refl)
 leads-nowhere (Mark class) b p rest o = (refl, refl)
 leads-nowhere Above b p rest o = (refl, refl)
+leads-nowhere OpenBracket b p rest o = (refl, refl)
+leads-nowhere CloseBracket b p rest o = (refl, refl)
 
 -- ---- one character on
 
@@ -179,6 +187,8 @@ fault-passed depth Quote o start b p rest = absurd (miss (2 ∷ 9 ∷ []) 6 tt o
 fault-passed depth Backslash o start b p rest = absurd (miss (2 ∷ 9 ∷ []) 7 tt o)
 fault-passed depth (Mark class) o start b p rest = absurd (miss (2 ∷ 9 ∷ []) 8 tt o)
 fault-passed depth Above o start b p rest = refl
+fault-passed depth OpenBracket o start b p rest = absurd (miss (2 ∷ 9 ∷ []) 10 tt o)
+fault-passed depth CloseBracket o start b p rest = absurd (miss (2 ∷ 9 ∷ []) 11 tt o)
 
 -- what it is outside, where it is no white space and opens no comment
 pub none-told : (kind : Kind) → NoGap kind → GapCategoryIs Outside kind category.Nothing

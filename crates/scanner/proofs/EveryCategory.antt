@@ -20,11 +20,11 @@ use Rattle.scanner.specs.Steps.{FirstCharacter}
 use Rattle.scanner.specs.Categories.{ofSymbol, takenIn, behind, between, categoryOf, Told, InStray, here, further, ToldUnlessStray}
 use Rattle.scanner.specs.Gaps.{Faultless, stateOf}
 use Rattle.scanner.specs.declared.Class.{Class}
-use Rattle.scanner.specs.declared.Class.the-variants.{Atom, Quoted, At, LessThan, GreaterThan, Comma, Semicolon, Colon, Stray}
+use Rattle.scanner.specs.declared.Class.the-variants.{Atom, Quoted, At, LessThan, GreaterThan, Comma, Semicolon, Colon, Stray, Dot, Literal}
 use Rattle.scanner.specs.declared.Gap.{Gap}
 use Rattle.scanner.specs.declared.Gap.the-variants.{Outside, Comment, Taking}
 use Rattle.scanner.specs.declared.Kind.{Kind}
-use Rattle.scanner.specs.declared.Kind.the-variants.{White, Control, Return, Plain, Open, Close, Quote, Backslash, Mark, Above}
+use Rattle.scanner.specs.declared.Kind.the-variants.{White, Control, Return, Plain, Open, Close, Quote, Backslash, Mark, Above, OpenBracket, CloseBracket}
 use Rattle.scanner.specs.declared.Category.{Category}
 use Rattle.scanner.specs.declared.Category.the-variants as category
 use Rattle.scanner.proofs.CharacterLaws.{View, over, one, view, none-left}
@@ -49,6 +49,8 @@ symbol-told Comma t n = tt
 symbol-told Semicolon t n = tt
 symbol-told Colon t n = tt
 symbol-told Stray t n = n refl
+symbol-told Dot t n = tt
+symbol-told Literal t n = tt
 
 -- ---- between symbols
 
@@ -84,6 +86,8 @@ in-comment Quote depth start p = stays (Comment depth) start refl
 in-comment Backslash depth start p = stays (Taking depth) start refl
 in-comment (Mark class) depth start p = stays (Comment depth) start refl
 in-comment Above depth start p = halts _ p refl
+in-comment OpenBracket depth start p = stays (Comment depth) start refl
+in-comment CloseBracket depth start p = stays (Comment depth) start refl
 
 taking : (kind : Kind) (depth start p : ℕ) → Stays (scanning.take kind (inComment depth start) p)
 taking White depth start p = stays (Comment depth) start refl
@@ -96,6 +100,8 @@ taking Quote depth start p = stays (Comment depth) start refl
 taking Backslash depth start p = stays (Comment depth) start refl
 taking (Mark class) depth start p = stays (Comment depth) start refl
 taking Above depth start p = halts _ p refl
+taking OpenBracket depth start p = stays (Comment depth) start refl
+taking CloseBracket depth start p = stays (Comment depth) start refl
 
 module _ (classes text : List ℕ) (place : ℕ) where
   -- from a position on, in a state, none comes first

@@ -13,7 +13,7 @@ use Rattle.scanner.specs.Answers.{unlessFault, faultOf}
 use Rattle.scanner.specs.Steps.{FirstCharacter}
 use Rattle.scanner.specs.declared.Class.the-variants.{Stray}
 use Rattle.scanner.specs.declared.Kind.{Kind}
-use Rattle.scanner.specs.declared.Kind.the-variants.{White, Control, Return, Plain, Open, Close, Quote, Backslash, Mark, Above}
+use Rattle.scanner.specs.declared.Kind.the-variants.{White, Control, Return, Plain, Open, Close, Quote, Backslash, Mark, Above, OpenBracket, CloseBracket}
 use Rattle.scanner.proofs.Kind.{the-type}
 use Rattle.scanner.proofs.CharacterLaws.{return-kind, no-return, plain-first}
 use Rattle.scanner.proofs.MoveLaws.{moves}
@@ -35,6 +35,8 @@ by-kind classes rest h Quote start end t b p = refl
 by-kind classes rest h Backslash start end t b p = refl
 by-kind classes rest h (Mark class) start end t b p = refl
 by-kind classes rest h Above start end t b p = refl
+by-kind classes rest h OpenBracket start end t b p = refl
+by-kind classes rest h CloseBracket start end t b p = refl
 
 atom-faults : (classes : List ℕ) (rest : List Character) → AsOutside classes rest
 unfolding scanFrom unlessFault
@@ -55,6 +57,8 @@ module _ {classes text : List ℕ} {at p q : ℕ} where
   harmless Backslash x o = ap faultOf (moves x outside (go (single Stray (getD text p 0) p ∷ []) outside) refl)
   harmless (Mark class) x o = ap faultOf (moves x outside (go (single class (getD text p 0) p ∷ []) outside) refl)
   harmless Above x o = absurd (miss (0 ∷ 3 ∷ 5 ∷ 7 ∷ 8 ∷ []) 9 tt o)
+  harmless OpenBracket x o = absurd (miss (0 ∷ 3 ∷ 5 ∷ 7 ∷ 8 ∷ []) 10 tt o)
+  harmless CloseBracket x o = absurd (miss (0 ∷ 3 ∷ 5 ∷ 7 ∷ 8 ∷ []) 11 tt o)
 
 -- .. told by its kind alone
 pub harmless-byte : (classes text : List ℕ) (p : ℕ) (kind : Kind) → p < length text → kind ≡ kindOf classes (getD text p 0) → OneOf (0 ∷ 3 ∷ 5 ∷ 7 ∷ 8 ∷ []) (tagOf the-type kind)

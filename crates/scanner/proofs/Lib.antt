@@ -8,6 +8,7 @@ pub mod Spans
 pub mod BodyChecks
 pub mod Examples
 pub mod FaultLaws
+pub mod FaultNumbers
 pub mod CategoryLaws
 pub mod EveryCategory
 pub mod CategoryExamples

@@ -9,9 +9,9 @@ use Rattle.scanner.specs.Kinds.{characterKind}
 use Rattle.scanner.specs.Characters.{Character, character, charactersAt}
 use Rattle.scanner.specs.Steps.{FirstCharacter}
 use Rattle.scanner.specs.declared.Class.{Class}
-use Rattle.scanner.specs.declared.Class.the-variants.{Atom, Quoted, At, LessThan, GreaterThan, Comma, Semicolon, Colon, Stray}
+use Rattle.scanner.specs.declared.Class.the-variants.{Atom, Quoted, At, LessThan, GreaterThan, Comma, Semicolon, Colon, Stray, Dot, Literal}
 use Rattle.scanner.specs.declared.Kind.{Kind}
-use Rattle.scanner.specs.declared.Kind.the-variants.{White, Control, Return, Plain, Open, Close, Quote, Backslash, Mark, Above}
+use Rattle.scanner.specs.declared.Kind.the-variants.{White, Control, Return, Plain, Open, Close, Quote, Backslash, Mark, Above, OpenBracket, CloseBracket}
 use Rattle.scanner.proofs.MoveLaws.{Data}
 
 -- where a walk through a quoted-string stands: inside it, behind a backslash, or behind its closing quote
@@ -32,6 +32,8 @@ datum inside Quote b rest = []
 datum inside Backslash b rest = rest
 datum inside (Mark class) b rest = b ∷ rest
 datum inside Above b rest = b ∷ rest
+datum inside OpenBracket b rest = b ∷ rest
+datum inside CloseBracket b rest = b ∷ rest
 
 -- where the walk goes on
 abbrev pub walked : Walk → Kind → Walk
@@ -47,6 +49,8 @@ walked inside Quote = over
 walked inside Backslash = taking
 walked inside (Mark class) = inside
 walked inside Above = inside
+walked inside OpenBracket = inside
+walked inside CloseBracket = inside
 
 -- the data of a quoted-string from one of its characters on
 unfoldable pub dataFrom : List ℕ → Walk → List Character → List ℕ
@@ -69,20 +73,24 @@ meaningAt classes text Comma start end = part text start end
 meaningAt classes text Semicolon start end = part text start end
 meaningAt classes text Colon start end = part text start end
 meaningAt classes text Stray start end = part text start end
+meaningAt classes text Dot start end = part text start end
+meaningAt classes text Literal start end = []
 
 -- ---- one step of the walk
 
 data-is : (classes : List ℕ) (kind : Kind) (b : ℕ) (rest : List Character) → Data kind → datum inside kind b (dataFrom classes (walked inside kind) rest) ≡ b ∷ dataFrom classes inside rest
 data-is classes White b rest o = refl
 data-is classes Control b rest o = refl
-data-is classes Return b rest o = absurd (miss (0 ∷ 1 ∷ 3 ∷ 4 ∷ 5 ∷ 8 ∷ []) 2 tt o)
+data-is classes Return b rest o = absurd (miss (0 ∷ 1 ∷ 3 ∷ 4 ∷ 5 ∷ 8 ∷ 10 ∷ 11 ∷ []) 2 tt o)
 data-is classes Plain b rest o = refl
 data-is classes Open b rest o = refl
 data-is classes Close b rest o = refl
-data-is classes Quote b rest o = absurd (miss (0 ∷ 1 ∷ 3 ∷ 4 ∷ 5 ∷ 8 ∷ []) 6 tt o)
-data-is classes Backslash b rest o = absurd (miss (0 ∷ 1 ∷ 3 ∷ 4 ∷ 5 ∷ 8 ∷ []) 7 tt o)
+data-is classes Quote b rest o = absurd (miss (0 ∷ 1 ∷ 3 ∷ 4 ∷ 5 ∷ 8 ∷ 10 ∷ 11 ∷ []) 6 tt o)
+data-is classes Backslash b rest o = absurd (miss (0 ∷ 1 ∷ 3 ∷ 4 ∷ 5 ∷ 8 ∷ 10 ∷ 11 ∷ []) 7 tt o)
 data-is classes (Mark class) b rest o = refl
-data-is classes Above b rest o = absurd (miss (0 ∷ 1 ∷ 3 ∷ 4 ∷ 5 ∷ 8 ∷ []) 9 tt o)
+data-is classes Above b rest o = absurd (miss (0 ∷ 1 ∷ 3 ∷ 4 ∷ 5 ∷ 8 ∷ 10 ∷ 11 ∷ []) 9 tt o)
+data-is classes OpenBracket b rest o = refl
+data-is classes CloseBracket b rest o = refl
 
 module _ {classes text : List ℕ} {at p q : ℕ} where
   step : {kind : Kind} (walk : Walk) → FirstCharacter classes text at kind p q

@@ -13,13 +13,13 @@ use Rattle.octets.specs.Text.{part}
 use Rattle.octets.proofs.Parts.{part-none}
 use Rattle.scanner.specs.Symbols.{Symbol}
 use Rattle.scanner.specs.Characters.{Character, character, charactersAt}
-use Rattle.scanner.specs.Scanning.{Scanned, next, faultAt, State, outside, inAtom, inQuoted, takingInQuoted, inComment, takingInComment, Move, go, halt, symbol, atom, single, move, moveInAtom, closed, atEnd, then, scanFrom, scanBy}
+use Rattle.scanner.specs.Scanning.{Scanned, next, faultAt, State, outside, inAtom, inQuoted, takingInQuoted, inLiteral, takingInLiteral, inComment, takingInComment, Move, go, halt, symbol, atom, single, move, moveInAtom, closed, atEnd, then, scanFrom, scanBy}
 use Rattle.scanner.specs.Scanning as scanning
 use Rattle.scanner.specs.Steps.{FirstCharacter, AtomEnds}
 use Rattle.scanner.specs.declared.Class.{Class}
 use Rattle.scanner.specs.declared.Class.the-variants.{Stray}
 use Rattle.scanner.specs.declared.Kind.{Kind}
-use Rattle.scanner.specs.declared.Kind.the-variants.{White, Control, Return, Plain, Open, Close, Quote, Backslash, Mark, Above}
+use Rattle.scanner.specs.declared.Kind.the-variants.{White, Control, Return, Plain, Open, Close, Quote, Backslash, Mark, Above, OpenBracket, CloseBracket}
 use Rattle.scanner.proofs.Kind.{the-type}
 
 -- a kind's place in its declaration
@@ -41,32 +41,34 @@ moves x state m e = rw (x .characters, ← (x .kind-is), e)
 
 -- any but Plain
 abbrev pub NotPlain : Kind → Type 0
-NotPlain kind = OneOf (0 ∷ 1 ∷ 2 ∷ 4 ∷ 5 ∷ 6 ∷ 7 ∷ 8 ∷ 9 ∷ []) (tag kind)
+NotPlain kind = OneOf (0 ∷ 1 ∷ 2 ∷ 4 ∷ 5 ∷ 6 ∷ 7 ∷ 8 ∷ 9 ∷ 10 ∷ 11 ∷ []) (tag kind)
 
 -- data of a quoted-string as they are
 abbrev pub Data : Kind → Type 0
-Data kind = OneOf (0 ∷ 1 ∷ 3 ∷ 4 ∷ 5 ∷ 8 ∷ []) (tag kind)
+Data kind = OneOf (0 ∷ 1 ∷ 3 ∷ 4 ∷ 5 ∷ 8 ∷ 10 ∷ 11 ∷ []) (tag kind)
 
 -- text of a comment as it is
 abbrev pub Text : Kind → Type 0
-Text kind = OneOf (0 ∷ 1 ∷ 3 ∷ 6 ∷ 8 ∷ []) (tag kind)
+Text kind = OneOf (0 ∷ 1 ∷ 3 ∷ 6 ∷ 8 ∷ 10 ∷ 11 ∷ []) (tag kind)
 
 -- any but Above
 abbrev pub Taken : Kind → Type 0
-Taken kind = OneOf (0 ∷ 1 ∷ 2 ∷ 3 ∷ 4 ∷ 5 ∷ 6 ∷ 7 ∷ 8 ∷ []) (tag kind)
+Taken kind = OneOf (0 ∷ 1 ∷ 2 ∷ 3 ∷ 4 ∷ 5 ∷ 6 ∷ 7 ∷ 8 ∷ 10 ∷ 11 ∷ []) (tag kind)
 
 ends-atom : (classes : List ℕ) (kind : Kind) (b p start end : ℕ) (t : List ℕ) (rest : State → Scanned) → NotPlain kind
     → then (move (inAtom start end t) kind b p) rest ≡ next (atom start end t) (then (move outside kind b p) rest)
 ends-atom classes White b p start end t rest o = refl
 ends-atom classes Control b p start end t rest o = refl
 ends-atom classes Return b p start end t rest o = refl
-ends-atom classes Plain b p start end t rest o = absurd (miss (0 ∷ 1 ∷ 2 ∷ 4 ∷ 5 ∷ 6 ∷ 7 ∷ 8 ∷ 9 ∷ []) 3 tt o)
+ends-atom classes Plain b p start end t rest o = absurd (miss (0 ∷ 1 ∷ 2 ∷ 4 ∷ 5 ∷ 6 ∷ 7 ∷ 8 ∷ 9 ∷ 10 ∷ 11 ∷ []) 3 tt o)
 ends-atom classes Open b p start end t rest o = refl
 ends-atom classes Close b p start end t rest o = refl
 ends-atom classes Quote b p start end t rest o = refl
 ends-atom classes Backslash b p start end t rest o = refl
 ends-atom classes (Mark class) b p start end t rest o = refl
 ends-atom classes Above b p start end t rest o = refl
+ends-atom classes OpenBracket b p start end t rest o = refl
+ends-atom classes CloseBracket b p start end t rest o = refl
 
 -- an atom ends before any other byte, which then does what it does outside
 pub atom-ends : {classes text : List ℕ} {at p q : ℕ} {kind : Kind} (start : ℕ) (t : List ℕ) → FirstCharacter classes text at kind p q → NotPlain kind
@@ -78,14 +80,16 @@ atom-ends {classes} {text} {at} {p} {q} {kind} start t x o =
 pub quoted-data : (kind : Kind) (start : ℕ) (t : List ℕ) (b p : ℕ) → Data kind → move (inQuoted start t) kind b p ≡ go [] (inQuoted start (t ++ (b ∷ [])))
 quoted-data White start t b p o = refl
 quoted-data Control start t b p o = refl
-quoted-data Return start t b p o = absurd (miss (0 ∷ 1 ∷ 3 ∷ 4 ∷ 5 ∷ 8 ∷ []) 2 tt o)
+quoted-data Return start t b p o = absurd (miss (0 ∷ 1 ∷ 3 ∷ 4 ∷ 5 ∷ 8 ∷ 10 ∷ 11 ∷ []) 2 tt o)
 quoted-data Plain start t b p o = refl
 quoted-data Open start t b p o = refl
 quoted-data Close start t b p o = refl
-quoted-data Quote start t b p o = absurd (miss (0 ∷ 1 ∷ 3 ∷ 4 ∷ 5 ∷ 8 ∷ []) 6 tt o)
-quoted-data Backslash start t b p o = absurd (miss (0 ∷ 1 ∷ 3 ∷ 4 ∷ 5 ∷ 8 ∷ []) 7 tt o)
+quoted-data Quote start t b p o = absurd (miss (0 ∷ 1 ∷ 3 ∷ 4 ∷ 5 ∷ 8 ∷ 10 ∷ 11 ∷ []) 6 tt o)
+quoted-data Backslash start t b p o = absurd (miss (0 ∷ 1 ∷ 3 ∷ 4 ∷ 5 ∷ 8 ∷ 10 ∷ 11 ∷ []) 7 tt o)
 quoted-data (Mark class) start t b p o = refl
-quoted-data Above start t b p o = absurd (miss (0 ∷ 1 ∷ 3 ∷ 4 ∷ 5 ∷ 8 ∷ []) 9 tt o)
+quoted-data Above start t b p o = absurd (miss (0 ∷ 1 ∷ 3 ∷ 4 ∷ 5 ∷ 8 ∷ 10 ∷ 11 ∷ []) 9 tt o)
+quoted-data OpenBracket start t b p o = refl
+quoted-data CloseBracket start t b p o = refl
 
 pub taken : (kind : Kind) (state : State) (p : ℕ) → Taken kind → scanning.take kind state p ≡ go [] state
 taken White state p o = refl
@@ -97,32 +101,38 @@ taken Close state p o = refl
 taken Quote state p o = refl
 taken Backslash state p o = refl
 taken (Mark class) state p o = refl
-taken Above state p o = absurd (miss (0 ∷ 1 ∷ 2 ∷ 3 ∷ 4 ∷ 5 ∷ 6 ∷ 7 ∷ 8 ∷ []) 9 tt o)
+taken Above state p o = absurd (miss (0 ∷ 1 ∷ 2 ∷ 3 ∷ 4 ∷ 5 ∷ 6 ∷ 7 ∷ 8 ∷ 10 ∷ 11 ∷ []) 9 tt o)
+taken OpenBracket state p o = refl
+taken CloseBracket state p o = refl
 
 pub comment-text : (kind : Kind) (depth start b p : ℕ) → Text kind → move (inComment depth start) kind b p ≡ go [] (inComment depth start)
 comment-text White depth start b p o = refl
 comment-text Control depth start b p o = refl
-comment-text Return depth start b p o = absurd (miss (0 ∷ 1 ∷ 3 ∷ 6 ∷ 8 ∷ []) 2 tt o)
+comment-text Return depth start b p o = absurd (miss (0 ∷ 1 ∷ 3 ∷ 6 ∷ 8 ∷ 10 ∷ 11 ∷ []) 2 tt o)
 comment-text Plain depth start b p o = refl
-comment-text Open depth start b p o = absurd (miss (0 ∷ 1 ∷ 3 ∷ 6 ∷ 8 ∷ []) 4 tt o)
-comment-text Close depth start b p o = absurd (miss (0 ∷ 1 ∷ 3 ∷ 6 ∷ 8 ∷ []) 5 tt o)
+comment-text Open depth start b p o = absurd (miss (0 ∷ 1 ∷ 3 ∷ 6 ∷ 8 ∷ 10 ∷ 11 ∷ []) 4 tt o)
+comment-text Close depth start b p o = absurd (miss (0 ∷ 1 ∷ 3 ∷ 6 ∷ 8 ∷ 10 ∷ 11 ∷ []) 5 tt o)
 comment-text Quote depth start b p o = refl
-comment-text Backslash depth start b p o = absurd (miss (0 ∷ 1 ∷ 3 ∷ 6 ∷ 8 ∷ []) 7 tt o)
+comment-text Backslash depth start b p o = absurd (miss (0 ∷ 1 ∷ 3 ∷ 6 ∷ 8 ∷ 10 ∷ 11 ∷ []) 7 tt o)
 comment-text (Mark class) depth start b p o = refl
-comment-text Above depth start b p o = absurd (miss (0 ∷ 1 ∷ 3 ∷ 6 ∷ 8 ∷ []) 9 tt o)
+comment-text Above depth start b p o = absurd (miss (0 ∷ 1 ∷ 3 ∷ 6 ∷ 8 ∷ 10 ∷ 11 ∷ []) 9 tt o)
+comment-text OpenBracket depth start b p o = refl
+comment-text CloseBracket depth start b p o = refl
 
 -- a lone ")" or backslash
-stray : (kind : Kind) (b p : ℕ) → OneOf (5 ∷ 7 ∷ []) (tag kind) → move outside kind b p ≡ go (single Stray b p ∷ []) outside
-stray White b p o = absurd (miss (5 ∷ 7 ∷ []) 0 tt o)
-stray Control b p o = absurd (miss (5 ∷ 7 ∷ []) 1 tt o)
-stray Return b p o = absurd (miss (5 ∷ 7 ∷ []) 2 tt o)
-stray Plain b p o = absurd (miss (5 ∷ 7 ∷ []) 3 tt o)
-stray Open b p o = absurd (miss (5 ∷ 7 ∷ []) 4 tt o)
+stray : (kind : Kind) (b p : ℕ) → OneOf (5 ∷ 7 ∷ 11 ∷ []) (tag kind) → move outside kind b p ≡ go (single Stray b p ∷ []) outside
+stray White b p o = absurd (miss (5 ∷ 7 ∷ 11 ∷ []) 0 tt o)
+stray Control b p o = absurd (miss (5 ∷ 7 ∷ 11 ∷ []) 1 tt o)
+stray Return b p o = absurd (miss (5 ∷ 7 ∷ 11 ∷ []) 2 tt o)
+stray Plain b p o = absurd (miss (5 ∷ 7 ∷ 11 ∷ []) 3 tt o)
+stray Open b p o = absurd (miss (5 ∷ 7 ∷ 11 ∷ []) 4 tt o)
 stray Close b p o = refl
-stray Quote b p o = absurd (miss (5 ∷ 7 ∷ []) 6 tt o)
+stray Quote b p o = absurd (miss (5 ∷ 7 ∷ 11 ∷ []) 6 tt o)
 stray Backslash b p o = refl
-stray (Mark class) b p o = absurd (miss (5 ∷ 7 ∷ []) 8 tt o)
-stray Above b p o = absurd (miss (5 ∷ 7 ∷ []) 9 tt o)
+stray (Mark class) b p o = absurd (miss (5 ∷ 7 ∷ 11 ∷ []) 8 tt o)
+stray Above b p o = absurd (miss (5 ∷ 7 ∷ 11 ∷ []) 9 tt o)
+stray OpenBracket b p o = absurd (miss (5 ∷ 7 ∷ 11 ∷ []) 10 tt o)
+stray CloseBracket b p o = refl
 
 -- a control byte outside
 stray-control : (kind : Kind) (b p : ℕ) → OneOf (1 ∷ 2 ∷ []) (tag kind) → move outside kind b p ≡ halt [] strayControl p
@@ -136,6 +146,8 @@ stray-control Quote b p o = absurd (miss (1 ∷ 2 ∷ []) 6 tt o)
 stray-control Backslash b p o = absurd (miss (1 ∷ 2 ∷ []) 7 tt o)
 stray-control (Mark class) b p o = absurd (miss (1 ∷ 2 ∷ []) 8 tt o)
 stray-control Above b p o = absurd (miss (1 ∷ 2 ∷ []) 9 tt o)
+stray-control OpenBracket b p o = absurd (miss (1 ∷ 2 ∷ []) 10 tt o)
+stray-control CloseBracket b p o = absurd (miss (1 ∷ 2 ∷ []) 11 tt o)
 
 -- ---- an atom and its bytes
 
@@ -203,6 +215,46 @@ module _ {classes text : List ℕ} {start at p : ℕ} (w : Quoting classes text 
       let t : List ℕ = w .meaning ++ (getD text s 0 ∷ []) in
       record { meaning = t; same = quoted-taking x y (go [] (inQuoted start t)) (taken kind (inQuoted start t) s o) }
 
+-- ---- a domain literal
+
+-- text of a literal as it is
+abbrev pub LiteralText : Kind → Type 0
+LiteralText kind = OneOf (0 ∷ 1 ∷ 3 ∷ 4 ∷ 5 ∷ 6 ∷ 8 ∷ []) (tag kind)
+
+pub literal-text : (kind : Kind) (start b p : ℕ) → LiteralText kind → move (inLiteral start) kind b p ≡ go [] (inLiteral start)
+literal-text White start b p o = refl
+literal-text Control start b p o = refl
+literal-text Return start b p o = absurd (miss (0 ∷ 1 ∷ 3 ∷ 4 ∷ 5 ∷ 6 ∷ 8 ∷ []) 2 tt o)
+literal-text Plain start b p o = refl
+literal-text Open start b p o = refl
+literal-text Close start b p o = refl
+literal-text Quote start b p o = refl
+literal-text Backslash start b p o = absurd (miss (0 ∷ 1 ∷ 3 ∷ 4 ∷ 5 ∷ 6 ∷ 8 ∷ []) 7 tt o)
+literal-text (Mark class) start b p o = refl
+literal-text Above start b p o = absurd (miss (0 ∷ 1 ∷ 3 ∷ 4 ∷ 5 ∷ 6 ∷ 8 ∷ []) 9 tt o)
+literal-text OpenBracket start b p o = absurd (miss (0 ∷ 1 ∷ 3 ∷ 4 ∷ 5 ∷ 6 ∷ 8 ∷ []) 10 tt o)
+literal-text CloseBracket start b p o = absurd (miss (0 ∷ 1 ∷ 3 ∷ 4 ∷ 5 ∷ 6 ∷ 8 ∷ []) 11 tt o)
+
+-- from its "[" scanning has come to a position inside it
+pub record InLiteral (classes text : List ℕ) (start at p : ℕ) : Type 0 where
+  pub same : scanFrom classes (charactersAt text at) (inLiteral start) ≡ scanFrom classes (charactersAt text p) (inLiteral start)
+
+module _ {classes text : List ℕ} {start at p : ℕ} (w : InLiteral classes text start at p) where
+  pub literal-moves : {q r : ℕ} {kind : Kind} → FirstCharacter classes text p kind q r → (m : Move) → move (inLiteral start) kind (getD text q 0) q ≡ m
+      → scanFrom classes (charactersAt text at) (inLiteral start) ≡ then m (λ state. scanFrom classes (charactersAt text r) state)
+  literal-moves x m e = w .same ∙ moves x (inLiteral start) m e
+
+  pub literal-on : {q r : ℕ} {kind : Kind} → FirstCharacter classes text p kind q r → LiteralText kind → InLiteral classes text start at r
+  literal-on {q} {kind = kind} x o = record { same = literal-moves x (go [] (inLiteral start)) (literal-text kind start (getD text q 0) q o) }
+
+  pub literal-taking : {q r s u : ℕ} {kind : Kind} → FirstCharacter classes text p Backslash q r → FirstCharacter classes text r kind s u → (m : Move)
+      → scanning.take kind (inLiteral start) s ≡ m
+      → scanFrom classes (charactersAt text at) (inLiteral start) ≡ then m (λ state. scanFrom classes (charactersAt text u) state)
+  literal-taking x y m e = literal-moves x (go [] (takingInLiteral start)) refl ∙ moves y (takingInLiteral start) m e
+
+  pub literal-taken : {q r s u : ℕ} {kind : Kind} → FirstCharacter classes text p Backslash q r → FirstCharacter classes text r kind s u → Taken kind → InLiteral classes text start at u
+  literal-taken {s = s} {kind = kind} x y o = record { same = literal-taking x y (go [] (inLiteral start)) (taken kind (inLiteral start) s o) }
+
 -- ---- a comment
 
 -- from its outermost "(" scanning has come to a position inside it, `depth` comments lying around the one that is open there
@@ -257,7 +309,7 @@ module _ {classes text : List ℕ} {at p q : ℕ} where
   pub mark-next : {class : Class} → FirstCharacter classes text at (Mark class) p q → scanBy classes text at ≡ next (symbol class p q (getD text p 0 ∷ [])) (scanBy classes text q)
   mark-next {class} x = single-next class x refl
 
-  pub stray-next : {kind : Kind} → FirstCharacter classes text at kind p q → OneOf (5 ∷ 7 ∷ []) (tag kind) → scanBy classes text at ≡ next (symbol Stray p q (getD text p 0 ∷ [])) (scanBy classes text q)
+  pub stray-next : {kind : Kind} → FirstCharacter classes text at kind p q → OneOf (5 ∷ 7 ∷ 11 ∷ []) (tag kind) → scanBy classes text at ≡ next (symbol Stray p q (getD text p 0 ∷ [])) (scanBy classes text q)
   stray-next {kind} x o = single-next Stray x (stray kind (getD text p 0) p o)
 
   pub control-next : {kind : Kind} → FirstCharacter classes text at kind p q → OneOf (1 ∷ 2 ∷ []) (tag kind) → scanBy classes text at ≡ faultAt strayControl p

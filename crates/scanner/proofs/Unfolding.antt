@@ -9,24 +9,24 @@ use native.Mathlib.Omega.{arith}
 use lib.Dec.{eqb}
 use lib.ListN.{length, getD}
 use types.Run.{hit}
-use Rattle.octets.specs.Numbers.{quotedNotClosed, commentNotClosed, strayControl, byteAbove127}
+use Rattle.octets.specs.Numbers.{quotedNotClosed, commentNotClosed, strayControl, byteAbove127, literalNotClosed}
 use Rattle.octets.specs.Choice.{pick}
-use Rattle.octets.specs.Classes.{white, control, openParenthesis, closeParenthesis, lessThan, greaterThan, atSign, comma, semicolon, colon, backslash, quote, above127}
+use Rattle.octets.specs.Classes.{white, control, openParenthesis, closeParenthesis, lessThan, greaterThan, atSign, comma, semicolon, colon, backslash, quote, above127, dot, openBracket, closeBracket}
 use Rattle.octets.specs.Letters.{sameLetters}
 use Rattle.octets.specs.Text.{bytes, part}
 use Rattle.scanner.specs.Symbols.{Symbol}
 use Rattle.scanner.specs.Kinds.{kindOfClass, kindOf, characterKind}
 use Rattle.scanner.specs.Characters.{charactersAt}
-use Rattle.scanner.specs.Scanning.{Scanned, ended, next, faultAt, outside, inAtom, inQuoted, takingInQuoted, inComment, takingInComment, go, halt, symbol, atom, atomClass, atEnd, scanFrom, scanBy}
+use Rattle.scanner.specs.Scanning.{Scanned, ended, next, faultAt, outside, inAtom, inQuoted, takingInQuoted, inLiteral, takingInLiteral, inComment, takingInComment, go, halt, symbol, atom, atomClass, atEnd, scanFrom, scanBy}
 use Rattle.scanner.specs.Answers.{nextOf, unlessFault, faultOf}
 use Rattle.scanner.specs.Steps.{FirstCharacter, AtomEnds, CommentEnds}
 use Rattle.scanner.specs.declared.Class.{Class}
-use Rattle.scanner.specs.declared.Class.the-variants.{Atom, Quoted, At, LessThan, GreaterThan, Comma, Semicolon, Colon, Stray}
+use Rattle.scanner.specs.declared.Class.the-variants.{Atom, Quoted, At, LessThan, GreaterThan, Comma, Semicolon, Colon, Stray, Dot, Literal}
 use Rattle.scanner.specs.declared.Next.the-variants.{Found, Ended, Fault}
 use Rattle.scanner.specs.declared.Kind.{Kind}
-use Rattle.scanner.specs.declared.Kind.the-variants.{White, Control, Return, Plain, Open, Close, Quote, Backslash, Mark, Above}
+use Rattle.scanner.specs.declared.Kind.the-variants.{White, Control, Return, Plain, Open, Close, Quote, Backslash, Mark, Above, OpenBracket, CloseBracket}
 use Rattle.scanner.proofs.CharacterLaws.{View, over, one, view}
-use Rattle.scanner.proofs.MoveLaws.{tag, part-one, NotPlain, Data, Text, Taken, at-end, moves, atom-on, atom-begins, atom-ends, atom-last, Quoting, quoted-moves, quoted-on, quoted-taking, quoted-taken, Commenting, comment-moves, comment-on, comment-opens, comment-closes, comment-over, comment-taking, comment-taken, mark-next, stray-next, control-next}
+use Rattle.scanner.proofs.MoveLaws.{tag, part-one, NotPlain, Data, Text, Taken, at-end, moves, atom-on, atom-begins, atom-ends, atom-last, Quoting, quoted-moves, quoted-on, quoted-taking, quoted-taken, InLiteral, literal-moves, literal-on, literal-taking, literal-taken, Commenting, comment-moves, comment-on, comment-opens, comment-closes, comment-over, comment-taking, comment-taken, mark-next, stray-next, control-next}
 use Rattle.scanner.proofs.Meanings.{dataFrom, dataAt, meaningAt, data-on, data-backslash, data-taken, data-quote}
 
 module _ (classes text : List ℕ) where
@@ -44,16 +44,18 @@ module _ (classes text : List ℕ) where
   atom-here {start} {at} h x o = record { end = at; is = record { same = atom-ends start (part text start at) x o; from = omega arith; within = h } }
 
   atom-by : (start at : ℕ) {p q : ℕ} (kind : Kind) → start ≤ at → at ≤ length text → FirstCharacter classes text at kind p q → Ends start q → Ends start at
-  atom-by start at White l h x e = atom-here h x (hit (0 ∷ 1 ∷ 2 ∷ 4 ∷ 5 ∷ 6 ∷ 7 ∷ 8 ∷ 9 ∷ []) 0 tt)
-  atom-by start at Control l h x e = atom-here h x (hit (0 ∷ 1 ∷ 2 ∷ 4 ∷ 5 ∷ 6 ∷ 7 ∷ 8 ∷ 9 ∷ []) 1 tt)
-  atom-by start at Return l h x e = atom-here h x (hit (0 ∷ 1 ∷ 2 ∷ 4 ∷ 5 ∷ 6 ∷ 7 ∷ 8 ∷ 9 ∷ []) 2 tt)
+  atom-by start at White l h x e = atom-here h x (hit (0 ∷ 1 ∷ 2 ∷ 4 ∷ 5 ∷ 6 ∷ 7 ∷ 8 ∷ 9 ∷ 10 ∷ 11 ∷ []) 0 tt)
+  atom-by start at Control l h x e = atom-here h x (hit (0 ∷ 1 ∷ 2 ∷ 4 ∷ 5 ∷ 6 ∷ 7 ∷ 8 ∷ 9 ∷ 10 ∷ 11 ∷ []) 1 tt)
+  atom-by start at Return l h x e = atom-here h x (hit (0 ∷ 1 ∷ 2 ∷ 4 ∷ 5 ∷ 6 ∷ 7 ∷ 8 ∷ 9 ∷ 10 ∷ 11 ∷ []) 2 tt)
   atom-by start at Plain l h x e = atom-further l x e
-  atom-by start at Open l h x e = atom-here h x (hit (0 ∷ 1 ∷ 2 ∷ 4 ∷ 5 ∷ 6 ∷ 7 ∷ 8 ∷ 9 ∷ []) 4 tt)
-  atom-by start at Close l h x e = atom-here h x (hit (0 ∷ 1 ∷ 2 ∷ 4 ∷ 5 ∷ 6 ∷ 7 ∷ 8 ∷ 9 ∷ []) 5 tt)
-  atom-by start at Quote l h x e = atom-here h x (hit (0 ∷ 1 ∷ 2 ∷ 4 ∷ 5 ∷ 6 ∷ 7 ∷ 8 ∷ 9 ∷ []) 6 tt)
-  atom-by start at Backslash l h x e = atom-here h x (hit (0 ∷ 1 ∷ 2 ∷ 4 ∷ 5 ∷ 6 ∷ 7 ∷ 8 ∷ 9 ∷ []) 7 tt)
-  atom-by start at (Mark class) l h x e = atom-here h x (hit (0 ∷ 1 ∷ 2 ∷ 4 ∷ 5 ∷ 6 ∷ 7 ∷ 8 ∷ 9 ∷ []) 8 tt)
-  atom-by start at Above l h x e = atom-here h x (hit (0 ∷ 1 ∷ 2 ∷ 4 ∷ 5 ∷ 6 ∷ 7 ∷ 8 ∷ 9 ∷ []) 9 tt)
+  atom-by start at Open l h x e = atom-here h x (hit (0 ∷ 1 ∷ 2 ∷ 4 ∷ 5 ∷ 6 ∷ 7 ∷ 8 ∷ 9 ∷ 10 ∷ 11 ∷ []) 4 tt)
+  atom-by start at Close l h x e = atom-here h x (hit (0 ∷ 1 ∷ 2 ∷ 4 ∷ 5 ∷ 6 ∷ 7 ∷ 8 ∷ 9 ∷ 10 ∷ 11 ∷ []) 5 tt)
+  atom-by start at Quote l h x e = atom-here h x (hit (0 ∷ 1 ∷ 2 ∷ 4 ∷ 5 ∷ 6 ∷ 7 ∷ 8 ∷ 9 ∷ 10 ∷ 11 ∷ []) 6 tt)
+  atom-by start at Backslash l h x e = atom-here h x (hit (0 ∷ 1 ∷ 2 ∷ 4 ∷ 5 ∷ 6 ∷ 7 ∷ 8 ∷ 9 ∷ 10 ∷ 11 ∷ []) 7 tt)
+  atom-by start at (Mark class) l h x e = atom-here h x (hit (0 ∷ 1 ∷ 2 ∷ 4 ∷ 5 ∷ 6 ∷ 7 ∷ 8 ∷ 9 ∷ 10 ∷ 11 ∷ []) 8 tt)
+  atom-by start at Above l h x e = atom-here h x (hit (0 ∷ 1 ∷ 2 ∷ 4 ∷ 5 ∷ 6 ∷ 7 ∷ 8 ∷ 9 ∷ 10 ∷ 11 ∷ []) 9 tt)
+  atom-by start at OpenBracket l h x e = atom-here h x (hit (0 ∷ 1 ∷ 2 ∷ 4 ∷ 5 ∷ 6 ∷ 7 ∷ 8 ∷ 9 ∷ 10 ∷ 11 ∷ []) 10 tt)
+  atom-by start at CloseBracket l h x e = atom-here h x (hit (0 ∷ 1 ∷ 2 ∷ 4 ∷ 5 ∷ 6 ∷ 7 ∷ 8 ∷ 9 ∷ 10 ∷ 11 ∷ []) 11 tt)
 
   atom-view : (start at : ℕ) → start ≤ at → at ≤ length text → View classes text at → ((q : ℕ) → at < q → q ≤ length text → Ends start q) → Ends start at
   atom-view start at l h (over e) f = record { end = at; is = record { same = atom-last classes text start at (part text start at) e; from = omega arith; within = h } }
@@ -100,16 +102,18 @@ module _ (classes text : List ℕ) where
 
   -- the character behind a backslash
   taking-by : (start at p : ℕ) {q r s u : ℕ} (kind : Kind) → Passed start at p → FirstCharacter classes text p Backslash q r → FirstCharacter classes text r kind s u → (Passed start at u → Closes start at) → Closes start at
-  taking-by start at p White w x y f = f (passed-taken w x y (hit (0 ∷ 1 ∷ 2 ∷ 3 ∷ 4 ∷ 5 ∷ 6 ∷ 7 ∷ 8 ∷ []) 0 tt))
-  taking-by start at p Control w x y f = f (passed-taken w x y (hit (0 ∷ 1 ∷ 2 ∷ 3 ∷ 4 ∷ 5 ∷ 6 ∷ 7 ∷ 8 ∷ []) 1 tt))
-  taking-by start at p Return w x y f = f (passed-taken w x y (hit (0 ∷ 1 ∷ 2 ∷ 3 ∷ 4 ∷ 5 ∷ 6 ∷ 7 ∷ 8 ∷ []) 2 tt))
-  taking-by start at p Plain w x y f = f (passed-taken w x y (hit (0 ∷ 1 ∷ 2 ∷ 3 ∷ 4 ∷ 5 ∷ 6 ∷ 7 ∷ 8 ∷ []) 3 tt))
-  taking-by start at p Open w x y f = f (passed-taken w x y (hit (0 ∷ 1 ∷ 2 ∷ 3 ∷ 4 ∷ 5 ∷ 6 ∷ 7 ∷ 8 ∷ []) 4 tt))
-  taking-by start at p Close w x y f = f (passed-taken w x y (hit (0 ∷ 1 ∷ 2 ∷ 3 ∷ 4 ∷ 5 ∷ 6 ∷ 7 ∷ 8 ∷ []) 5 tt))
-  taking-by start at p Quote w x y f = f (passed-taken w x y (hit (0 ∷ 1 ∷ 2 ∷ 3 ∷ 4 ∷ 5 ∷ 6 ∷ 7 ∷ 8 ∷ []) 6 tt))
-  taking-by start at p Backslash w x y f = f (passed-taken w x y (hit (0 ∷ 1 ∷ 2 ∷ 3 ∷ 4 ∷ 5 ∷ 6 ∷ 7 ∷ 8 ∷ []) 7 tt))
-  taking-by start at p (Mark class) w x y f = f (passed-taken w x y (hit (0 ∷ 1 ∷ 2 ∷ 3 ∷ 4 ∷ 5 ∷ 6 ∷ 7 ∷ 8 ∷ []) 8 tt))
+  taking-by start at p White w x y f = f (passed-taken w x y (hit (0 ∷ 1 ∷ 2 ∷ 3 ∷ 4 ∷ 5 ∷ 6 ∷ 7 ∷ 8 ∷ 10 ∷ 11 ∷ []) 0 tt))
+  taking-by start at p Control w x y f = f (passed-taken w x y (hit (0 ∷ 1 ∷ 2 ∷ 3 ∷ 4 ∷ 5 ∷ 6 ∷ 7 ∷ 8 ∷ 10 ∷ 11 ∷ []) 1 tt))
+  taking-by start at p Return w x y f = f (passed-taken w x y (hit (0 ∷ 1 ∷ 2 ∷ 3 ∷ 4 ∷ 5 ∷ 6 ∷ 7 ∷ 8 ∷ 10 ∷ 11 ∷ []) 2 tt))
+  taking-by start at p Plain w x y f = f (passed-taken w x y (hit (0 ∷ 1 ∷ 2 ∷ 3 ∷ 4 ∷ 5 ∷ 6 ∷ 7 ∷ 8 ∷ 10 ∷ 11 ∷ []) 3 tt))
+  taking-by start at p Open w x y f = f (passed-taken w x y (hit (0 ∷ 1 ∷ 2 ∷ 3 ∷ 4 ∷ 5 ∷ 6 ∷ 7 ∷ 8 ∷ 10 ∷ 11 ∷ []) 4 tt))
+  taking-by start at p Close w x y f = f (passed-taken w x y (hit (0 ∷ 1 ∷ 2 ∷ 3 ∷ 4 ∷ 5 ∷ 6 ∷ 7 ∷ 8 ∷ 10 ∷ 11 ∷ []) 5 tt))
+  taking-by start at p Quote w x y f = f (passed-taken w x y (hit (0 ∷ 1 ∷ 2 ∷ 3 ∷ 4 ∷ 5 ∷ 6 ∷ 7 ∷ 8 ∷ 10 ∷ 11 ∷ []) 6 tt))
+  taking-by start at p Backslash w x y f = f (passed-taken w x y (hit (0 ∷ 1 ∷ 2 ∷ 3 ∷ 4 ∷ 5 ∷ 6 ∷ 7 ∷ 8 ∷ 10 ∷ 11 ∷ []) 7 tt))
+  taking-by start at p (Mark class) w x y f = f (passed-taken w x y (hit (0 ∷ 1 ∷ 2 ∷ 3 ∷ 4 ∷ 5 ∷ 6 ∷ 7 ∷ 8 ∷ 10 ∷ 11 ∷ []) 8 tt))
   taking-by start at p Above w x y f = faulty byteAbove127 _ (quoted-taking (w .quoting) x y (halt [] byteAbove127 _) refl)
+  taking-by start at p OpenBracket w x y f = f (passed-taken w x y (hit (0 ∷ 1 ∷ 2 ∷ 3 ∷ 4 ∷ 5 ∷ 6 ∷ 7 ∷ 8 ∷ 10 ∷ 11 ∷ []) 10 tt))
+  taking-by start at p CloseBracket w x y f = f (passed-taken w x y (hit (0 ∷ 1 ∷ 2 ∷ 3 ∷ 4 ∷ 5 ∷ 6 ∷ 7 ∷ 8 ∷ 10 ∷ 11 ∷ []) 11 tt))
 
   taking-view : (start at p : ℕ) {q r : ℕ} → Passed start at p → FirstCharacter classes text p Backslash q r → View classes text r
       → ((u : ℕ) → p < u → u ≤ length text → Passed start at u → Closes start at) → Closes start at
@@ -119,16 +123,18 @@ module _ (classes text : List ℕ) where
 
   quoted-by : (start at p : ℕ) {q r : ℕ} (kind : Kind) → Passed start at p → FirstCharacter classes text p kind q r → View classes text r
       → ((u : ℕ) → p < u → u ≤ length text → Passed start at u → Closes start at) → Closes start at
-  quoted-by start at p {r = r} White w x v f = f r (omega (arith, x .from, x .behind)) (x .within) (passed-data w x (hit (0 ∷ 1 ∷ 3 ∷ 4 ∷ 5 ∷ 8 ∷ []) 0 tt))
-  quoted-by start at p {r = r} Control w x v f = f r (omega (arith, x .from, x .behind)) (x .within) (passed-data w x (hit (0 ∷ 1 ∷ 3 ∷ 4 ∷ 5 ∷ 8 ∷ []) 1 tt))
+  quoted-by start at p {r = r} White w x v f = f r (omega (arith, x .from, x .behind)) (x .within) (passed-data w x (hit (0 ∷ 1 ∷ 3 ∷ 4 ∷ 5 ∷ 8 ∷ 10 ∷ 11 ∷ []) 0 tt))
+  quoted-by start at p {r = r} Control w x v f = f r (omega (arith, x .from, x .behind)) (x .within) (passed-data w x (hit (0 ∷ 1 ∷ 3 ∷ 4 ∷ 5 ∷ 8 ∷ 10 ∷ 11 ∷ []) 1 tt))
   quoted-by start at p {r = r} Return w x v f = faulty strayControl _ (quoted-moves (w .quoting) x (halt [] strayControl _) refl)
-  quoted-by start at p {r = r} Plain w x v f = f r (omega (arith, x .from, x .behind)) (x .within) (passed-data w x (hit (0 ∷ 1 ∷ 3 ∷ 4 ∷ 5 ∷ 8 ∷ []) 3 tt))
-  quoted-by start at p {r = r} Open w x v f = f r (omega (arith, x .from, x .behind)) (x .within) (passed-data w x (hit (0 ∷ 1 ∷ 3 ∷ 4 ∷ 5 ∷ 8 ∷ []) 4 tt))
-  quoted-by start at p {r = r} Close w x v f = f r (omega (arith, x .from, x .behind)) (x .within) (passed-data w x (hit (0 ∷ 1 ∷ 3 ∷ 4 ∷ 5 ∷ 8 ∷ []) 5 tt))
+  quoted-by start at p {r = r} Plain w x v f = f r (omega (arith, x .from, x .behind)) (x .within) (passed-data w x (hit (0 ∷ 1 ∷ 3 ∷ 4 ∷ 5 ∷ 8 ∷ 10 ∷ 11 ∷ []) 3 tt))
+  quoted-by start at p {r = r} Open w x v f = f r (omega (arith, x .from, x .behind)) (x .within) (passed-data w x (hit (0 ∷ 1 ∷ 3 ∷ 4 ∷ 5 ∷ 8 ∷ 10 ∷ 11 ∷ []) 4 tt))
+  quoted-by start at p {r = r} Close w x v f = f r (omega (arith, x .from, x .behind)) (x .within) (passed-data w x (hit (0 ∷ 1 ∷ 3 ∷ 4 ∷ 5 ∷ 8 ∷ 10 ∷ 11 ∷ []) 5 tt))
   quoted-by start at p {r = r} Quote w x v f = closing w x
   quoted-by start at p {r = r} Backslash w x v f = taking-view start at p w x v f
-  quoted-by start at p {r = r} (Mark class) w x v f = f r (omega (arith, x .from, x .behind)) (x .within) (passed-data w x (hit (0 ∷ 1 ∷ 3 ∷ 4 ∷ 5 ∷ 8 ∷ []) 8 tt))
+  quoted-by start at p {r = r} (Mark class) w x v f = f r (omega (arith, x .from, x .behind)) (x .within) (passed-data w x (hit (0 ∷ 1 ∷ 3 ∷ 4 ∷ 5 ∷ 8 ∷ 10 ∷ 11 ∷ []) 8 tt))
   quoted-by start at p {r = r} Above w x v f = faulty byteAbove127 _ (quoted-moves (w .quoting) x (halt [] byteAbove127 _) refl)
+  quoted-by start at p {r = r} OpenBracket w x v f = f r (omega (arith, x .from, x .behind)) (x .within) (passed-data w x (hit (0 ∷ 1 ∷ 3 ∷ 4 ∷ 5 ∷ 8 ∷ 10 ∷ 11 ∷ []) 10 tt))
+  quoted-by start at p {r = r} CloseBracket w x v f = f r (omega (arith, x .from, x .behind)) (x .within) (passed-data w x (hit (0 ∷ 1 ∷ 3 ∷ 4 ∷ 5 ∷ 8 ∷ 10 ∷ 11 ∷ []) 11 tt))
 
   quoted-view : (start at p : ℕ) → Passed start at p → View classes text p → ((u : ℕ) → p < u → u ≤ length text → Passed start at u → Closes start at) → Closes start at
   quoted-view start at p w (over e) f = faulty quotedNotClosed start (w .quoting .same ∙ at-end classes text p _ e)
@@ -157,16 +163,18 @@ module _ (classes text : List ℕ) where
 
   escaped-by : (start at depth p : ℕ) {q r s u : ℕ} (kind : Kind) → Within start at depth p → FirstCharacter classes text p Backslash q r → FirstCharacter classes text r kind s u
       → (Within start at depth u → Leaves start at) → Leaves start at
-  escaped-by start at depth p White w x y f = f record { commenting = comment-taken (w .commenting) x y (hit (0 ∷ 1 ∷ 2 ∷ 3 ∷ 4 ∷ 5 ∷ 6 ∷ 7 ∷ 8 ∷ []) 0 tt); from = omega (arith, w .from, x .from, x .behind, y .from, y .behind) }
-  escaped-by start at depth p Control w x y f = f record { commenting = comment-taken (w .commenting) x y (hit (0 ∷ 1 ∷ 2 ∷ 3 ∷ 4 ∷ 5 ∷ 6 ∷ 7 ∷ 8 ∷ []) 1 tt); from = omega (arith, w .from, x .from, x .behind, y .from, y .behind) }
-  escaped-by start at depth p Return w x y f = f record { commenting = comment-taken (w .commenting) x y (hit (0 ∷ 1 ∷ 2 ∷ 3 ∷ 4 ∷ 5 ∷ 6 ∷ 7 ∷ 8 ∷ []) 2 tt); from = omega (arith, w .from, x .from, x .behind, y .from, y .behind) }
-  escaped-by start at depth p Plain w x y f = f record { commenting = comment-taken (w .commenting) x y (hit (0 ∷ 1 ∷ 2 ∷ 3 ∷ 4 ∷ 5 ∷ 6 ∷ 7 ∷ 8 ∷ []) 3 tt); from = omega (arith, w .from, x .from, x .behind, y .from, y .behind) }
-  escaped-by start at depth p Open w x y f = f record { commenting = comment-taken (w .commenting) x y (hit (0 ∷ 1 ∷ 2 ∷ 3 ∷ 4 ∷ 5 ∷ 6 ∷ 7 ∷ 8 ∷ []) 4 tt); from = omega (arith, w .from, x .from, x .behind, y .from, y .behind) }
-  escaped-by start at depth p Close w x y f = f record { commenting = comment-taken (w .commenting) x y (hit (0 ∷ 1 ∷ 2 ∷ 3 ∷ 4 ∷ 5 ∷ 6 ∷ 7 ∷ 8 ∷ []) 5 tt); from = omega (arith, w .from, x .from, x .behind, y .from, y .behind) }
-  escaped-by start at depth p Quote w x y f = f record { commenting = comment-taken (w .commenting) x y (hit (0 ∷ 1 ∷ 2 ∷ 3 ∷ 4 ∷ 5 ∷ 6 ∷ 7 ∷ 8 ∷ []) 6 tt); from = omega (arith, w .from, x .from, x .behind, y .from, y .behind) }
-  escaped-by start at depth p Backslash w x y f = f record { commenting = comment-taken (w .commenting) x y (hit (0 ∷ 1 ∷ 2 ∷ 3 ∷ 4 ∷ 5 ∷ 6 ∷ 7 ∷ 8 ∷ []) 7 tt); from = omega (arith, w .from, x .from, x .behind, y .from, y .behind) }
-  escaped-by start at depth p (Mark class) w x y f = f record { commenting = comment-taken (w .commenting) x y (hit (0 ∷ 1 ∷ 2 ∷ 3 ∷ 4 ∷ 5 ∷ 6 ∷ 7 ∷ 8 ∷ []) 8 tt); from = omega (arith, w .from, x .from, x .behind, y .from, y .behind) }
+  escaped-by start at depth p White w x y f = f record { commenting = comment-taken (w .commenting) x y (hit (0 ∷ 1 ∷ 2 ∷ 3 ∷ 4 ∷ 5 ∷ 6 ∷ 7 ∷ 8 ∷ 10 ∷ 11 ∷ []) 0 tt); from = omega (arith, w .from, x .from, x .behind, y .from, y .behind) }
+  escaped-by start at depth p Control w x y f = f record { commenting = comment-taken (w .commenting) x y (hit (0 ∷ 1 ∷ 2 ∷ 3 ∷ 4 ∷ 5 ∷ 6 ∷ 7 ∷ 8 ∷ 10 ∷ 11 ∷ []) 1 tt); from = omega (arith, w .from, x .from, x .behind, y .from, y .behind) }
+  escaped-by start at depth p Return w x y f = f record { commenting = comment-taken (w .commenting) x y (hit (0 ∷ 1 ∷ 2 ∷ 3 ∷ 4 ∷ 5 ∷ 6 ∷ 7 ∷ 8 ∷ 10 ∷ 11 ∷ []) 2 tt); from = omega (arith, w .from, x .from, x .behind, y .from, y .behind) }
+  escaped-by start at depth p Plain w x y f = f record { commenting = comment-taken (w .commenting) x y (hit (0 ∷ 1 ∷ 2 ∷ 3 ∷ 4 ∷ 5 ∷ 6 ∷ 7 ∷ 8 ∷ 10 ∷ 11 ∷ []) 3 tt); from = omega (arith, w .from, x .from, x .behind, y .from, y .behind) }
+  escaped-by start at depth p Open w x y f = f record { commenting = comment-taken (w .commenting) x y (hit (0 ∷ 1 ∷ 2 ∷ 3 ∷ 4 ∷ 5 ∷ 6 ∷ 7 ∷ 8 ∷ 10 ∷ 11 ∷ []) 4 tt); from = omega (arith, w .from, x .from, x .behind, y .from, y .behind) }
+  escaped-by start at depth p Close w x y f = f record { commenting = comment-taken (w .commenting) x y (hit (0 ∷ 1 ∷ 2 ∷ 3 ∷ 4 ∷ 5 ∷ 6 ∷ 7 ∷ 8 ∷ 10 ∷ 11 ∷ []) 5 tt); from = omega (arith, w .from, x .from, x .behind, y .from, y .behind) }
+  escaped-by start at depth p Quote w x y f = f record { commenting = comment-taken (w .commenting) x y (hit (0 ∷ 1 ∷ 2 ∷ 3 ∷ 4 ∷ 5 ∷ 6 ∷ 7 ∷ 8 ∷ 10 ∷ 11 ∷ []) 6 tt); from = omega (arith, w .from, x .from, x .behind, y .from, y .behind) }
+  escaped-by start at depth p Backslash w x y f = f record { commenting = comment-taken (w .commenting) x y (hit (0 ∷ 1 ∷ 2 ∷ 3 ∷ 4 ∷ 5 ∷ 6 ∷ 7 ∷ 8 ∷ 10 ∷ 11 ∷ []) 7 tt); from = omega (arith, w .from, x .from, x .behind, y .from, y .behind) }
+  escaped-by start at depth p (Mark class) w x y f = f record { commenting = comment-taken (w .commenting) x y (hit (0 ∷ 1 ∷ 2 ∷ 3 ∷ 4 ∷ 5 ∷ 6 ∷ 7 ∷ 8 ∷ 10 ∷ 11 ∷ []) 8 tt); from = omega (arith, w .from, x .from, x .behind, y .from, y .behind) }
   escaped-by start at depth p Above w x y f = faulty byteAbove127 _ (comment-taking (w .commenting) x y (halt [] byteAbove127 _) refl)
+  escaped-by start at depth p OpenBracket w x y f = f record { commenting = comment-taken (w .commenting) x y (hit (0 ∷ 1 ∷ 2 ∷ 3 ∷ 4 ∷ 5 ∷ 6 ∷ 7 ∷ 8 ∷ 10 ∷ 11 ∷ []) 10 tt); from = omega (arith, w .from, x .from, x .behind, y .from, y .behind) }
+  escaped-by start at depth p CloseBracket w x y f = f record { commenting = comment-taken (w .commenting) x y (hit (0 ∷ 1 ∷ 2 ∷ 3 ∷ 4 ∷ 5 ∷ 6 ∷ 7 ∷ 8 ∷ 10 ∷ 11 ∷ []) 11 tt); from = omega (arith, w .from, x .from, x .behind, y .from, y .behind) }
 
   escaped-view : (start at depth p : ℕ) {q r : ℕ} → Within start at depth p → FirstCharacter classes text p Backslash q r → View classes text r
       → ((u depth′ : ℕ) → p < u → u ≤ length text → Within start at depth′ u → Leaves start at) → Leaves start at
@@ -176,16 +184,18 @@ module _ (classes text : List ℕ) where
 
   comment-by : (start at depth p : ℕ) {q r : ℕ} (kind : Kind) → Within start at depth p → FirstCharacter classes text p kind q r → View classes text r
       → ((u depth′ : ℕ) → p < u → u ≤ length text → Within start at depth′ u → Leaves start at) → Leaves start at
-  comment-by start at depth p {r = r} White w x v f = f r depth (omega (arith, x .from, x .behind)) (x .within) record { commenting = comment-on (w .commenting) x (hit (0 ∷ 1 ∷ 3 ∷ 6 ∷ 8 ∷ []) 0 tt); from = omega (arith, w .from, x .from, x .behind) }
-  comment-by start at depth p {r = r} Control w x v f = f r depth (omega (arith, x .from, x .behind)) (x .within) record { commenting = comment-on (w .commenting) x (hit (0 ∷ 1 ∷ 3 ∷ 6 ∷ 8 ∷ []) 1 tt); from = omega (arith, w .from, x .from, x .behind) }
+  comment-by start at depth p {r = r} White w x v f = f r depth (omega (arith, x .from, x .behind)) (x .within) record { commenting = comment-on (w .commenting) x (hit (0 ∷ 1 ∷ 3 ∷ 6 ∷ 8 ∷ 10 ∷ 11 ∷ []) 0 tt); from = omega (arith, w .from, x .from, x .behind) }
+  comment-by start at depth p {r = r} Control w x v f = f r depth (omega (arith, x .from, x .behind)) (x .within) record { commenting = comment-on (w .commenting) x (hit (0 ∷ 1 ∷ 3 ∷ 6 ∷ 8 ∷ 10 ∷ 11 ∷ []) 1 tt); from = omega (arith, w .from, x .from, x .behind) }
   comment-by start at depth p {r = r} Return w x v f = faulty strayControl _ (comment-moves (w .commenting) x (halt [] strayControl _) refl)
-  comment-by start at depth p {r = r} Plain w x v f = f r depth (omega (arith, x .from, x .behind)) (x .within) record { commenting = comment-on (w .commenting) x (hit (0 ∷ 1 ∷ 3 ∷ 6 ∷ 8 ∷ []) 3 tt); from = omega (arith, w .from, x .from, x .behind) }
+  comment-by start at depth p {r = r} Plain w x v f = f r depth (omega (arith, x .from, x .behind)) (x .within) record { commenting = comment-on (w .commenting) x (hit (0 ∷ 1 ∷ 3 ∷ 6 ∷ 8 ∷ 10 ∷ 11 ∷ []) 3 tt); from = omega (arith, w .from, x .from, x .behind) }
   comment-by start at depth p {r = r} Open w x v f = f r (depth + 1) (omega (arith, x .from, x .behind)) (x .within) record { commenting = comment-opens (w .commenting) x; from = omega (arith, w .from, x .from, x .behind) }
   comment-by start at depth p {r = r} Close w x v f = leaving start at depth p w x (λ d z. f r d (omega (arith, x .from, x .behind)) (x .within) z)
-  comment-by start at depth p {r = r} Quote w x v f = f r depth (omega (arith, x .from, x .behind)) (x .within) record { commenting = comment-on (w .commenting) x (hit (0 ∷ 1 ∷ 3 ∷ 6 ∷ 8 ∷ []) 6 tt); from = omega (arith, w .from, x .from, x .behind) }
+  comment-by start at depth p {r = r} Quote w x v f = f r depth (omega (arith, x .from, x .behind)) (x .within) record { commenting = comment-on (w .commenting) x (hit (0 ∷ 1 ∷ 3 ∷ 6 ∷ 8 ∷ 10 ∷ 11 ∷ []) 6 tt); from = omega (arith, w .from, x .from, x .behind) }
   comment-by start at depth p {r = r} Backslash w x v f = escaped-view start at depth p w x v f
-  comment-by start at depth p {r = r} (Mark class) w x v f = f r depth (omega (arith, x .from, x .behind)) (x .within) record { commenting = comment-on (w .commenting) x (hit (0 ∷ 1 ∷ 3 ∷ 6 ∷ 8 ∷ []) 8 tt); from = omega (arith, w .from, x .from, x .behind) }
+  comment-by start at depth p {r = r} (Mark class) w x v f = f r depth (omega (arith, x .from, x .behind)) (x .within) record { commenting = comment-on (w .commenting) x (hit (0 ∷ 1 ∷ 3 ∷ 6 ∷ 8 ∷ 10 ∷ 11 ∷ []) 8 tt); from = omega (arith, w .from, x .from, x .behind) }
   comment-by start at depth p {r = r} Above w x v f = faulty byteAbove127 _ (comment-moves (w .commenting) x (halt [] byteAbove127 _) refl)
+  comment-by start at depth p {r = r} OpenBracket w x v f = f r depth (omega (arith, x .from, x .behind)) (x .within) record { commenting = comment-on (w .commenting) x (hit (0 ∷ 1 ∷ 3 ∷ 6 ∷ 8 ∷ 10 ∷ 11 ∷ []) 10 tt); from = omega (arith, w .from, x .from, x .behind) }
+  comment-by start at depth p {r = r} CloseBracket w x v f = f r depth (omega (arith, x .from, x .behind)) (x .within) record { commenting = comment-on (w .commenting) x (hit (0 ∷ 1 ∷ 3 ∷ 6 ∷ 8 ∷ 10 ∷ 11 ∷ []) 11 tt); from = omega (arith, w .from, x .from, x .behind) }
 
   comment-view : (start at depth p : ℕ) → Within start at depth p → View classes text p → ((u depth′ : ℕ) → p < u → u ≤ length text → Within start at depth′ u → Leaves start at) → Leaves start at
   comment-view start at depth p w (over e) f = faulty commentNotClosed start (w .commenting .same ∙ at-end classes text p _ e)
@@ -194,6 +204,60 @@ module _ (classes text : List ℕ) where
   comment-run : (n start at depth p : ℕ) → length text ≤ p + n → Within start at depth p → Leaves start at
   comment-run zero start at depth p m w = comment-view start at depth p w (view classes text p) (λ u d a b z. absurd (omega arith))
   comment-run (suc n) start at depth p m w = comment-view start at depth p w (view classes text p) (λ u d a b z. comment-run n start at d u (omega arith) z)
+
+  -- ---- a domain literal closes, or there is a fault
+
+  data LiteralEnds (start at : ℕ) : Type 0 where
+    literal : (end : ℕ) → scanFrom classes (charactersAt text at) (inLiteral start) ≡ next (symbol Literal start end []) (scanBy classes text end) → at < end → end ≤ length text → LiteralEnds start at
+    faulty : (number p : ℕ) → scanFrom classes (charactersAt text at) (inLiteral start) ≡ faultAt number p → LiteralEnds start at
+
+  record Inside (start at p : ℕ) : Type 0 where
+    literally : InLiteral classes text start at p
+    from : at ≤ p
+
+  taken-by : (start at p : ℕ) {q r s u : ℕ} (kind : Kind) → Inside start at p → FirstCharacter classes text p Backslash q r → FirstCharacter classes text r kind s u
+      → (Inside start at u → LiteralEnds start at) → LiteralEnds start at
+  taken-by start at p White w x y f = f record { literally = literal-taken (w .literally) x y (hit (0 ∷ 1 ∷ 2 ∷ 3 ∷ 4 ∷ 5 ∷ 6 ∷ 7 ∷ 8 ∷ 10 ∷ 11 ∷ []) 0 tt); from = omega (arith, w .from, x .from, x .behind, y .from, y .behind) }
+  taken-by start at p Control w x y f = f record { literally = literal-taken (w .literally) x y (hit (0 ∷ 1 ∷ 2 ∷ 3 ∷ 4 ∷ 5 ∷ 6 ∷ 7 ∷ 8 ∷ 10 ∷ 11 ∷ []) 1 tt); from = omega (arith, w .from, x .from, x .behind, y .from, y .behind) }
+  taken-by start at p Return w x y f = f record { literally = literal-taken (w .literally) x y (hit (0 ∷ 1 ∷ 2 ∷ 3 ∷ 4 ∷ 5 ∷ 6 ∷ 7 ∷ 8 ∷ 10 ∷ 11 ∷ []) 2 tt); from = omega (arith, w .from, x .from, x .behind, y .from, y .behind) }
+  taken-by start at p Plain w x y f = f record { literally = literal-taken (w .literally) x y (hit (0 ∷ 1 ∷ 2 ∷ 3 ∷ 4 ∷ 5 ∷ 6 ∷ 7 ∷ 8 ∷ 10 ∷ 11 ∷ []) 3 tt); from = omega (arith, w .from, x .from, x .behind, y .from, y .behind) }
+  taken-by start at p Open w x y f = f record { literally = literal-taken (w .literally) x y (hit (0 ∷ 1 ∷ 2 ∷ 3 ∷ 4 ∷ 5 ∷ 6 ∷ 7 ∷ 8 ∷ 10 ∷ 11 ∷ []) 4 tt); from = omega (arith, w .from, x .from, x .behind, y .from, y .behind) }
+  taken-by start at p Close w x y f = f record { literally = literal-taken (w .literally) x y (hit (0 ∷ 1 ∷ 2 ∷ 3 ∷ 4 ∷ 5 ∷ 6 ∷ 7 ∷ 8 ∷ 10 ∷ 11 ∷ []) 5 tt); from = omega (arith, w .from, x .from, x .behind, y .from, y .behind) }
+  taken-by start at p Quote w x y f = f record { literally = literal-taken (w .literally) x y (hit (0 ∷ 1 ∷ 2 ∷ 3 ∷ 4 ∷ 5 ∷ 6 ∷ 7 ∷ 8 ∷ 10 ∷ 11 ∷ []) 6 tt); from = omega (arith, w .from, x .from, x .behind, y .from, y .behind) }
+  taken-by start at p Backslash w x y f = f record { literally = literal-taken (w .literally) x y (hit (0 ∷ 1 ∷ 2 ∷ 3 ∷ 4 ∷ 5 ∷ 6 ∷ 7 ∷ 8 ∷ 10 ∷ 11 ∷ []) 7 tt); from = omega (arith, w .from, x .from, x .behind, y .from, y .behind) }
+  taken-by start at p (Mark class) w x y f = f record { literally = literal-taken (w .literally) x y (hit (0 ∷ 1 ∷ 2 ∷ 3 ∷ 4 ∷ 5 ∷ 6 ∷ 7 ∷ 8 ∷ 10 ∷ 11 ∷ []) 8 tt); from = omega (arith, w .from, x .from, x .behind, y .from, y .behind) }
+  taken-by start at p OpenBracket w x y f = f record { literally = literal-taken (w .literally) x y (hit (0 ∷ 1 ∷ 2 ∷ 3 ∷ 4 ∷ 5 ∷ 6 ∷ 7 ∷ 8 ∷ 10 ∷ 11 ∷ []) 10 tt); from = omega (arith, w .from, x .from, x .behind, y .from, y .behind) }
+  taken-by start at p CloseBracket w x y f = f record { literally = literal-taken (w .literally) x y (hit (0 ∷ 1 ∷ 2 ∷ 3 ∷ 4 ∷ 5 ∷ 6 ∷ 7 ∷ 8 ∷ 10 ∷ 11 ∷ []) 11 tt); from = omega (arith, w .from, x .from, x .behind, y .from, y .behind) }
+  taken-by start at p Above w x y f = faulty byteAbove127 _ (literal-taking (w .literally) x y (halt [] byteAbove127 _) refl)
+
+  taken-view : (start at p : ℕ) {q r : ℕ} → Inside start at p → FirstCharacter classes text p Backslash q r → View classes text r
+      → ((u : ℕ) → p < u → u ≤ length text → Inside start at u → LiteralEnds start at) → LiteralEnds start at
+  taken-view start at p {r = r} w x (over e) f = faulty literalNotClosed start (literal-moves (w .literally) x (go [] (takingInLiteral start)) refl ∙ at-end classes text r _ e)
+  taken-view start at p w x (one {kind} {q = u} y) f = taken-by start at p kind w x y (λ z. f u (omega (arith, x .from, x .behind, y .from, y .behind)) (y .within) z)
+
+  literal-by : (start at p : ℕ) {q r : ℕ} (kind : Kind) → Inside start at p → FirstCharacter classes text p kind q r → View classes text r
+      → ((u : ℕ) → p < u → u ≤ length text → Inside start at u → LiteralEnds start at) → LiteralEnds start at
+  literal-by start at p {r = r} White w x v f = f r (omega (arith, x .from, x .behind)) (x .within) record { literally = literal-on (w .literally) x (hit (0 ∷ 1 ∷ 3 ∷ 4 ∷ 5 ∷ 6 ∷ 8 ∷ []) 0 tt); from = omega (arith, w .from, x .from, x .behind) }
+  literal-by start at p {r = r} Control w x v f = f r (omega (arith, x .from, x .behind)) (x .within) record { literally = literal-on (w .literally) x (hit (0 ∷ 1 ∷ 3 ∷ 4 ∷ 5 ∷ 6 ∷ 8 ∷ []) 1 tt); from = omega (arith, w .from, x .from, x .behind) }
+  literal-by start at p {r = r} Return w x v f = faulty strayControl _ (literal-moves (w .literally) x (halt [] strayControl _) refl)
+  literal-by start at p {r = r} Plain w x v f = f r (omega (arith, x .from, x .behind)) (x .within) record { literally = literal-on (w .literally) x (hit (0 ∷ 1 ∷ 3 ∷ 4 ∷ 5 ∷ 6 ∷ 8 ∷ []) 3 tt); from = omega (arith, w .from, x .from, x .behind) }
+  literal-by start at p {r = r} Open w x v f = f r (omega (arith, x .from, x .behind)) (x .within) record { literally = literal-on (w .literally) x (hit (0 ∷ 1 ∷ 3 ∷ 4 ∷ 5 ∷ 6 ∷ 8 ∷ []) 4 tt); from = omega (arith, w .from, x .from, x .behind) }
+  literal-by start at p {r = r} Close w x v f = f r (omega (arith, x .from, x .behind)) (x .within) record { literally = literal-on (w .literally) x (hit (0 ∷ 1 ∷ 3 ∷ 4 ∷ 5 ∷ 6 ∷ 8 ∷ []) 5 tt); from = omega (arith, w .from, x .from, x .behind) }
+  literal-by start at p {r = r} Quote w x v f = f r (omega (arith, x .from, x .behind)) (x .within) record { literally = literal-on (w .literally) x (hit (0 ∷ 1 ∷ 3 ∷ 4 ∷ 5 ∷ 6 ∷ 8 ∷ []) 6 tt); from = omega (arith, w .from, x .from, x .behind) }
+  literal-by start at p {r = r} Backslash w x v f = taken-view start at p w x v f
+  literal-by start at p {r = r} (Mark class) w x v f = f r (omega (arith, x .from, x .behind)) (x .within) record { literally = literal-on (w .literally) x (hit (0 ∷ 1 ∷ 3 ∷ 4 ∷ 5 ∷ 6 ∷ 8 ∷ []) 8 tt); from = omega (arith, w .from, x .from, x .behind) }
+  literal-by start at p {r = r} Above w x v f = faulty byteAbove127 _ (literal-moves (w .literally) x (halt [] byteAbove127 _) refl)
+  literal-by start at p {r = r} OpenBracket w x v f = faulty literalNotClosed start (literal-moves (w .literally) x (halt [] literalNotClosed start) refl)
+  literal-by start at p {q = q} {r = r} CloseBracket w x v f =
+      literal r (literal-moves (w .literally) x (go (symbol Literal start (q + 1) [] ∷ []) outside) refl ∙ rw (x .behind)) (omega (arith, w .from, x .from, x .behind)) (x .within)
+
+  literal-view : (start at p : ℕ) → Inside start at p → View classes text p → ((u : ℕ) → p < u → u ≤ length text → Inside start at u → LiteralEnds start at) → LiteralEnds start at
+  literal-view start at p w (over e) f = faulty literalNotClosed start (w .literally .same ∙ at-end classes text p _ e)
+  literal-view start at p w (one {kind} {q = r} x) f = literal-by start at p kind w x (view classes text r) f
+
+  literal-run : (n start at p : ℕ) → length text ≤ p + n → Inside start at p → LiteralEnds start at
+  literal-run zero start at p m w = literal-view start at p w (view classes text p) (λ u a b z. absurd (omega arith))
+  literal-run (suc n) start at p m w = literal-view start at p w (view classes text p) (λ u a b z. literal-run n start at u (omega arith) z)
 
 -- ---- meanings by place
 
@@ -216,6 +280,8 @@ Single Comma = Unit {0}
 Single Semicolon = Unit {0}
 Single Colon = Unit {0}
 Single Stray = Unit {0}
+Single Dot = Unit {0}
+Single Literal = ⊥
 
 abbrev SingleMark : Kind → Type 0
 SingleMark White = Unit {0}
@@ -228,6 +294,8 @@ SingleMark Quote = Unit {0}
 SingleMark Backslash = Unit {0}
 SingleMark (Mark class) = Single class
 SingleMark Above = Unit {0}
+SingleMark OpenBracket = Unit {0}
+SingleMark CloseBracket = Unit {0}
 
 or-else : (test : Bool) (a b : Kind) → SingleMark a → SingleMark b → SingleMark (pick test a b)
 or-else true a b x y = x
@@ -238,7 +306,7 @@ class-mark c =
     or-else (eqb c white) _ _ tt (or-else (eqb c control) _ _ tt (or-else (eqb c openParenthesis) _ _ tt (or-else (eqb c closeParenthesis) _ _ tt
     (or-else (eqb c lessThan) _ _ tt (or-else (eqb c greaterThan) _ _ tt (or-else (eqb c atSign) _ _ tt (or-else (eqb c comma) _ _ tt
     (or-else (eqb c semicolon) _ _ tt (or-else (eqb c colon) _ _ tt (or-else (eqb c backslash) _ _ tt (or-else (eqb c quote) _ _ tt
-    (or-else (eqb c above127) _ _ tt tt))))))))))))
+    (or-else (eqb c above127) _ _ tt (or-else (eqb c dot) _ _ tt (or-else (eqb c openBracket) _ _ tt (or-else (eqb c closeBracket) _ _ tt tt)))))))))))))))
 
 character-mark : (classes : List ℕ) (b : ℕ) (folded : Bool) → SingleMark (characterKind classes b folded)
 unfolding kindOf
@@ -254,6 +322,8 @@ meaning-single classes text Comma p q s e h = part-one text p q e h
 meaning-single classes text Semicolon p q s e h = part-one text p q e h
 meaning-single classes text Colon p q s e h = part-one text p q e h
 meaning-single classes text Stray p q s e h = part-one text p q e h
+meaning-single classes text Dot p q s e h = part-one text p q e h
+meaning-single classes text Literal p q s e h = absurd s
 
 -- ---- one step outside
 
@@ -323,6 +393,21 @@ module _ (classes text : List ℕ) where
       }
   in-quoted {p = p} x (faulty number r e) = faulty (moves x outside (go [] (inQuoted p [])) refl ∙ e)
 
+  literal-not-quoted : Literal ≡ Quoted → ⊥
+  literal-not-quoted e = let z : _≡_ {A = ℕ} 0 1 = cc in omega arith
+
+  in-literal : {at p q : ℕ} → FirstCharacter classes text at OpenBracket p q → LiteralEnds classes text p q → OutsideIs classes text at OpenBracket p
+  in-literal {at} {p} {q} x (literal end e l h) =
+      begins (x .tight (λ k. omega (arith, ap tag k)))
+      record {
+        same = moves x outside (go [] (inLiteral p)) refl ∙ e;
+        from = x .from;
+        starts = omega (arith, x .behind);
+        within = h;
+        quotes = λ q. absurd (literal-not-quoted q);
+      }
+  in-literal {p = p} x (faulty number r e) = faulty (moves x outside (go [] (inLiteral p)) refl ∙ e)
+
   in-comment : {at p q : ℕ} → FirstCharacter classes text at Open p q → Leaves classes text p q → ((r : ℕ) → at < r → r ≤ length text → Unfolded classes text r) → Unfolded classes text at
   in-comment {p = p} x (leaves end e) f =
       later (omega (arith, x .from, x .behind, e .from)) (moves x outside (go [] (inComment 0 p)) refl ∙ e .same)
@@ -335,12 +420,14 @@ module _ (classes text : List ℕ) where
   outside-by Return s x = faulty (control-next x (hit (1 ∷ 2 ∷ []) 2 tt))
   outside-by {p = p} {q = q} Plain s x = in-atom x (atom-run classes text (length text) p q (omega arith) (omega (arith, x .behind)) (x .within))
   outside-by Open s x = opens-comment
-  outside-by Close s x = one-byte x (λ k. omega (arith, ap tag k)) tt (stray-next x (hit (5 ∷ 7 ∷ []) 5 tt))
+  outside-by Close s x = one-byte x (λ k. omega (arith, ap tag k)) tt (stray-next x (hit (5 ∷ 7 ∷ 11 ∷ []) 5 tt))
   outside-by {p = p} {q = q} Quote s x =
       in-quoted x (quoted-run classes text (length text) p q q (omega arith) record { quoting = record { meaning = []; same = refl }; data-so-far = refl; from = omega arith })
-  outside-by Backslash s x = one-byte x (λ k. omega (arith, ap tag k)) tt (stray-next x (hit (5 ∷ 7 ∷ []) 7 tt))
+  outside-by Backslash s x = one-byte x (λ k. omega (arith, ap tag k)) tt (stray-next x (hit (5 ∷ 7 ∷ 11 ∷ []) 7 tt))
   outside-by (Mark class) s x = one-byte x (λ k. omega (arith, ap tag k)) s (mark-next x)
   outside-by {p = p} Above s x = faulty (moves x outside (halt [] byteAbove127 p) refl)
+  outside-by {p = p} {q = q} OpenBracket s x = in-literal x (literal-run classes text (length text) p q q (omega arith) record { literally = record { same = refl }; from = omega arith })
+  outside-by CloseBracket s x = one-byte x (λ k. omega (arith, ap tag k)) tt (stray-next x (hit (5 ∷ 7 ∷ 11 ∷ []) 11 tt))
 
   pub outside-is : {at p q : ℕ} {kind : Kind} → FirstCharacter classes text at kind p q → OutsideIs classes text at kind p
   outside-is {p = p} {kind = kind} x = outside-by kind (rw (x .kind-is) (character-mark classes (getD text p 0) (x .folded))) x

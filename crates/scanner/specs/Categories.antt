@@ -13,12 +13,12 @@ use Rattle.octets.specs.declared.answers.Answer.the-variants.{Accepted}
 use Rattle.scanner.specs.Symbols.{Symbol}
 use Rattle.scanner.specs.Kinds.{characterKind}
 use Rattle.scanner.specs.Characters.{Character, character, charactersAt}
-use Rattle.scanner.specs.Scanning.{Scanned, ended, next, faultAt, State, outside, inAtom, inQuoted, takingInQuoted, inComment, takingInComment, Move, go, halt, move, scan, symbolsOf}
+use Rattle.scanner.specs.Scanning.{Scanned, ended, next, faultAt, State, outside, inAtom, inQuoted, takingInQuoted, inLiteral, takingInLiteral, inComment, takingInComment, Move, go, halt, move, scan, symbolsOf}
 use Rattle.scanner.specs.Answers.{bodyChecked, unlessFault, bodyScanned}
 use Rattle.scanner.specs.declared.Class.{Class}
-use Rattle.scanner.specs.declared.Class.the-variants.{Atom, Quoted, At, LessThan, GreaterThan, Comma, Semicolon, Colon, Stray}
+use Rattle.scanner.specs.declared.Class.the-variants.{Atom, Quoted, At, LessThan, GreaterThan, Comma, Semicolon, Colon, Stray, Dot, Literal}
 use Rattle.scanner.specs.declared.Kind.{Kind}
-use Rattle.scanner.specs.declared.Kind.the-variants.{White, Control, Return, Plain, Open, Close, Quote, Backslash, Mark, Above}
+use Rattle.scanner.specs.declared.Kind.the-variants.{White, Control, Return, Plain, Open, Close, Quote, Backslash, Mark, Above, OpenBracket, CloseBracket}
 use Rattle.scanner.specs.declared.Category.{Category}
 use Rattle.scanner.specs.declared.Category.the-variants as category
 
@@ -28,7 +28,7 @@ use Rattle.scanner.specs.declared.Category.the-variants as category
 abbrev pub ofAt : List ℕ → Category
 ofAt meaning = pick (sameLetters meaning (bytes "at")) category.At category.Mark
 
--- what each byte of a symbol is, its quotes and the folds in it too; a symbol that fits no rule is nothing of these
+-- what each byte of a symbol is, its quotes and the folds in it too; a symbol that fits no rule is nothing of these; dots and domain literals are symbols of RFC 822 alone
 abbrev pub ofSymbol : Class → List ℕ → Category
 ofSymbol Atom meaning = category.Word
 ofSymbol Quoted meaning = category.Word
@@ -39,6 +39,8 @@ ofSymbol Comma meaning = category.Mark
 ofSymbol Semicolon meaning = category.Mark
 ofSymbol Colon meaning = category.Mark
 ofSymbol Stray meaning = category.Nothing
+ofSymbol Dot meaning = category.Mark
+ofSymbol Literal meaning = category.Mark
 
 -- ---- between symbols
 
@@ -54,22 +56,28 @@ takenOutside Quote = category.Nothing
 takenOutside Backslash = category.Nothing
 takenOutside (Mark class) = category.Nothing
 takenOutside Above = category.Nothing
+takenOutside OpenBracket = category.Nothing
+takenOutside CloseBracket = category.Nothing
 
--- a byte of a kind, by the state in which scanning takes it: in a comment it is comment; a word does not lie between symbols
+-- a byte of a kind, by the state in which scanning takes it: in a comment it is comment; a word or literal does not lie between symbols
 abbrev pub takenIn : State → Kind → Category
 takenIn outside kind = takenOutside kind
 takenIn (inAtom start end t) kind = category.Nothing
 takenIn (inQuoted start t) kind = category.Nothing
 takenIn (takingInQuoted start t) kind = category.Nothing
+takenIn (inLiteral start) kind = category.Nothing
+takenIn (takingInLiteral start) kind = category.Nothing
 takenIn (inComment depth start) kind = category.Comment
 takenIn (takingInComment depth start) kind = category.Comment
 
--- what else, from the state that a move leads to; a word, another symbol or a fault ends what lies between symbols
+-- what else, from the state that a move leads to; a word, a literal, another symbol or a fault ends what lies between symbols
 abbrev pub behind : Move → (State → Category) → Category
 behind (go [] outside) rest = rest outside
 behind (go [] (inAtom start end t)) rest = category.Nothing
 behind (go [] (inQuoted start t)) rest = category.Nothing
 behind (go [] (takingInQuoted start t)) rest = category.Nothing
+behind (go [] (inLiteral start)) rest = category.Nothing
+behind (go [] (takingInLiteral start)) rest = category.Nothing
 behind (go [] (inComment depth start)) rest = rest (inComment depth start)
 behind (go [] (takingInComment depth start)) rest = rest (takingInComment depth start)
 behind (go (x ∷ symbols) state) rest = category.Nothing

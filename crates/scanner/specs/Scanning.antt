@@ -4,15 +4,15 @@ use mathlib.Core.List.{List, [], _∷_, _++_}
 use Rattle.octets.specs.Choice.{pick}
 use Rattle.octets.specs.Classes.{classTable}
 use Rattle.octets.specs.Letters.{sameLetters}
-use Rattle.octets.specs.Numbers.{byteAbove127, quotedNotClosed, commentNotClosed, strayControl}
+use Rattle.octets.specs.Numbers.{byteAbove127, quotedNotClosed, commentNotClosed, strayControl, literalNotClosed}
 use Rattle.octets.specs.Text.{bytes}
 use Rattle.scanner.specs.Symbols.{Symbol}
 use Rattle.scanner.specs.Kinds.{characterKind}
 use Rattle.scanner.specs.Characters.{Character, character, charactersAt}
 use Rattle.scanner.specs.declared.Class.{Class}
-use Rattle.scanner.specs.declared.Class.the-variants.{Atom, Quoted, At, Stray}
+use Rattle.scanner.specs.declared.Class.the-variants.{Atom, Quoted, At, Stray, Literal}
 use Rattle.scanner.specs.declared.Kind.{Kind}
-use Rattle.scanner.specs.declared.Kind.the-variants.{White, Control, Return, Plain, Open, Close, Quote, Backslash, Mark, Above}
+use Rattle.scanner.specs.declared.Kind.the-variants.{White, Control, Return, Plain, Open, Close, Quote, Backslash, Mark, Above, OpenBracket, CloseBracket}
 
 -- symbols in order, and then the end or the first fault with its number and position
 pub data Scanned : Type 0 where
@@ -28,6 +28,8 @@ pub data State : Type 0 where
   inAtom : ℕ → ℕ → List ℕ → State
   -- in a quoted-string, from its opening quote, with its data so far; there behind a backslash that takes the next byte
   inQuoted takingInQuoted : ℕ → List ℕ → State
+  -- in a domain literal, from its "["; there behind a backslash that takes the next byte
+  inLiteral takingInLiteral : ℕ → State
   -- in a comment: how many comments lie around this one, and the outermost "("; there behind a backslash that takes the next byte
   inComment takingInComment : ℕ → ℕ → State
 
@@ -64,6 +66,8 @@ moveOutside Quote b p = go [] (inQuoted p [])
 moveOutside Backslash b p = go (single Stray b p ∷ []) outside
 moveOutside (Mark class) b p = go (single class b p ∷ []) outside
 moveOutside Above b p = halt [] byteAbove127 p
+moveOutside OpenBracket b p = go [] (inLiteral p)
+moveOutside CloseBracket b p = go (single Stray b p ∷ []) outside
 
 -- a symbol ends before what else a character does
 abbrev pub endingWith : Symbol Class → Move → Move
@@ -82,6 +86,8 @@ moveInAtom Quote start end t b p = endingWith (atom start end t) (moveOutside Qu
 moveInAtom Backslash start end t b p = endingWith (atom start end t) (moveOutside Backslash b p)
 moveInAtom (Mark class) start end t b p = endingWith (atom start end t) (moveOutside (Mark class) b p)
 moveInAtom Above start end t b p = endingWith (atom start end t) (moveOutside Above b p)
+moveInAtom OpenBracket start end t b p = endingWith (atom start end t) (moveOutside OpenBracket b p)
+moveInAtom CloseBracket start end t b p = endingWith (atom start end t) (moveOutside CloseBracket b p)
 
 -- in a quoted-string: control bytes other than CR are data
 abbrev pub moveInQuoted : Kind → ℕ → List ℕ → ℕ → ℕ → Move
@@ -95,6 +101,23 @@ moveInQuoted Quote start t b p = go (symbol Quoted start (p + 1) t ∷ []) outsi
 moveInQuoted Backslash start t b p = go [] (takingInQuoted start t)
 moveInQuoted (Mark class) start t b p = go [] (inQuoted start (t ++ (b ∷ [])))
 moveInQuoted Above start t b p = halt [] byteAbove127 p
+moveInQuoted OpenBracket start t b p = go [] (inQuoted start (t ++ (b ∷ [])))
+moveInQuoted CloseBracket start t b p = go [] (inQuoted start (t ++ (b ∷ [])))
+
+-- in a domain literal: as in a quoted-string, but "]" closes it, and another "[" is a fault. It is no word and has no meaning
+abbrev pub moveInLiteral : Kind → ℕ → ℕ → Move
+moveInLiteral White start p = go [] (inLiteral start)
+moveInLiteral Control start p = go [] (inLiteral start)
+moveInLiteral Return start p = halt [] strayControl p
+moveInLiteral Plain start p = go [] (inLiteral start)
+moveInLiteral Open start p = go [] (inLiteral start)
+moveInLiteral Close start p = go [] (inLiteral start)
+moveInLiteral Quote start p = go [] (inLiteral start)
+moveInLiteral Backslash start p = go [] (takingInLiteral start)
+moveInLiteral (Mark class) start p = go [] (inLiteral start)
+moveInLiteral Above start p = halt [] byteAbove127 p
+moveInLiteral OpenBracket start p = halt [] literalNotClosed start
+moveInLiteral CloseBracket start p = go (symbol Literal start (p + 1) [] ∷ []) outside
 
 -- behind the ")" of a comment that lies in `depth` others
 abbrev pub closed : ℕ → ℕ → State
@@ -113,6 +136,8 @@ moveInComment Quote depth start p = go [] (inComment depth start)
 moveInComment Backslash depth start p = go [] (takingInComment depth start)
 moveInComment (Mark class) depth start p = go [] (inComment depth start)
 moveInComment Above depth start p = halt [] byteAbove127 p
+moveInComment OpenBracket depth start p = go [] (inComment depth start)
+moveInComment CloseBracket depth start p = go [] (inComment depth start)
 
 -- what a backslash takes: any byte up to 127, as data
 abbrev pub take : Kind → State → ℕ → Move
@@ -126,6 +151,8 @@ take Quote state p = go [] state
 take Backslash state p = go [] state
 take (Mark class) state p = go [] state
 take Above state p = halt [] byteAbove127 p
+take OpenBracket state p = go [] state
+take CloseBracket state p = go [] state
 
 -- a byte b of a kind, at a position p, in any state
 abbrev pub move : State → Kind → ℕ → ℕ → Move
@@ -133,6 +160,8 @@ move outside kind b p = moveOutside kind b p
 move (inAtom start end t) kind b p = moveInAtom kind start end t b p
 move (inQuoted start t) kind b p = moveInQuoted kind start t b p
 move (takingInQuoted start t) kind b p = take kind (inQuoted start (t ++ (b ∷ []))) p
+move (inLiteral start) kind b p = moveInLiteral kind start p
+move (takingInLiteral start) kind b p = take kind (inLiteral start) p
 move (inComment depth start) kind b p = moveInComment kind depth start p
 move (takingInComment depth start) kind b p = take kind (inComment depth start) p
 
@@ -142,6 +171,8 @@ atEnd outside = ended
 atEnd (inAtom start end t) = next (atom start end t) ended
 atEnd (inQuoted start t) = faultAt quotedNotClosed start
 atEnd (takingInQuoted start t) = faultAt quotedNotClosed start
+atEnd (inLiteral start) = faultAt literalNotClosed start
+atEnd (takingInLiteral start) = faultAt literalNotClosed start
 atEnd (inComment depth start) = faultAt commentNotClosed start
 atEnd (takingInComment depth start) = faultAt commentNotClosed start
 

@@ -7,7 +7,7 @@ ghost use mathlib.Core.List.{[]};
 ghost use lib.ListN.{length};
 ghost use Rattle.scanner.specs.Kinds.{kindOf};
 ghost use Rattle.scanner.specs.Characters.{foldAt, charactersAt};
-ghost use Rattle.scanner.specs.Scanning.{outside, inQuoted, atomClass, scanFrom, scanBy};
+ghost use Rattle.scanner.specs.Scanning.{outside, inQuoted, inLiteral, atomClass, scanFrom, scanBy};
 ghost use Rattle.scanner.specs.Answers.{nextOf, nextInBody, faultOf, bodyScanned};
 ghost use Rattle.scanner.specs.Categories.{ofSymbol, between, categoryOf, categoryAt};
 ghost use Rattle.scanner.specs.Steps.{StepIs, AtomEnds, CommentIs, FaultsFrom};
@@ -20,6 +20,7 @@ use octets::classes::CLASSES;
 use octets::numbers::BODY_OUT_OF_ORDER;
 use octets::numbers::BYTE_ABOVE_127;
 use octets::numbers::COMMENT_NOT_CLOSED;
+use octets::numbers::LITERAL_NOT_CLOSED;
 use octets::numbers::MESSAGE_LIMIT;
 use octets::numbers::MESSAGE_TOO_LONG;
 use octets::numbers::QUOTED_NOT_CLOSED;
@@ -36,6 +37,8 @@ pub enum Class {
     Semicolon,
     Colon,
     Stray,
+    Dot,
+    Literal,
 }
 
 // The next symbol: its class and its place, from its first byte to the position after its last.
@@ -67,6 +70,8 @@ enum Kind {
     Backslash,
     Mark(Class),
     Above,
+    OpenBracket,
+    CloseBracket,
 }
 
 // The next character: its kind, its position and the position behind it.
@@ -116,6 +121,9 @@ fn kind_of(classes: &[u8; 256], b: u8) -> Kind
         octets::classes::BACKSLASH => Kind::Backslash,
         octets::classes::QUOTE => Kind::Quote,
         octets::classes::ABOVE_127 => Kind::Above,
+        octets::classes::DOT => Kind::Mark(Class::Dot),
+        octets::classes::OPEN_BRACKET => Kind::OpenBracket,
+        octets::classes::CLOSE_BRACKET => Kind::CloseBracket,
         _ => Kind::Plain,
     }
 }
@@ -213,6 +221,35 @@ fn quoted_end(classes: &[u8; 256], text: &[u8], start: usize, at: usize) -> Next
     }
 }
 
+// The rest of a domain literal whose "[" stands at start.
+fn literal_end(classes: &[u8; 256], text: &[u8], start: usize, at: usize) -> Next
+    requires { ⌜ at ≤ length (now text) ⌝ }
+    ensures { λ r. ⌜ r ≡ nextOf (scanFrom (now (classes .entry)) (charactersAt (now (text .entry)) at) (inLiteral start)) ⌝ }
+{
+    let mut p = at;
+    loop {
+        let Step::Byte(kind, here, q) = character(classes, text, p) else {
+            return Next::Fault(LITERAL_NOT_CLOSED, start);
+        };
+        match kind {
+            Kind::CloseBracket => return Next::Found(Class::Literal, start, q),
+            Kind::Return => return Next::Fault(STRAY_CONTROL, here),
+            Kind::Above => return Next::Fault(BYTE_ABOVE_127, here),
+            Kind::Backslash => {
+                let Step::Byte(taken, place, behind) = character(classes, text, q) else {
+                    return Next::Fault(LITERAL_NOT_CLOSED, start);
+                };
+                if let Kind::Above = taken {
+                    return Next::Fault(BYTE_ABOVE_127, place);
+                }
+                p = behind;
+            }
+            Kind::OpenBracket => return Next::Fault(LITERAL_NOT_CLOSED, start),
+            _ => p = q,
+        }
+    }
+}
+
 // The rest of a comment whose "(" stands at start.
 fn comment_end(classes: &[u8; 256], text: &[u8], start: usize, at: usize) -> Comment
     requires { ⌜ at ≤ length (now text) ⌝ }
@@ -273,9 +310,14 @@ pub fn next_by(classes: &[u8; 256], text: &[u8], at: usize) -> Next
                 return Next::Found(atom_class(text, here, end), here, end);
             }
             Kind::Mark(class) => return Next::Found(class, here, q),
-            Kind::Close | Kind::Backslash => return Next::Found(Class::Stray, here, q),
+            Kind::Close | Kind::Backslash | Kind::CloseBracket => return Next::Found(
+                Class::Stray,
+                here,
+                q,
+            ),
             Kind::Control | Kind::Return => return Next::Fault(STRAY_CONTROL, here),
             Kind::Above => return Next::Fault(BYTE_ABOVE_127, here),
+            Kind::OpenBracket => return literal_end(classes, text, here, q),
         }
     }
 }

@@ -541,7 +541,7 @@ read-list-read-address-requires t c κs =
     let w = (rw (c .before .before .before .ahead .given .1) at (c .before .before .before .before .before .loop .inv .1)) in
     let r = c .before .before .before .before .before .before .before .before .before .pre .1 in (
       omega (arith, c .before .before .before .before .before .before .before .before .before .pre .0, w .from, w .ahead-ok .0, w .ahead-ok .1 .starts, w .ahead-ok .1 .within),
-      record { begins = (by-class-not (0 ∷ 1 ∷ 2 ∷ 3 ∷ 7 ∷ 8 ∷ []) endsAddress tt (c .before .before .before .ahead .given .0 .0) (c .before .match2 .keys3)); stands = w .ahead-ok .1; ready = record { short = r .ready .short; levels-low = r .ready .levels-low; number-low = omega (arith, w .free-low, w .ahead-ok .0) } },
+      record { begins = (by-class-not (0 ∷ 1 ∷ 2 ∷ 3 ∷ 7 ∷ 8 ∷ 9 ∷ 10 ∷ []) endsAddress tt (c .before .before .before .ahead .given .0 .0) (c .before .match2 .keys3)); stands = w .ahead-ok .1; ready = record { short = r .ready .short; levels-low = r .ready .levels-low; number-low = omega (arith, w .free-low, w .ahead-ok .0) } },
     )
 
 read-list-enum-known-number : (t : ℕ) → read-list-lts.Need-enum-known-number (
@@ -566,7 +566,7 @@ read-list-returns-3 : (t : ℕ) → read-list-lts.Need-returns-3 (
   read-address-below t,
   read-address.Post,
 ) (read-list-at t) read-list.Post read-list-Inv-loop read-list-μ-loop
-read-list-returns-3 t c = list-stops _ _ (rw (c .before .before .before .before .before .before .before .before .before .ahead .given .1) at (c .before .before .before .before .before .before .before .before .before .before .before .loop .inv .1)) (by-class-not (0 ∷ 1 ∷ 2 ∷ 3 ∷ 7 ∷ 8 ∷ []) endsAddress tt (c .before .before .before .before .before .before .before .before .before .ahead .given .0 .0) (c .before .before .before .before .before .before .before .match2 .keys3)) (rw (c .before .number .given .1) at (c .before .before .before .before .before .read-address .ensures))
+read-list-returns-3 t c = list-stops _ _ (rw (c .before .before .before .before .before .before .before .before .before .ahead .given .1) at (c .before .before .before .before .before .before .before .before .before .before .before .loop .inv .1)) (by-class-not (0 ∷ 1 ∷ 2 ∷ 3 ∷ 7 ∷ 8 ∷ 9 ∷ 10 ∷ []) endsAddress tt (c .before .before .before .before .before .before .before .before .before .ahead .given .0 .0) (c .before .before .before .before .before .before .before .match2 .keys3)) (rw (c .before .number .given .1) at (c .before .before .before .before .before .read-address .ensures))
 
 read-list-enum-known-behind : (t : ℕ) → read-list-lts.Need-enum-known-behind (
   next-by-reads.Asked,
@@ -591,7 +591,7 @@ read-list-loop-again-2 : (t : ℕ) → read-list-lts.Need-loop-again-2 (
   read-address.Post,
 ) (read-list-at t) read-list.Post read-list-Inv-loop read-list-μ-loop
 read-list-loop-again-2 t c =
-    (omega (arith, c .before .before .before .before .before .before .before .before .before .before .before .loop .inv .0, c .before .before .before .before .before .read-address .kept .1 .1 .0), list-address _ _ _ _ (rw (c .before .before .before .before .before .before .before .before .before .ahead .given .1) at (c .before .before .before .before .before .before .before .before .before .before .before .loop .inv .1)) (by-class-not (0 ∷ 1 ∷ 2 ∷ 3 ∷ 7 ∷ 8 ∷ []) endsAddress tt (c .before .before .before .before .before .before .before .before .before .ahead .given .0 .0) (c .before .before .before .before .before .before .before .match2 .keys3)) (rw (c .before .behind .given .1) at (c .before .before .before .before .before .read-address .ensures)))
+    (omega (arith, c .before .before .before .before .before .before .before .before .before .before .before .loop .inv .0, c .before .before .before .before .before .read-address .kept .1 .1 .0), list-address _ _ _ _ (rw (c .before .before .before .before .before .before .before .before .before .ahead .given .1) at (c .before .before .before .before .before .before .before .before .before .before .before .loop .inv .1)) (by-class-not (0 ∷ 1 ∷ 2 ∷ 3 ∷ 7 ∷ 8 ∷ 9 ∷ 10 ∷ []) endsAddress tt (c .before .before .before .before .before .before .before .before .before .ahead .given .0 .0) (c .before .before .before .before .before .before .before .match2 .keys3)) (rw (c .before .behind .given .1) at (c .before .before .before .before .before .read-address .ensures)))
 
 read-named-is-quoted-requires : (t : ℕ) → read-named-lts.Need-is-quoted-requires (
   is-quoted-reads.Asked,

@@ -23,7 +23,7 @@ returns-2 c =
 returns-3 : tie.Need-returns-3
 returns-3 c =
     let f = c .before .before .ahead .given in
-    sym (ap endsAddressNext (f .1) ∙ by-class-not (0 ∷ 1 ∷ 2 ∷ 3 ∷ 7 ∷ 8 ∷ []) endsAddress tt (f .0 .0) (c .match2 .keys2))
+    sym (ap endsAddressNext (f .1) ∙ by-class-not (0 ∷ 1 ∷ 2 ∷ 3 ∷ 7 ∷ 8 ∷ 9 ∷ 10 ∷ []) endsAddress tt (f .0 .0) (c .match2 .keys2))
 
 pub ends-address-spec : {M : Type 1} → statement M
 ends-address-spec = tie.close (tie.spec enum-known-ahead returns returns-2 returns-3)

@@ -14,7 +14,7 @@ returns : tie.Need-returns
 returns c = search needs
 
 returns-2 : tie.Need-returns-2
-returns-2 c = sym (by-class-not (0 ∷ 2 ∷ 3 ∷ 4 ∷ 5 ∷ 6 ∷ 7 ∷ 8 ∷ []) isQuoted tt (c .before .args .class) (c .match .keys2))
+returns-2 c = sym (by-class-not (0 ∷ 2 ∷ 3 ∷ 4 ∷ 5 ∷ 6 ∷ 7 ∷ 8 ∷ 9 ∷ 10 ∷ []) isQuoted tt (c .before .args .class) (c .match .keys2))
 
 pub is-quoted-spec : {M : Type 1} → statement M
 is-quoted-spec = tie.close (tie.spec enum-told returns returns-2)

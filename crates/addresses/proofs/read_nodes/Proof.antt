@@ -88,7 +88,7 @@ returns-4 c =
 returns-5 : tie.Need-returns-5 Inv-loop μ-loop
 returns-5 c =
     let f = c .before .before .ahead .given in
-    stops-behind-node _ _ (read (c .before .before .before .before .before)) (rw (f .1) at (seen-behind (c .before .before .before .before))) (by-class-not (0 ∷ 1 ∷ 3 ∷ 7 ∷ 8 ∷ []) followsNode tt (f .0 .0) (c .match3 .keys3))
+    stops-behind-node _ _ (read (c .before .before .before .before .before)) (rw (f .1) at (seen-behind (c .before .before .before .before))) (by-class-not (0 ∷ 1 ∷ 3 ∷ 7 ∷ 8 ∷ 9 ∷ 10 ∷ []) followsNode tt (f .0 .0) (c .match3 .keys3))
 
 pub read-nodes-spec : {M : Type 1} → statement M
 read-nodes-spec =

@@ -3,7 +3,7 @@ use mathlib.Core.Path.{_≡_, sym, ap, _∙_}
 use mathlib.Core.List.{List, _++_}
 use Prim.Native.Nat.{ℕ}
 use Rattle.octets.proofs.Parts.{no-front}
-use Rattle.addresses.proofs.WholeLaws.{twice-refused, twice-no-room, twice-accepted, twice-never}
+use Rattle.addresses.proofs.AnyEdition.{twice-refused, twice-no-room, twice-accepted, twice-never}
 use borrow.Author.Needs.{needs}
 use Rattle.addresses.proofs.read_twice.Statement.{statement}
 use Rattle.addresses.proofs.read_twice.Tie as tie
@@ -29,7 +29,7 @@ same-length c = search needs
 returns : tie.Need-returns
 returns c =
     let u = no-front (c .before .before .before .before .before .before .read-whole .last .1 .1 .0) (c .before .before .before .before .before .before .before .before .before .before .args .table .now) (c .before .before .before .before .before .before .read-whole .kept .1 .1 .0) in
-    rw u (twice-no-room _ _ (c .before .before .before .before .before .before .before .before .before .before .args .table .now) (rw (c .before .before .count .given .1) at (c .before .before .before .before .before .before .read-whole .ensures)) (rw u at (c .if1 .taken)))
+    rw u (twice-no-room _ _ _ (c .before .before .before .before .before .before .before .before .before .before .args .table .now) (rw (c .before .before .count .given .1) at (c .before .before .before .before .before .before .read-whole .ensures)) (rw u at (c .if1 .taken)))
 
 read-whole-requires-2 : tie.Need-read-whole-requires-2
 read-whole-requires-2 c κs = search needs
@@ -46,13 +46,13 @@ same-length-2 c = search needs
 returns-2 : tie.Need-returns-2
 returns-2 c =
     let u = no-front (c .before .before .before .before .before .read-whole .last .1 .1 .0) (c .before .before .before .before .before .before .before .before .before .args .table .now) (c .before .before .before .before .before .read-whole .kept .1 .1 .0) in
-    rw u (twice-refused _ _ (c .before .before .before .before .before .before .before .before .before .args .table .now) (rw (c .before .number .given .1) at (c .before .before .before .before .before .read-whole .ensures)))
+    rw u (twice-refused _ _ _ (c .before .before .before .before .before .before .before .before .before .args .table .now) (rw (c .before .number .given .1) at (c .before .before .before .before .before .read-whole .ensures)))
 
 same-length-3 : tie.Need-same-length-3
 same-length-3 c = search needs
 
 returns-3 : tie.Need-returns-3
-returns-3 c = twice-never _ _ (c .before .before .before .before .before .before .before .before .before .before .before .before .before .before .before .before .before .args .table .now) (rw (c .before .before .before .before .before .before .before .before .before .count .given .1) at (c .before .before .before .before .before .before .before .before .before .before .before .before .before .read-whole .ensures)) (rw (c .before .number2 .given .1) at (c .before .before .before .before .before .read-whole2 .ensures))
+returns-3 c = twice-never _ _ _ (c .before .before .before .before .before .before .before .before .before .before .before .before .before .before .before .before .before .args .table .now) (rw (c .before .before .before .before .before .before .before .before .before .count .given .1) at (c .before .before .before .before .before .before .before .before .before .before .before .before .before .read-whole .ensures)) (rw (c .before .number2 .given .1) at (c .before .before .before .before .before .read-whole2 .ensures))
 
 same-length-4 : tie.Need-same-length-4
 same-length-4 c = search needs
@@ -60,7 +60,7 @@ same-length-4 c = search needs
 returns-4 : tie.Need-returns-4
 returns-4 c =
     let u = no-front (c .before .before .before .before .before .before .before .before .before .before .before .before .before .read-whole .last .1 .1 .0) (c .before .before .before .before .before .before .before .before .before .before .before .before .before .before .before .before .before .args .table .now) (c .before .before .before .before .before .before .before .before .before .before .before .before .before .read-whole .kept .1 .1 .0) in
-    twice-accepted _ _ (c .before .before .before .before .before .before .before .before .before .before .before .before .before .before .before .before .before .args .table .now) (rw (c .before .before .before .before .before .before .before .before .before .count .given .1) at (c .before .before .before .before .before .before .before .before .before .before .before .before .before .read-whole .ensures)) (rw u at (c .before .before .before .before .before .before .before .if1 .left))
+    twice-accepted _ _ _ (c .before .before .before .before .before .before .before .before .before .before .before .before .before .before .before .before .before .args .table .now) (rw (c .before .before .before .before .before .before .before .before .before .count .given .1) at (c .before .before .before .before .before .before .before .before .before .before .before .before .before .read-whole .ensures)) (rw u at (c .before .before .before .before .before .before .before .if1 .left))
     (rw u at (rw (c .before .written .given .1) at (c .before .before .before .before .before .read-whole2 .ensures)))
 
 pub read-twice-spec : {M : Type 1} → statement M

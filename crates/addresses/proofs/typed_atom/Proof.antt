@@ -43,7 +43,7 @@ enum-told : tie.Need-enum-told
 enum-told c = search needs
 
 returns-2 : tie.Need-returns-2
-returns-2 c = let f = c .before .before .class .given in no-atom _ _ (rw (f .1) at (first (c .before .before .before .before))) (by-class-not (1 ∷ 2 ∷ 3 ∷ 4 ∷ 5 ∷ 6 ∷ 7 ∷ 8 ∷ []) (sameClass Atom) tt (f .0 .0) (c .match2 .keys2))
+returns-2 c = let f = c .before .before .class .given in no-atom _ _ (rw (f .1) at (first (c .before .before .before .before))) (by-class-not (1 ∷ 2 ∷ 3 ∷ 4 ∷ 5 ∷ 6 ∷ 7 ∷ 8 ∷ 9 ∷ 10 ∷ []) (sameClass Atom) tt (f .0 .0) (c .match2 .keys2))
 
 next-by-requires-2 : tie.Need-next-by-requires-2
 next-by-requires-2 c κs = search needs
@@ -60,7 +60,7 @@ enum-told-2 : tie.Need-enum-told-2
 enum-told-2 c = search needs
 
 returns-4 : tie.Need-returns-4
-returns-4 c = let f = c .before .before .mark .given in no-colon _ _ (atom (c .before .before .before .before .before)) (rw (f .1) at (second (c .before .before .before .before))) (by-class-not (0 ∷ 1 ∷ 2 ∷ 3 ∷ 4 ∷ 5 ∷ 6 ∷ 8 ∷ []) (sameClass Colon) tt (f .0 .0) (c .match4 .keys2))
+returns-4 c = let f = c .before .before .mark .given in no-colon _ _ (atom (c .before .before .before .before .before)) (rw (f .1) at (second (c .before .before .before .before))) (by-class-not (0 ∷ 1 ∷ 2 ∷ 3 ∷ 4 ∷ 5 ∷ 6 ∷ 8 ∷ 9 ∷ 10 ∷ []) (sameClass Colon) tt (f .0 .0) (c .match4 .keys2))
 
 returns-5 : tie.Need-returns-5
 returns-5 c = let f = c .before .before .before .mark .given in typed-follows _ _ (atom (c .before .before .before .before .before .before)) (rw (c .enum-told2 .given .1) at (rw (f .1) at (second (c .before .before .before .before .before))))

@@ -10,7 +10,7 @@ returns : tie.Need-returns
 returns c = sym (ap kindIf (by-class (3 ∷ 4 ∷ []) isAngle tt (c .before .args .class) (c .match .keys1)))
 
 returns-2 : tie.Need-returns-2
-returns-2 c = sym (ap kindIf (by-class-not (0 ∷ 1 ∷ 2 ∷ 5 ∷ 6 ∷ 7 ∷ 8 ∷ []) isAngle tt (c .before .args .class) (c .match .keys2)))
+returns-2 c = sym (ap kindIf (by-class-not (0 ∷ 1 ∷ 2 ∷ 5 ∷ 6 ∷ 7 ∷ 8 ∷ 9 ∷ 10 ∷ []) isAngle tt (c .before .args .class) (c .match .keys2)))
 
 pub enclosure-spec : {M : Type 1} → statement M
 enclosure-spec = tie.close (tie.spec returns returns-2)

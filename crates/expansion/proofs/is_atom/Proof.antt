@@ -15,7 +15,7 @@ returns : tie.Need-returns
 returns c = rw (c .enum-told .given .1) refl
 
 returns-2 : tie.Need-returns-2
-returns-2 c = sym (by-class-not (1 ∷ 2 ∷ 3 ∷ 4 ∷ 5 ∷ 6 ∷ 7 ∷ 8 ∷ []) (sameClass Atom) tt (c .before .args .class) (c .match .keys2))
+returns-2 c = sym (by-class-not (1 ∷ 2 ∷ 3 ∷ 4 ∷ 5 ∷ 6 ∷ 7 ∷ 8 ∷ 9 ∷ 10 ∷ []) (sameClass Atom) tt (c .before .args .class) (c .match .keys2))
 
 pub is-atom-spec : {M : Type 1} → statement M
 is-atom-spec = tie.close (tie.spec enum-told returns returns-2)

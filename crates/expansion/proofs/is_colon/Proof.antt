@@ -15,7 +15,7 @@ returns : tie.Need-returns
 returns c = rw (c .enum-told .given .1) refl
 
 returns-2 : tie.Need-returns-2
-returns-2 c = sym (by-class-not (0 ∷ 1 ∷ 2 ∷ 3 ∷ 4 ∷ 5 ∷ 6 ∷ 8 ∷ []) (sameClass Colon) tt (c .before .args .class) (c .match .keys2))
+returns-2 c = sym (by-class-not (0 ∷ 1 ∷ 2 ∷ 3 ∷ 4 ∷ 5 ∷ 6 ∷ 8 ∷ 9 ∷ 10 ∷ []) (sameClass Colon) tt (c .before .args .class) (c .match .keys2))
 
 pub is-colon-spec : {M : Type 1} → statement M
 is-colon-spec = tie.close (tie.spec enum-told returns returns-2)

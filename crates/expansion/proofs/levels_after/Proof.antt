@@ -1,5 +1,5 @@
 -- `expansion::levels_after` meets its contract. Assumes nothing.
-use Rattle.scanner.specs.declared.Class.the-variants.{Quoted, At, LessThan, GreaterThan, Comma, Semicolon, Stray}
+use Rattle.scanner.specs.declared.Class.the-variants.{Quoted, At, LessThan, GreaterThan, Comma, Semicolon, Stray, Dot, Literal}
 use Rattle.expansion.proofs.LevelLaws.{as-class, atom-typed, atom-untyped, colon-typing, colon-list}
 use borrow.Author.Needs.{needs}
 use Rattle.expansion.proofs.levels_after.Statement.{statement}
@@ -71,6 +71,12 @@ with-list-requires-2 c κs = search needs
 enum-told-9 : tie.Need-enum-told-9
 enum-told-9 c = search needs
 
+enum-told-10 : tie.Need-enum-told-10
+enum-told-10 c = search needs
+
+enum-told-11 : tie.Need-enum-told-11
+enum-told-11 c = search needs
+
 returns-3 : tie.Need-returns-3
 returns-3 c = let a = c .before .before .before .before .before .args in atom-untyped (a .place) (a .colon) (a .levels) _ (c .before .before .before .enum-told .given .1) (c .before .before .after-atom .ensures) (c .before .is-typing .ensures) (c .if1 .left) (λ s i. i)
 
@@ -98,6 +104,12 @@ returns-10 c = let a = c .before .before .before .before .before .args in colon-
 returns-11 : tie.Need-returns-11
 returns-11 c = let a = c .before .before .args in as-class (a .place) (a .colon) (a .levels) _ Stray (c .enum-told9 .given .1) (λ s i. i)
 
+returns-12 : tie.Need-returns-12
+returns-12 c = let a = c .before .before .args in as-class (a .place) (a .colon) (a .levels) _ Dot (c .enum-told10 .given .1) (λ s i. i)
+
+returns-13 : tie.Need-returns-13
+returns-13 c = let a = c .before .before .args in as-class (a .place) (a .colon) (a .levels) _ Literal (c .enum-told11 .given .1) (λ s i. i)
+
 pub levels-after-spec : {M : Type 1} → statement M
 levels-after-spec =
     tie.close
@@ -124,6 +136,8 @@ levels-after-spec =
     returns-2
     with-list-requires-2
     enum-told-9
+    enum-told-10
+    enum-told-11
     returns-3
     returns-4
     returns-5
@@ -132,4 +146,6 @@ levels-after-spec =
     returns-8
     returns-9
     returns-10
-    returns-11)
+    returns-11
+    returns-12
+    returns-13)

@@ -1,7 +1,7 @@
 -- `plain::put_symbol` meets its contract. Assumes nothing.
 use native.Mathlib.Omega.{arith}
 use Rattle.octets.proofs.Writes.{wrote-nothing, wrote-three}
-use Rattle.plain.proofs.WalkSteps.{wrote-gap}
+use Rattle.plain.proofs.WalkSteps.{unwritten, wrote-gap}
 use borrow.Author.Needs.{needs}
 use Rattle.plain.proofs.put_symbol.Statement.{statement}
 use Rattle.plain.proofs.put_symbol.Tie as tie
@@ -81,9 +81,6 @@ put-gap-requires-4 c κs = search needs
 put-requires-7 : tie.Need-put-requires-7
 put-requires-7 c κs = search needs
 
-enum-told-9 : tie.Need-enum-told-9
-enum-told-9 c = search needs
-
 same-length : tie.Need-same-length
 same-length c = search needs
 
@@ -150,7 +147,7 @@ returns-8 c =
     (rw (c .before .before .before .before .before .before .before .before .before .enum-told8 .given .1) (wrote-gap (c .before .before .before .before .before .before .before .gap-before-colon .ensures) (p .ensures .0) (q .ensures .0)), omega (arith, p .ensures .1, q .ensures .1))
 
 returns-9 : tie.Need-returns-9
-returns-9 c = (rw (c .enum-told9 .given .1) (wrote-nothing _ _), omega arith)
+returns-9 c = (unwritten (c .before .before .before .args .class) (c .match .keys9) _ _ _ _ _ .0, omega arith)
 
 pub put-symbol-spec : {M : Type 1} → statement M
 put-symbol-spec =
@@ -181,7 +178,6 @@ put-symbol-spec =
     gap-before-colon-requires
     put-gap-requires-4
     put-requires-7
-    enum-told-9
     same-length
     returns
     same-length-2

@@ -69,23 +69,38 @@ returns-14 c =
 
 returns-15 : tie.Need-returns-15
 returns-15 c =
+    class-kind (c .before .before .before .args .classes .now) (c .before .before .before .args .b) (c .before .before .if1 .left) (c .before .class-in .ensures) (rw (c .match .keys14))
+
+returns-16 : tie.Need-returns-16
+returns-16 c =
+    class-kind (c .before .before .before .args .classes .now) (c .before .before .before .args .b) (c .before .before .if1 .left) (c .before .class-in .ensures) (rw (c .match .keys15))
+
+returns-17 : tie.Need-returns-17
+returns-17 c =
+    class-kind (c .before .before .before .args .classes .now) (c .before .before .before .args .b) (c .before .before .if1 .left) (c .before .class-in .ensures) (rw (c .match .keys16))
+
+returns-18 : tie.Need-returns-18
+returns-18 c =
     let x : ℕ = c .before .class-in .result in
     let r = c .match .rest in
     class-kind (c .before .before .before .args .classes .now) (c .before .before .before .args .b) (c .before .before .if1 .left) (c .before .class-in .ensures)
     (simp (
-      ne-eqb x 0 (r .0 .0 .0 .0 .0 .0 .0 .0 .0 .0 .0 .0 .1),
-      ne-eqb x 1 (r .0 .0 .0 .0 .0 .0 .0 .0 .0 .0 .0 .1),
-      ne-eqb x 4 (r .0 .0 .0 .0 .0 .0 .0 .0 .0 .0 .1),
-      ne-eqb x 5 (r .0 .0 .0 .0 .0 .0 .0 .0 .0 .1),
-      ne-eqb x 6 (r .0 .0 .0 .0 .0 .0 .0 .0 .1),
-      ne-eqb x 7 (r .0 .0 .0 .0 .0 .0 .0 .1),
-      ne-eqb x 8 (r .0 .0 .0 .0 .0 .0 .1),
-      ne-eqb x 9 (r .0 .0 .0 .0 .0 .1),
-      ne-eqb x 10 (r .0 .0 .0 .0 .1),
-      ne-eqb x 11 (r .0 .0 .0 .1),
-      ne-eqb x 12 (r .0 .0 .1),
-      ne-eqb x 13 (r .0 .1),
-      ne-eqb x 15 (r .1),
+      ne-eqb x 0 (r .0 .0 .0 .0 .0 .0 .0 .0 .0 .0 .0 .0 .0 .0 .0 .1),
+      ne-eqb x 1 (r .0 .0 .0 .0 .0 .0 .0 .0 .0 .0 .0 .0 .0 .0 .1),
+      ne-eqb x 4 (r .0 .0 .0 .0 .0 .0 .0 .0 .0 .0 .0 .0 .0 .1),
+      ne-eqb x 5 (r .0 .0 .0 .0 .0 .0 .0 .0 .0 .0 .0 .0 .1),
+      ne-eqb x 6 (r .0 .0 .0 .0 .0 .0 .0 .0 .0 .0 .0 .1),
+      ne-eqb x 7 (r .0 .0 .0 .0 .0 .0 .0 .0 .0 .0 .1),
+      ne-eqb x 8 (r .0 .0 .0 .0 .0 .0 .0 .0 .0 .1),
+      ne-eqb x 9 (r .0 .0 .0 .0 .0 .0 .0 .0 .1),
+      ne-eqb x 10 (r .0 .0 .0 .0 .0 .0 .0 .1),
+      ne-eqb x 11 (r .0 .0 .0 .0 .0 .0 .1),
+      ne-eqb x 12 (r .0 .0 .0 .0 .0 .1),
+      ne-eqb x 13 (r .0 .0 .0 .0 .1),
+      ne-eqb x 15 (r .0 .0 .0 .1),
+      ne-eqb x 16 (r .0 .0 .1),
+      ne-eqb x 17 (r .0 .1),
+      ne-eqb x 18 (r .1),
     ))
 
 pub kind-of-spec : {M : Type 1} → statement M
@@ -107,4 +122,7 @@ kind-of-spec =
     returns-12
     returns-13
     returns-14
-    returns-15)
+    returns-15
+    returns-16
+    returns-17
+    returns-18)

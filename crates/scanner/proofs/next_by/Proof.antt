@@ -7,7 +7,7 @@ use Prim.Native.Nat.{ℕ, suc, _+_, _-_, _≤_}
 use lib.ListN.{length, getD}
 use Rattle.octets.specs.Numbers.{byteAbove127, strayControl}
 use Rattle.octets.specs.Text.{part}
-use Rattle.scanner.specs.Scanning.{outside, inQuoted, inComment, atom, atomClass, single, go, halt, scanBy}
+use Rattle.scanner.specs.Scanning.{outside, inQuoted, inLiteral, inComment, atom, atomClass, single, go, halt, scanBy}
 use Rattle.scanner.specs.Answers.{nextOf}
 use Rattle.scanner.specs.Steps.{FirstCharacter, StepIs, AtomEnds, CommentIs, CommentEnds}
 use Rattle.scanner.specs.declared.Class.{Class}
@@ -127,6 +127,16 @@ returns-8 : tie.Need-returns-8 Inv-loop μ-loop
 returns-8 c =
     sym (ap nextOf (c .before .before .before .before .before .before .loop .inv ∙ moves (rw (c .enum-told6 .given .1) at (first (c .before .before .before))) outside (halt [] byteAbove127 _) refl))
 
+enum-told-7 : tie.Need-enum-told-7 Inv-loop μ-loop
+enum-told-7 c = search needs
+
+literal-end-requires : tie.Need-literal-end-requires Inv-loop μ-loop
+literal-end-requires c κs = first (c .before .before .before) .within
+
+returns-9 : tie.Need-returns-9 Inv-loop μ-loop
+returns-9 c =
+    c .literal-end .ensures ∙ sym (ap nextOf (c .before .before .before .before .before .before .before .loop .inv ∙ moves (rw (c .before .enum-told7 .given .1) at (first (c .before .before .before .before))) outside (go [] (inLiteral _)) refl))
+
 pub next-by-spec : {M : Type 1} → statement M
 next-by-spec =
     tie.close
@@ -160,4 +170,7 @@ next-by-spec =
     returns-6
     returns-7
     enum-told-6
-    returns-8)
+    returns-8
+    enum-told-7
+    literal-end-requires
+    returns-9)

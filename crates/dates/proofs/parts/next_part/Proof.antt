@@ -21,23 +21,20 @@ next-by-requires c κs = search needs
 enum-known-class : tie.Need-enum-known-class
 enum-known-class c = search needs
 
-enum-told : tie.Need-enum-told
-enum-told c = search needs
-
 first-part-requires-2 : tie.Need-first-part-requires-2
 first-part-requires-2 c κs = let x = found-symbol (c .before .before) in (x .starts, x .within)
+
+enum-told : tie.Need-enum-told
+enum-told c = search needs
 
 enum-told-2 : tie.Need-enum-told-2
 enum-told-2 c = search needs
 
-enum-told-3 : tie.Need-enum-told-3
-enum-told-3 c = search needs
-
 returns-2 : tie.Need-returns-2
 returns-2 c =
-    let a = c .before .before .before .before .before .before .before .before .args in
-    let if1 = c .before .before .before .before .before .before .if1 in
-    part-quoted (a .classes .now) (a .text .now) (a .at) (a .end) (if1 .left) (rw (c .enum-told .given .1) at (found-symbol (c .before .before .before)))
+    let a = c .before .before .before .before .before .before .before .args in
+    let if1 = c .before .before .before .before .before .if1 in
+    part-quoted (a .classes .now) (a .text .now) (a .at) (a .end) (if1 .left) (found-symbol (c .before .before)) (c .match2 .keys1)
 
 returns-3 : tie.Need-returns-3
 returns-3 c =
@@ -52,7 +49,7 @@ returns-4 c =
     let p = c .before .before .before .before .before .pre in
     let if1 = c .before .before .before .if1 in
     let next-by = c .before .before .next-by in
-    part-ended (a .classes .now) (a .text .now) (a .at) (a .end) (if1 .left) (p .inside) (found-end (a .classes .now) (a .text .now) (a .end) (rw (c .enum-told2 .given .1) at (next-by .ensures)))
+    part-ended (a .classes .now) (a .text .now) (a .at) (a .end) (if1 .left) (p .inside) (found-end (a .classes .now) (a .text .now) (a .end) (rw (c .enum-told .given .1) at (next-by .ensures)))
 
 returns-5 : tie.Need-returns-5
 returns-5 c =
@@ -60,7 +57,7 @@ returns-5 c =
     let p = c .before .before .before .before .before .pre in
     let if1 = c .before .before .before .if1 in
     let next-by = c .before .before .next-by in
-    part-fault (a .classes .now) (a .text .now) (a .at) (a .end) (if1 .left) (p .inside) (found-fault (a .classes .now) (a .text .now) (a .end) (rw (c .enum-told3 .given .1) at (next-by .ensures)))
+    part-fault (a .classes .now) (a .text .now) (a .at) (a .end) (if1 .left) (p .inside) (found-fault (a .classes .now) (a .text .now) (a .end) (rw (c .enum-told2 .given .1) at (next-by .ensures)))
 
 pub next-part-spec : {M : Type 1} → statement M
 next-part-spec =
@@ -70,10 +67,9 @@ next-part-spec =
     returns
     next-by-requires
     enum-known-class
-    enum-told
     first-part-requires-2
+    enum-told
     enum-told-2
-    enum-told-3
     returns-2
     returns-3
     returns-4

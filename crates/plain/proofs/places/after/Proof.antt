@@ -1,4 +1,6 @@
 -- `plain::places::after` meets its contract. Assumes nothing.
+use mathlib.Core.List.{[]}
+use Rattle.plain.proofs.WalkSteps.{unwritten}
 use borrow.Author.Needs.{needs}
 use Rattle.plain.proofs.places.after.Statement.{statement}
 use Rattle.plain.proofs.places.after.Tie as tie
@@ -36,9 +38,6 @@ enum-told-8 c = search needs
 after-colon-requires : tie.Need-after-colon-requires
 after-colon-requires c κs = search needs
 
-enum-told-9 : tie.Need-enum-told-9
-enum-told-9 c = search needs
-
 returns : tie.Need-returns
 returns c = rw (c .before .enum-told .given .1) (c .after-atom .ensures)
 
@@ -64,7 +63,7 @@ returns-8 : tie.Need-returns-8
 returns-8 c = search needs
 
 returns-9 : tie.Need-returns-9
-returns-9 c = search needs
+returns-9 c = unwritten (c .before .args .class) (c .match .keys9) [] _ _ [] 0 .1
 
 pub after-spec : {M : Type 1} → statement M
 after-spec =
@@ -81,7 +80,6 @@ after-spec =
     enum-told-7
     enum-told-8
     after-colon-requires
-    enum-told-9
     returns
     returns-2
     returns-3

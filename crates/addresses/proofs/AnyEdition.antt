@@ -1,0 +1,102 @@
+-- In any edition: what a verdict decides, what two runs of a reader give, and that condition 3 says what the outcome says. Assumes nothing.
+use mathlib.Core.Path.{_≡_, refl, sym, ap, _∙_}
+use mathlib.Core.List.{List}
+use Prim.Native.Nat.{ℕ, _/_, _≤_, _<_}
+use native.Mathlib.Omega.{arith}
+use borrow.Author.Tests.{lt-ltb, le-ltb}
+use lib.ListN.{length, take}
+use lib.Seq.{sets, length-take-le}
+use Rattle.octets.specs.Numbers.{messageLimit, levelLimit, addressRecordSize}
+use Rattle.octets.specs.Stored.{roomFor}
+use Rattle.octets.specs.declared.answers.Answer.{Answer}
+use Rattle.octets.specs.declared.answers.Answer.the-variants.{Accepted, Refused, NoRoom}
+use Rattle.scanner.specs.Symbols.{Symbol}
+use Rattle.scanner.specs.Scanning.{scanBy}
+use Rattle.scanner.specs.Answers.{unlessFault, faultOf}
+use Rattle.scanner.specs.declared.Class.{Class}
+use Rattle.scanner.proofs.BodyChecks.{in-order, unless-none}
+use Rattle.grammar.specs.Grammar.{Row}
+use Rattle.grammar.specs.Language.{Verdict, accepted, refused}
+use Rattle.grammar.specs.Records.{count, records, tableBytes}
+use Rattle.grammar.proofs.AnyReader.{Reads, answer-accepts, answer-derives}
+use Rattle.addresses.specs.Editions.{Edition}
+use Rattle.addresses.specs.Outcome.{Outcome, refusal, derived, byVerdict, decided, symbolsIn, readIn, outcomeIn}
+use Rattle.addresses.specs.Condition3.{IsListIn, Settled, Condition3In}
+use Rattle.addresses.specs.Whole.{IsListed, IsRefused, TwiceIs, TextIs}
+
+-- ---- two runs
+
+module _ {N : Type 0} (verdict : List (Symbol Class) → Verdict Class (Row Class N)) (classes text : List ℕ) {at : ℕ} (table : List ℕ) where
+  pub twice-refused : {number-told place : ℕ} → IsRefused verdict classes text at number-told place → TwiceIs verdict classes text at table table (Refused number-told place)
+  twice-refused s = record { answer-is = rw (s .verdict-is, s .number-is, s .place-is); table-is = rw (s .verdict-is) }
+
+  pub twice-no-room : {dry after : List ℕ} {n : ℕ} → IsListed verdict classes text at dry after n → length table / addressRecordSize < n → TwiceIs verdict classes text at table table (NoRoom n)
+  twice-no-room l h =
+      let q : roomFor addressRecordSize table < count (l .derivation) = rw (← (l .count-is)) h in
+      record { answer-is = rw (l .verdict-is, lt-ltb (roomFor addressRecordSize table) (count (l .derivation)) q, l .count-is); table-is = rw (l .verdict-is, lt-ltb (roomFor addressRecordSize table) (count (l .derivation)) q) }
+
+  pub twice-accepted : {dry half after : List ℕ} {n m : ℕ} → IsListed verdict classes text at dry half n → n ≤ length table / addressRecordSize → IsListed verdict classes text at table after m → TwiceIs verdict classes text at table after (Accepted m)
+  twice-accepted d h l =
+      let e : accepted (d .derivation) ≡ accepted (l .derivation) = sym (d .verdict-is) ∙ l .verdict-is in
+      let k : d .derivation ≡ l .derivation = cc in
+      let q : count (l .derivation) ≤ roomFor addressRecordSize table = rw (← k, ← (d .count-is)) h in
+      record { answer-is = rw (l .verdict-is, le-ltb (roomFor addressRecordSize table) (count (l .derivation)) q, l .count-is); table-is = l .stored ∙ rw (l .verdict-is, le-ltb (roomFor addressRecordSize table) (count (l .derivation)) q) }
+
+  -- a second run does not refuse what the first did not
+  pub twice-never : {dry half : List ℕ} {n number-told place : ℕ} {A : Type 0} → IsListed verdict classes text at dry half n → IsRefused verdict classes text at number-told place → A
+  twice-never d s =
+      let e : accepted (d .derivation) ≡ refused (s .why) (s .rest) = sym (d .verdict-is) ∙ s .verdict-is in
+      absurd (let z : _≡_ {A = ℕ} 0 1 = cc in omega arith)
+
+-- ---- the outcome
+
+module _ {N : Type 0} (edition : Edition N) (verdict : List (Symbol Class) → Verdict Class (Row Class N)) (message : List ℕ) (start end : ℕ) (short : length message ≤ messageLimit) (ordered : start ≤ end) (inside : end ≤ length message) where
+  -- of a body without fault the verdict on its symbols decides
+  pub verdict-decides : faultOf (scanBy (edition .classes) (take end message) start) ≡ Accepted 0 → {A : Type 0} (refuse : ℕ → ℕ → A) (derive : Row Class N → A)
+      → readIn edition verdict refuse derive message start end ≡ byVerdict refuse derive end (verdict (symbolsIn edition message start end))
+  verdict-decides f refuse derive = in-order refuse message start end _ short ordered inside ∙ unless-none refuse (scanBy (edition .classes) (take end message) start) _ f
+
+  -- what the text holds is the outcome
+  pub text-outcome : {table after : List ℕ} {r : Answer} → TextIs (λ xs. verdict (edition .taken xs)) (edition .classes) (take end message) start table after r
+      → (r ≡ outcomeIn edition verdict message start end table .answer) × (after ≡ outcomeIn edition verdict message start end table .table)
+  text-outcome {table} x =
+      let text = take end message in
+      let z = verdict (symbolsIn edition message start end) in
+      let e : unlessFault (refusal table) (scanBy (edition .classes) text start) (decided (length text) table z) ≡ outcomeIn edition verdict message start end table =
+      ap (λ (n : ℕ). unlessFault (refusal table) (scanBy (edition .classes) text start) (decided n table z)) (length-take-le end message inside) ∙ sym (in-order (refusal table) message start end _ short ordered inside) in
+      (x .answer-is ∙ ap (λ (o : Outcome). o .answer) e, x .table-is ∙ ap (λ (o : Outcome). o .table) e)
+
+-- ---- condition 3
+
+module _ {N : Type 0} (edition : Edition N) (least : ℕ) (answer : ℕ → List (Symbol Class) → Verdict Class (Row Class N)) (reads : Reads (edition .grammar) (edition .list) least answer) (below : least ≤ levelLimit) where
+  module _ (symbols : List (Symbol Class)) (end : ℕ) (table : List ℕ) where
+    by-verdict : (v : Verdict Class (Row Class N)) → answer levelLimit symbols ≡ v → Settled edition symbols end table (decided end table v .answer) (decided end table v .table)
+    by-verdict (accepted k) e =
+        record {
+          with-room = λ k′ d h. let q = same k′ d in (rw (le-ltb (roomFor addressRecordSize table) (count k) (rw q h)) (ap (λ z. Accepted (count z)) q), rw (le-ltb (roomFor addressRecordSize table) (count k) (rw q h)) (ap (λ z. sets table 0 (tableBytes (records z))) q));
+          without-room = λ k′ d h. let q = same k′ d in (rw (lt-ltb (roomFor addressRecordSize table) (count k) (rw q h)) (ap (λ z. NoRoom (count z)) q), rw (lt-ltb (roomFor addressRecordSize table) (count k) (rw q h)));
+          no-list = λ f. let d = answer-derives (edition .grammar) (edition .list) least answer reads levelLimit below {xs = symbols} e in absurd (f k (record { derived = d .0; within = d .1 }));
+        }
+      where
+        same : (k′ : Row Class N) → IsListIn edition symbols k′ → k ≡ k′
+        same k′ d = let f : accepted k ≡ accepted k′ = sym e ∙ answer-accepts (edition .grammar) (edition .list) least answer reads levelLimit below (d .derived) (d .within) in cc
+    by-verdict (refused why rest) e =
+        record {
+          with-room = λ k d h. absurd (never k d);
+          without-room = λ k d h. absurd (never k d);
+          no-list = λ f. (record { why = why; rest = rest; right = rw e at (reads .right levelLimit below symbols); answer = refl }, refl);
+        }
+      where
+        never : (k : Row Class N) → IsListIn edition symbols k → ⊥
+        never k d =
+            let f : refused why rest ≡ accepted k = sym e ∙ answer-accepts (edition .grammar) (edition .list) least answer reads levelLimit below (d .derived) (d .within) in
+            let z : _≡_ {A = ℕ} 0 1 = cc in
+            omega arith
+
+  -- what the outcome says, condition 3 says
+  pub settles : (message : List ℕ) (start end : ℕ) (table : List ℕ) (r : Answer) (after : List ℕ)
+      → r ≡ outcomeIn edition (answer levelLimit) message start end table .answer → after ≡ outcomeIn edition (answer levelLimit) message start end table .table
+      → Condition3In edition message start end table r after
+  settles message start end table r after e f h k l n =
+      rw (e, f, verdict-decides edition (answer levelLimit) message start end h k l n (refusal table) (derived table))
+      (by-verdict (symbolsIn edition message start end) end table (answer levelLimit (symbolsIn edition message start end)) refl)

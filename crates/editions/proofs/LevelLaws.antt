@@ -1,0 +1,70 @@
+-- No list of RFC 822 has more than 2 levels, so that 10 is never answered. Assumes nothing.
+use Prim.Native.Nat.{ℕ}
+use native.Mathlib.Omega.{arith}
+use mathlib.Core.Path.{_≡_, refl, sym, ap, _∙_}
+use mathlib.Core.Bool.{Bool, true, false, true≢false}
+use mathlib.Core.List.{List}
+use lib.Dec.{ltb}
+use lib.ListN.{length, take}
+use Rattle.octets.specs.Choice.{pick, either}
+use Rattle.octets.specs.Numbers.{messageLimit, levelLimit, messageTooLong, bodyOutOfOrder, tooManyLevels, addressRecordSize}
+use Rattle.octets.specs.Stored.{roomFor}
+use Rattle.octets.specs.declared.answers.Answer.{Answer}
+use Rattle.octets.specs.declared.answers.Answer.the-variants.{Refused}
+use Rattle.scanner.specs.Scanning.{Scanned, ended, next, faultAt, outside, scanBy}
+use Rattle.scanner.specs.Symbols.{Symbol}
+use Rattle.scanner.specs.Answers.{unlessFault}
+use Rattle.scanner.specs.Characters.{charactersAt}
+use Rattle.scanner.specs.declared.Class.{Class}
+use Rattle.scanner.proofs.FaultNumbers.{isFault, Numbered, numbered}
+use Rattle.grammar.specs.Grammar.{Row}
+use Rattle.grammar.specs.Language.{unfit, unfinished, tooDeep, Verdict, accepted, refused}
+use Rattle.grammar.specs.Rfc822.{Notion}
+use Rattle.grammar.specs.Records.{count}
+use Rattle.grammar.proofs.Machine822.{read}
+use Rattle.grammar.proofs.Condition822.{reads, never-ten}
+use Rattle.addresses.specs.Editions.{edition822}
+use Rattle.addresses.specs.Outcome.{Outcome, refusal, derived, decided, symbolsIn}
+use Rattle.editions.specs.Outcome.{outcome822}
+
+-- this answer is no refusal with 10
+abbrev Shallow : Answer → Type 0
+Shallow r = (position : ℕ) → r ≡ Refused tooManyLevels position → ⊥
+
+-- a refusal with another number
+other : (n p : ℕ) → (n ≡ tooManyLevels → ⊥) → Shallow (Refused n p)
+other n p h position e = h (let q : n ≡ tooManyLevels = cc in q)
+
+-- the checks of a body, and the faults of scanning, have other numbers
+checked : (table : List ℕ) (a b : Bool) (o : Outcome) → Shallow (o .answer) → Shallow (pick a (refusal table messageTooLong messageLimit) (pick b (refusal table bodyOutOfOrder 0) o) .answer)
+checked table true b o s = other messageTooLong messageLimit (λ e. absurd (omega (arith, e)))
+checked table false true o s = other bodyOutOfOrder 0 (λ e. absurd (omega (arith, e)))
+checked table false false o s = s
+
+no-fault : (n : ℕ) → isFault n ≡ true → n ≡ tooManyLevels → ⊥
+no-fault n h e = true≢false (sym h ∙ ap isFault e)
+
+scanned : (table : List ℕ) (s : Scanned) (o : Outcome) → Numbered s → Shallow (o .answer) → Shallow (unlessFault (refusal table) s o .answer)
+unfolding unlessFault
+scanned table ended o n h = h
+scanned table (next x rest) o n h = scanned table rest o n h
+scanned table (faultAt number p) o n h = other number p (no-fault number n)
+
+-- a list is accepted, or there is too little room for it
+listed : (table : List ℕ) (k : Row Class Notion) (t : Bool) → ltb (roomFor addressRecordSize table) (count k) ≡ t → Shallow (derived table k .answer)
+listed table k true e = rw e (λ position q. let z : _≡_ {A = ℕ} 0 1 = cc in omega arith)
+listed table k false e = rw e (λ position q. let z : _≡_ {A = ℕ} 0 1 = cc in omega arith)
+
+-- the verdict is never that of too many levels
+judged : (end : ℕ) (table : List ℕ) (xs : List (Symbol Class)) (v : Verdict Class (Row Class Notion)) → read levelLimit xs ≡ v → Shallow (decided end table v .answer)
+judged end table xs (accepted k) e = listed table k _ refl
+judged end table xs (refused unfit rest) e = other _ _ (λ q. absurd (omega (arith, q)))
+judged end table xs (refused unfinished rest) e = other _ _ (λ q. absurd (omega (arith, q)))
+judged end table xs (refused tooDeep rest) e = absurd (never-ten levelLimit (omega arith) xs rest (rw e at (reads .right levelLimit (omega arith) xs)))
+
+pub shallow : (message : List ℕ) (start end : ℕ) (table : List ℕ) (position : ℕ) → outcome822 message start end table .answer ≡ Refused tooManyLevels position → ⊥
+shallow message start end table =
+    let symbols = symbolsIn edition822 message start end in
+    let scan = scanBy (edition822 .classes) (take end message) start in
+    checked table (ltb messageLimit (length message)) (either (ltb end start) (ltb (length message) end)) (unlessFault (refusal table) scan (decided end table (read levelLimit symbols)))
+    (scanned table scan (decided end table (read levelLimit symbols)) (numbered (edition822 .classes) (charactersAt (take end message) start) outside) (judged end table symbols (read levelLimit symbols) refl))

@@ -1,0 +1,129 @@
+-- The loop of RFC 822 over the symbols of a text. Assumes nothing.
+use Prim.Native.Nat.{ℕ, _+_, _≤_}
+use native.Mathlib.Omega.{arith}
+use mathlib.Core.Path.{_≡_, refl, sym, ap, _∙_}
+use mathlib.Core.Bool.{true, false}
+use mathlib.Core.List.{List, [], _∷_}
+use mathlib.Core.Option.{none, some}
+use lib.ListN.{length}
+use lib.Seq.{sets, length-sets}
+use types.Run.{OneOf, miss}
+use borrow.Author.Tests.{eq-eqb, ne-eqb}
+use Rattle.octets.specs.Choice.{both}
+use Rattle.octets.specs.Numbers.{levelLimit, endsTooSoon, noListGoesOn}
+use Rattle.scanner.specs.declared.Next.the-variants.{Found}
+use Rattle.grammar.specs.Language.{unfit, unfinished}
+use Rattle.grammar.specs.Records.{AddressRecord, tableBytes}
+use Rattle.grammar.proofs.Records.{length-records}
+use Rattle.grammar.proofs.Trees.{Class, Atom, Quoted, At, LessThan, GreaterThan, Comma, Semicolon, Colon, Stray, Dot, Literal, Sym, of}
+use Rattle.grammar.proofs.Machine822.{start}
+use Rattle.grammar.proofs.Condition822.{reads}
+use Rattle.addresses.specs.Editions.{classIn822, takenIn822}
+use Rattle.addresses.specs.Steps.{symbolsFrom, lexemeAt, Faultless}
+use Rattle.addresses.specs.Whole.{IsListed, IsRefused}
+use Rattle.addresses.proofs.ClassCases.{tag}
+use Rattle.addresses.proofs.NextLaws.{NextIs}
+use Rattle.editions.specs.Outcome.{verdict822}
+use Rattle.editions.specs.Places.{Walked, stepFrom, ends, stops, walkFrom, endsAt, noGroup}
+use Rattle.editions.specs.declared.Walk.{Walk}
+use Rattle.editions.specs.Walks.{walkedOf, Fine, Holds, Goes, Stops}
+use Rattle.editions.proofs.Follows.{walkedIn}
+use Rattle.editions.proofs.Verdicts.{loop-listed, loop-unfinished, loop-stopped}
+
+module _ (classes text : List ℕ) where
+  abbrev words : ℕ → List Sym
+  words at = takenIn822 (symbolsFrom classes text at)
+
+  -- the loop has come to a position
+  pub record Come (at : ℕ) (lent table : List ℕ) (p : ℕ) (w : Walk) : Type 0 where
+    pub rs : List AddressRecord
+    pub holds : Holds w rs lent table
+    pub fine : Fine w
+    pub same : walkFrom (walkedIn start 0 0) (words at) ≡ walkFrom (walkedOf w rs) (words p)
+    pub few : w .free ≤ p
+    pub inside : p ≤ length text
+    pub faultless : Faultless classes text p
+
+  next-words : {p s e : ℕ} {class : Class} → NextIs classes text p (Found class s e) → words p ≡ of (classIn822 class s e) (lexemeAt classes text class s e) ∷ words e
+  next-words x = ap takenIn822 (x .same)
+
+  run-step : (f g : Walked) (x : Sym) (xs : List Sym) → stepFrom f x ≡ some g → walkFrom f (x ∷ xs) ≡ walkFrom g xs
+  run-step f g x xs e = rw e
+
+  run-stop : (f : Walked) (x : Sym) (xs : List Sym) → stepFrom f x ≡ none → walkFrom f (x ∷ xs) ≡ stops (x ∷ xs)
+  run-stop f x xs e = rw e
+
+  pub come-on : {at p s e : ℕ} {class : Class} {lent table after : List ℕ} {w v : Walk} → Come at lent table p w → NextIs classes text p (Found class s e)
+      → Goes w (classIn822 class s e) s e table after v → Come at lent after e v
+  come-on {at} {p} {s} {e} {class} {lent} {table} {after} {w} {v} c x g =
+      let (ss, h, q) = g .steps (lexemeAt classes text class s e .meaning) (c .rs) lent (c .holds) in
+      record {
+        rs = ss;
+        holds = h;
+        fine = g .fine;
+        same = c .same ∙ ap (walkFrom (walkedOf w (c .rs))) (next-words x) ∙ run-step (walkedOf w (c .rs)) (walkedOf v ss) (of (classIn822 class s e) (lexemeAt classes text class s e)) (words e) q;
+        few = omega (arith, g .few, c .few, x .ok .0, x .ok .1 .starts);
+        inside = x .ok .1 .within;
+        faultless = x .ok .1 .faultless;
+      }
+
+  pub stop-at : {at p s e : ℕ} {class : Class} {lent table after : List ℕ} {w : Walk} → Come at lent table p w → NextIs classes text p (Found class s e)
+      → Stops w (classIn822 class s e) s e table after → IsRefused verdict822 classes text at noListGoesOn s
+  stop-at {at} {p} {s} {e} {class} {lent} {w = w} c x g =
+      let t = of (classIn822 class s e) (lexemeAt classes text class s e) in
+      record {
+        why = unfit;
+        rest = t ∷ words e;
+        verdict-is = loop-stopped levelLimit 0 0 (words at) (t ∷ words e)
+            (c .same ∙ ap (walkFrom (walkedOf w (c .rs))) (next-words x) ∙ run-stop (walkedOf w (c .rs)) t (words e) (g .stops (lexemeAt classes text class s e .meaning) (c .rs) lent (c .holds)));
+        number-is = refl;
+        place-is = refl;
+      }
+
+  at-end : {at p : ℕ} {lent table : List ℕ} {w : Walk} → (c : Come at lent table p w) → symbolsFrom classes text p ≡ [] → walkFrom (walkedIn start 0 0) (words at) ≡ ends (walkedOf w (c .rs))
+  at-end {w = w} c e = c .same ∙ ap (λ (xs : List Sym). walkFrom (walkedOf w (c .rs)) (takenIn822 xs)) e
+
+  pub end-listed : {at p : ℕ} {lent table : List ℕ} {w : Walk} → Come at lent table p w → symbolsFrom classes text p ≡ [] → both (endsAt (w .place)) (noGroup (w .group)) ≡ true → IsListed verdict822 classes text at lent table (w .free)
+  end-listed {at} {lent = lent} {w = w} c e d =
+      let (k, v, r) = loop-listed levelLimit 0 0 (words at) (walkedOf w (c .rs)) (at-end c e) d in
+      record {
+        derivation = k;
+        verdict-is = v;
+        count-is = sym (c .holds .counted) ∙ ap length r ∙ length-records k;
+        stored = c .holds .stored ∙ ap (λ (rs : List AddressRecord). sets lent 0 (tableBytes rs)) r;
+      }
+
+  pub end-unfinished : {at p : ℕ} {lent table : List ℕ} {w : Walk} → Come at lent table p w → symbolsFrom classes text p ≡ [] → both (endsAt (w .place)) (noGroup (w .group)) ≡ false → IsRefused verdict822 classes text at endsTooSoon (length text)
+  end-unfinished {at} {w = w} c e d =
+      let (rest, v) = loop-unfinished levelLimit 0 0 (words at) (walkedOf w (c .rs)) (at-end c e) d in
+      let q : rest ≡ [] = (rw v at (reads .right levelLimit (omega arith) (words at))) .0 in
+      record { why = unfinished; rest = rest; verdict-is = v; number-is = refl; place-is = rw q }
+
+-- ---- the table keeps its length
+
+pub same-long : (classes text : List ℕ) {at p : ℕ} {lent table : List ℕ} {w : Walk} → Come classes text at lent table p w → length table ≡ length lent
+same-long classes text {lent = lent} c = ap length (c .holds .stored) ∙ length-sets lent 0 (tableBytes (c .rs))
+
+pub stop-long : {w : Walk} {class : Class} {s e : ℕ} {table after : List ℕ} → Stops w class s e table after → length after ≡ length table
+stop-long x = ap length (x .kept)
+
+-- ---- the class in RFC 822
+
+pub at-sign : (class : Class) (s e : ℕ) → class ≡ At → e ≡ s + 1 → At ≡ classIn822 class s e
+at-sign class s e h k = rw (h, eq-eqb e (s + 1) k)
+
+pub at-atom : (class : Class) (s e : ℕ) → class ≡ At → (e ≡ s + 1 → ⊥) → Atom ≡ classIn822 class s e
+at-atom class s e h k = rw (h, ne-eqb e (s + 1) k)
+
+pub other-class : (class : Class) (s e : ℕ) → OneOf (0 ∷ 1 ∷ 3 ∷ 4 ∷ 5 ∷ 6 ∷ 7 ∷ 8 ∷ 9 ∷ 10 ∷ []) (tag class) → class ≡ classIn822 class s e
+other-class Atom s e o = refl
+other-class Quoted s e o = refl
+other-class At s e o = absurd (miss (0 ∷ 1 ∷ 3 ∷ 4 ∷ 5 ∷ 6 ∷ 7 ∷ 8 ∷ 9 ∷ 10 ∷ []) 2 tt o)
+other-class LessThan s e o = refl
+other-class GreaterThan s e o = refl
+other-class Comma s e o = refl
+other-class Semicolon s e o = refl
+other-class Colon s e o = refl
+other-class Stray s e o = refl
+other-class Dot s e o = refl
+other-class Literal s e o = refl

@@ -1,0 +1,104 @@
+-- The table of the loop has what its rows say. Assumes nothing.
+use Prim.Native.Nat.{ℕ, zero, suc, _+_, _*_, _/_, _%_, _≤_, _<_}
+use native.Mathlib.Omega.{arith}
+use mathlib.Core.Path.{_≡_, refl, sym, ap, _∙_}
+use mathlib.Core.Bool.{Bool, true, false}
+use lib.Dec.{eqb, eqb→eq}
+use lib.ListN.{getD, List·getD-eq-default}
+use Rattle.octets.specs.Choice.{pick, both}
+use Rattle.octets.proofs.Tables.{at}
+use Rattle.scanner.specs.declared.Class.{Class}
+use Rattle.grammar.specs.Rfc733.{classNumber}
+use Rattle.editions.specs.Places.{Row, Effect, nothing, firstWord, furtherWord, mailboxRecord, mailboxEnd, angleRecord, angleEnd, groupRecord, groupEnd, refuse, no, rows, rowAt, nextPlace, effectOf, endsAt, effectNumber, cells, placeCount, columns, placeTable, noGroup, oneIf, parentOf}
+use Rattle.editions.specs.Walks.{effectFrom}
+
+-- the number at an index, by the rows
+abbrev cellAt : ℕ → ℕ
+cellAt i = getD (cells (rowAt (i / columns))) (i % columns) no
+
+-- one test over the whole table, at each index
+rule : (i : ℕ) → i < placeCount * columns → getD placeTable i 0 ≡ cellAt i
+unfolding placeTable
+rule i h = eqb→eq (getD placeTable i 0) (cellAt i) (at (λ (k n : ℕ). eqb n (cellAt k)) placeTable 0 tt i h)
+
+-- a column of a row
+column-at : (place j : ℕ) → place < placeCount → j < columns → getD placeTable (place * columns + j) 0 ≡ getD (cells (rowAt place)) j no
+column-at place j h l =
+    let p : (place * columns + j) / columns ≡ place = omega arith in
+    let q : (place * columns + j) % columns ≡ j = omega arith in
+    rule (place * columns + j) (omega arith) ∙ rw (p, q)
+
+-- behind the effect and the end stand the next places
+cell-at : (r : Row) (n : ℕ) → getD (cells r) (n + 2) no ≡ getD (r .next) n no
+cell-at r n = let k : n + 2 ≡ suc (suc n) = omega arith in ap (λ (i : ℕ). getD (cells r) i no) k
+
+pub next-at : (place : ℕ) (class : Class) (n : ℕ) → place < placeCount → n ≡ classNumber class → n < 11 → getD placeTable (place * columns + (n + 2)) 0 ≡ nextPlace place class
+next-at place class n h e l = column-at place (n + 2) h (omega arith) ∙ cell-at (rowAt place) n ∙ ap (λ (i : ℕ). getD (rowAt place .next) i no) e
+
+effect-back : (e : Effect) → effectFrom (effectNumber e) ≡ e
+effect-back nothing = refl
+effect-back firstWord = refl
+effect-back furtherWord = refl
+effect-back mailboxRecord = refl
+effect-back mailboxEnd = refl
+effect-back angleRecord = refl
+effect-back angleEnd = refl
+effect-back groupRecord = refl
+effect-back groupEnd = refl
+effect-back refuse = refl
+
+pub effect-in : (place : ℕ) → place < placeCount → effectFrom (getD placeTable (place * columns + 0) 0) ≡ effectOf place
+effect-in place h = ap effectFrom (column-at place 0 h (omega arith)) ∙ effect-back (effectOf place)
+
+-- past the rows there is no place
+pub effect-out : (place : ℕ) → placeCount ≤ place → refuse ≡ effectOf place
+effect-out place h = ap (λ r. r .effect) (sym (List·getD-eq-default rows _ h))
+
+-- what is none of the first nine
+pub left-over : (r : ℕ) → (r ≡ 0 → ⊥) → (r ≡ 1 → ⊥) → (r ≡ 2 → ⊥) → (r ≡ 3 → ⊥) → (r ≡ 4 → ⊥) → (r ≡ 5 → ⊥) → (r ≡ 6 → ⊥) → (r ≡ 7 → ⊥) → (r ≡ 8 → ⊥) → effectFrom r ≡ refuse
+left-over zero a b c d e f g h i = absurd (a refl)
+left-over (suc zero) a b c d e f g h i = absurd (b refl)
+left-over (suc (suc zero)) a b c d e f g h i = absurd (c refl)
+left-over (suc (suc (suc zero))) a b c d e f g h i = absurd (d refl)
+left-over (suc (suc (suc (suc zero)))) a b c d e f g h i = absurd (e refl)
+left-over (suc (suc (suc (suc (suc zero))))) a b c d e f g h i = absurd (f refl)
+left-over (suc (suc (suc (suc (suc (suc zero)))))) a b c d e f g h i = absurd (g refl)
+left-over (suc (suc (suc (suc (suc (suc (suc zero))))))) a b c d e f g h i = absurd (h refl)
+left-over (suc (suc (suc (suc (suc (suc (suc (suc zero)))))))) a b c d e f g h i = absurd (i refl)
+left-over (suc (suc (suc (suc (suc (suc (suc (suc (suc r))))))))) a b c d e f g h i = refl
+
+-- ---- whether a list may end
+
+bit : (b : Bool) → eqb (pick b 1 0) 1 ≡ b
+bit true = refl
+bit false = refl
+
+pub ends-in : (place group : ℕ) → place < placeCount → group ≡ 0 → eqb (getD placeTable (place * columns + 1) 0) 1 ≡ both (endsAt place) (noGroup group)
+ends-in place group h z = ap (λ (n : ℕ). eqb n 1) (column-at place 1 h (omega arith)) ∙ bit (endsAt place) ∙ rw z (both-true (endsAt place))
+  where
+    both-true : (b : Bool) → b ≡ both b true
+    both-true true = refl
+    both-true false = refl
+
+pub in-group : (b : Bool) (group : ℕ) → (group ≡ 0 → ⊥) → false ≡ both b (noGroup group)
+in-group true zero h = absurd (h refl)
+in-group true (suc g) h = refl
+in-group false g h = refl
+
+-- ---- numbers that may be 0
+
+pub one-if-zero : (n : ℕ) → n ≡ 0 → 0 ≡ oneIf n
+one-if-zero zero e = refl
+one-if-zero (suc n) e = absurd (omega arith)
+
+pub one-if-more : (n : ℕ) → (n ≡ 0 → ⊥) → 1 ≡ oneIf n
+one-if-more zero e = absurd (e refl)
+one-if-more (suc n) e = refl
+
+pub parent-zero : (g n : ℕ) → n ≡ 0 → g ≡ parentOf g n
+parent-zero g zero e = refl
+parent-zero g (suc n) e = absurd (omega arith)
+
+pub parent-more : (g n : ℕ) → (n ≡ 0 → ⊥) → n ≡ parentOf g n
+parent-more g zero e = absurd (e refl)
+parent-more g (suc n) e = refl

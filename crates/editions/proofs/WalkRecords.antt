@@ -1,0 +1,263 @@
+-- The records that the loop of RFC 822 leaves are those of the derivation. Assumes nothing.
+use Prim.Native.Nat.{ℕ, suc, _+_}
+use native.Mathlib.Omega.{arith}
+use mathlib.Core.Path.{_≡_, refl, sym, ap, _∙_}
+use mathlib.Core.Bool.{Bool, true, false}
+use mathlib.Core.List.{List, [], _∷_, _++_, append-assoc, append-nil, List·Memᴰ, List·Memᴰ·head as here, List·Memᴰ·tail as there}
+use mathlib.Core.Option.{Option, none, some}
+use lib.ListN.{length, length-append}
+use Rattle.octets.specs.Choice.{both}
+use Rattle.octets.proofs.ChoiceLaws.{both-parts}
+use Rattle.grammar.specs.Grammar.{Makes, Item, symbol, part, Rule, Grammar, Row, nil, leaf, branch, yieldThen, yield, Fits, done, take, apply}
+use Rattle.grammar.specs.Language.{positionOf}
+use Rattle.grammar.specs.Records.{AddressRecord, recordBy, lastEnd, count, recordOf, recordsFrom, records}
+use Rattle.grammar.specs.Rfc822.{rulesOf, Notion, list, place, address, boxes, boxPlace, mailbox, addrSpec, route, hops, emptyPlaces, localPart, domain, subDomain, phrase, word, rfc822}
+use Rattle.grammar.proofs.Records.{length-from}
+use Rattle.grammar.proofs.Pieces.{Piece, put, From}
+use Rattle.grammar.proofs.TreeRecords.{wordLexeme, phraseStart, phraseEnd, yield-append, last-append}
+use Rattle.grammar.proofs.Trees822.{Class, At, LessThan, GreaterThan, Comma, Semicolon, Colon, Dot, Lexeme, Sym, of, Word, atomWord, quotedWord, Phrase, one, more, Sub, atomSub, literalSub, Domain, oneSub, moreSub, Local, oneWord, moreWord, Spec, spec, Route, Mailbox, bare, angle, routed, Place, empty, comma, Listed, idle, full, Address, box, group, wordPiece, phrasePiece, subPiece, domainPiece, localPiece, specPiece, routePiece, mailboxPiece, boxPlacePiece, boxesPiece, addressPiece, placePiece, listPiece, asRow, phrase-is, domain-is, local-is, route-is}
+use Rattle.grammar.proofs.Machine822.{seen}
+use Rattle.editions.proofs.Follows.{subEnd, endOfDomain, localStart, localEnd, namedRecord, addSpec, addBox, addBoxPlace, addBoxes, opensGroup, addAddress, addPlace, addList}
+
+-- ---- over any grammar
+
+module _ {C N : Type 0} where
+  -- records, and those of a row behind them
+  abbrev pub Then : List AddressRecord → Row C N → ℕ → ℕ → List AddressRecord
+  Then rs k d p = rs ++ recordsFrom k d p (length rs)
+
+  -- a rule that makes no record
+  pub plain-then : (r : Rule C N) (parts k : Row C N) (rs : List AddressRecord) (d p : ℕ) → r .makes ≡ none → Then rs (branch r parts k) d p ≡ Then (Then rs parts d p) k d p
+  plain-then r parts k rs d p e =
+      let n : length (Then rs parts d p) ≡ length rs + count parts = length-append rs (recordsFrom parts d p (length rs)) ∙ ap (λ (m : ℕ). length rs + m) (length-from parts d p (length rs)) in
+      rw (e, n) (sym (append-assoc rs (recordsFrom parts d p (length rs)) (recordsFrom k d p (length rs + count parts))))
+
+  -- a rule that makes one
+  pub record-then : (r : Rule C N) (m : Makes) (parts k : Row C N) (rs : List AddressRecord) (d p : ℕ) → r .makes ≡ some m
+      → Then rs (branch r parts k) d p ≡ Then (Then (rs ++ (recordOf m d p parts ∷ [])) parts (suc d) (suc (length rs))) k d p
+  record-then r m parts k rs d p e =
+      let one : length (rs ++ (recordOf m d p parts ∷ [])) ≡ suc (length rs) = omega (arith, length-append rs (recordOf m d p parts ∷ [])) in
+      let all : length ((rs ++ (recordOf m d p parts ∷ [])) ++ recordsFrom parts (suc d) (suc (length rs)) (suc (length rs))) ≡ suc (length rs) + count parts =
+      length-append (rs ++ (recordOf m d p parts ∷ [])) (recordsFrom parts (suc d) (suc (length rs)) (suc (length rs)))
+      ∙ omega (arith, one, length-from parts (suc d) (suc (length rs)) (suc (length rs))) in
+      rw (e, one, all)
+      (sym
+      (append-assoc (rs ++ (recordOf m d p parts ∷ [])) (recordsFrom parts (suc d) (suc (length rs)) (suc (length rs))) (recordsFrom k d p (suc (length rs) + count parts))
+      ∙ append-assoc rs (recordOf m d p parts ∷ []) (recordsFrom parts (suc d) (suc (length rs)) (suc (length rs)) ++ recordsFrom k d p (suc (length rs) + count parts))))
+
+-- ---- nonterminals that make no record
+
+abbrev noMakes : Option Makes → Bool
+noMakes none = true
+noMakes (some m) = false
+
+no-makes : (o : Option Makes) → noMakes o ≡ true → o ≡ none
+no-makes none e = refl
+no-makes (some m) e = absurd (let z : _≡_ {A = ℕ} 0 1 = cc in omega arith)
+
+module _ {C N : Type 0} (silent : N → Bool) where
+  abbrev hushed : List (Item C N) → Bool
+  hushed [] = true
+  hushed (symbol c ∷ items) = hushed items
+  hushed (part A ∷ items) = both (silent A) (hushed items)
+
+  abbrev pub silentRules : List (Rule C N) → Bool
+  silentRules [] = true
+  silentRules (r ∷ rs) = both (both (noMakes (r .makes)) (hushed (r .items))) (silentRules rs)
+
+  silent-rule : (r : Rule C N) (rs : List (Rule C N)) → List·Memᴰ r rs → silentRules rs ≡ true → both (noMakes (r .makes)) (hushed (r .items)) ≡ true
+  silent-rule r (s ∷ rs) (here e) h = rw e (both-parts (both (noMakes (s .makes)) (hushed (s .items))) (silentRules rs) h .0)
+  silent-rule r (s ∷ rs) (there m) h = silent-rule r rs m (both-parts (both (noMakes (s .makes)) (hushed (s .items))) (silentRules rs) h .1)
+
+  module _ (G : Grammar C N) (all : (A : N) → silent A ≡ true → silentRules (G .rules A) ≡ true) where
+    pub silent-row : {items : List (Item C N)} {k : Row C N} → Fits G items k → hushed items ≡ true → (rs : List AddressRecord) (d p : ℕ) → Then rs k d p ≡ rs
+    silent-row done h rs d p = append-nil rs
+    silent-row (take e f) h rs d p = silent-row f h rs d p
+    silent-row (apply {A = A} {rule = r} {items = items} {parts = q} {row = k} m f o g) h rs d p =
+        let (a, b) = both-parts (silent A) (hushed items) h in
+        let (x, y) = both-parts (noMakes (r .makes)) (hushed (r .items)) (silent-rule r (G .rules A) m (all A a)) in
+        plain-then r q k rs d p (no-makes (r .makes) x) ∙ ap (λ (ss : List AddressRecord). Then ss k d p) (silent-row f y rs d p) ∙ silent-row g b rs d p
+
+    -- a piece of such a nonterminal
+    pub silent-put : {A : N} {q : Piece C N} → From G A q → silent A ≡ true → (k : Row C N) (rs : List AddressRecord) (d p : ℕ) → Then rs (put q k) d p ≡ Then rs k d p
+    silent-put {A} {q} f a k rs d p =
+        let (x, y) = both-parts (noMakes (q .rule .makes)) (hushed (q .rule .items)) (silent-rule (q .rule) (G .rules A) (f .member) (all A a)) in
+        plain-then (q .rule) (q .parts) k rs d p (no-makes (q .rule .makes) x) ∙ ap (λ (ss : List AddressRecord). Then ss k d p) (silent-row (f .fits) y rs d p)
+
+-- ---- RFC 822
+
+abbrev silent : Notion → Bool
+silent list = false
+silent place = false
+silent address = false
+silent boxes = false
+silent boxPlace = false
+silent mailbox = false
+silent addrSpec = false
+silent route = true
+silent hops = true
+silent emptyPlaces = true
+silent localPart = true
+silent domain = true
+silent subDomain = true
+silent phrase = true
+silent word = true
+
+never : {A : Type 0} → false ≡ true → A
+never e = absurd (let z : _≡_ {A = ℕ} 0 1 = cc in omega arith)
+
+all-silent : (A : Notion) → silent A ≡ true → silentRules silent (rulesOf A) ≡ true
+all-silent list e = never e
+all-silent place e = never e
+all-silent address e = never e
+all-silent boxes e = never e
+all-silent boxPlace e = never e
+all-silent mailbox e = never e
+all-silent addrSpec e = never e
+all-silent route e = refl
+all-silent hops e = refl
+all-silent emptyPlaces e = refl
+all-silent localPart e = refl
+all-silent domain e = refl
+all-silent subDomain e = refl
+all-silent phrase e = refl
+all-silent word e = refl
+
+abbrev Row822 : Type 0
+Row822 = Row Class Notion
+
+phrase-then : (p : Phrase) (k : Row822) (rs : List AddressRecord) (d q : ℕ) → Then rs (put (phrasePiece p) k) d q ≡ Then rs k d q
+phrase-then p k rs d q = silent-put silent rfc822 all-silent (phrase-is p) refl k rs d q
+
+local-then : (l : Local) (k : Row822) (rs : List AddressRecord) (d q : ℕ) → Then rs (put (localPiece l) k) d q ≡ Then rs k d q
+local-then l k rs d q = silent-put silent rfc822 all-silent (local-is l) refl k rs d q
+
+domain-then : (m : Domain) (k : Row822) (rs : List AddressRecord) (d q : ℕ) → Then rs (put (domainPiece m) k) d q ≡ Then rs k d q
+domain-then m k rs d q = silent-put silent rfc822 all-silent (domain-is m) refl k rs d q
+
+route-then : (r : Route) (k : Row822) (rs : List AddressRecord) (d q : ℕ) → Then rs (put (routePiece r) k) d q ≡ Then rs k d q
+route-then r k rs d q = silent-put silent rfc822 all-silent (route-is r) refl k rs d q
+
+-- ---- where parts begin and end
+
+last-word : (q : ℕ) (w : Word) (xs : List Sym) → lastEnd q (seen (wordPiece w) xs) ≡ lastEnd (wordLexeme w .end) xs
+last-word q (atomWord t) xs = refl
+last-word q (quotedWord t) xs = refl
+
+last-sub : (q : ℕ) (s : Sub) (xs : List Sym) → lastEnd q (seen (subPiece s) xs) ≡ lastEnd (subEnd s) xs
+last-sub q (atomSub t) xs = refl
+last-sub q (literalSub t) xs = refl
+
+start-phrase : (p : Phrase) (q : ℕ) (xs : List Sym) → positionOf q (seen (phrasePiece p) xs) ≡ phraseStart p
+start-phrase (one (atomWord t)) q xs = refl
+start-phrase (one (quotedWord t)) q xs = refl
+start-phrase (more p w) q xs = start-phrase p q (seen (wordPiece w) xs)
+
+last-phrase : (p : Phrase) (q : ℕ) (xs : List Sym) → lastEnd q (seen (phrasePiece p) xs) ≡ lastEnd (phraseEnd p) xs
+last-phrase (one w) q xs = last-word q w xs
+last-phrase (more p w) q xs = last-phrase p q (seen (wordPiece w) xs) ∙ last-word (phraseEnd p) w xs
+
+start-local : (l : Local) (q : ℕ) (xs : List Sym) → positionOf q (seen (localPiece l) xs) ≡ localStart l
+start-local (oneWord (atomWord t)) q xs = refl
+start-local (oneWord (quotedWord t)) q xs = refl
+start-local (moreWord l t w) q xs = start-local l q (of Dot t ∷ seen (wordPiece w) xs)
+
+last-local : (l : Local) (q : ℕ) (xs : List Sym) → lastEnd q (seen (localPiece l) xs) ≡ lastEnd (localEnd l) xs
+last-local (oneWord w) q xs = last-word q w xs
+last-local (moreWord l t w) q xs = last-local l q (of Dot t ∷ seen (wordPiece w) xs) ∙ last-word (t .end) w xs
+
+last-domain : (m : Domain) (q : ℕ) (xs : List Sym) → lastEnd q (seen (domainPiece m) xs) ≡ lastEnd (endOfDomain m) xs
+last-domain (oneSub s) q xs = last-sub q s xs
+last-domain (moreSub m t s) q xs = last-domain m q (of Dot t ∷ seen (subPiece s) xs) ∙ last-sub (t .end) s xs
+
+-- the last of a row's symbols and a mark behind them
+last-mark : (row : Row822) (q : ℕ) (c : Class) (u : Lexeme) → lastEnd q (yieldThen row (of c u ∷ [])) ≡ u .end
+last-mark row q c u = ap (lastEnd q) (yield-append row (of c u ∷ [])) ∙ last-append q (yield row) (of c u) []
+
+same-record : (k d p : ℕ) {s s′ e e′ n n′ m m′ : ℕ} → s ≡ s′ → e ≡ e′ → n ≡ n′ → m ≡ m′ → recordBy k d p s e n m ≡ recordBy k d p s′ e′ n′ m′
+same-record k d p a b c f = rw (a, b, c, f)
+
+-- ---- the records of each tree
+
+spec-then : (s : Spec) (k : Row822) (rs : List AddressRecord) (d p : ℕ) → Then rs (put (specPiece s) k) d p ≡ Then (addSpec s d p rs) k d p
+spec-then (spec l t m) k rs d p =
+    let parts = specPiece (spec l t m) .parts in
+    let q = positionOf 0 (yield parts) in
+    let name = seen (localPiece l) [] in
+    let r = same-record 1 d p (start-local l 0 (of At t ∷ seen (domainPiece m) [])) (last-local l q (of At t ∷ seen (domainPiece m) []) ∙ last-domain m (t .end) []) (start-local l q []) (last-local l q []) in
+    let R = rs ++ (recordBy 1 d p q (lastEnd q (yield parts)) (positionOf q name) (lastEnd q name) ∷ []) in
+    record-then (specPiece (spec l t m) .rule) _ parts k rs d p refl
+    ∙ ap (λ (ss : List AddressRecord). Then ss k d p)
+    (local-then l (leaf (of At t) (put (domainPiece m) nil)) R (suc d) (suc (length rs)) ∙ domain-then m nil R (suc d) (suc (length rs)) ∙ append-nil R ∙ ap (λ x. rs ++ (x ∷ [])) r)
+
+-- a rule whose first item is the phrase that is its name, and whose last is a mark; `inner` are the others
+named-then : (kind : ℕ) (r : Rule Class Notion) (m : Makes) (ph : Phrase) (c : Class) (t : Lexeme) (inner : Row822) (e : Class) (u : Lexeme) (k : Row822) (rs ss : List AddressRecord) (d p : ℕ)
+    → r .makes ≡ some m → m .name ≡ some 0 → ((bs : List ℕ) → m .kind bs ≡ kind)
+    → yield (put (phrasePiece ph) (leaf (of c t) inner)) ≡ seen (phrasePiece ph) (of c t ∷ yieldThen inner [])
+    → lastEnd (t .end) (yieldThen inner []) ≡ u .end
+    → Then (rs ++ (namedRecord kind ph (u .end) d p ∷ [])) inner (suc d) (suc (length rs)) ≡ ss
+    → Then rs (branch r (put (phrasePiece ph) (leaf (of c t) inner)) k) d p ≡ Then ss k d p
+named-then kind r m ph c t inner e u k rs ss d p a b f y l h =
+    let parts : Row822 = put (phrasePiece ph) (leaf (of c t) inner) in
+    let q = positionOf 0 (yield parts) in
+    let name = seen (phrasePiece ph) [] in
+    let g : recordOf m d p parts ≡ recordBy kind d p q (lastEnd q (yield parts)) (positionOf q name) (lastEnd q name) = rw (b, f) in
+    let x = g ∙ same-record kind d p (start-phrase ph 0 (of c t ∷ yieldThen inner [])) (last-phrase ph q (of c t ∷ yieldThen inner []) ∙ l) (start-phrase ph q []) (last-phrase ph q []) in
+    record-then r m parts k rs d p a
+    ∙ ap (λ (ss : List AddressRecord). Then ss k d p)
+    (ap (λ z. Then (rs ++ (z ∷ [])) parts (suc d) (suc (length rs))) x
+    ∙ phrase-then ph (leaf (of c t) inner) (rs ++ (namedRecord kind ph (u .end) d p ∷ [])) (suc d) (suc (length rs)) ∙ h)
+
+box-then : (b : Mailbox) (k : Row822) (rs : List AddressRecord) (d p : ℕ) → Then rs (put (mailboxPiece b) k) d p ≡ Then (addBox b d p rs) k d p
+box-then (bare s) k rs d p = plain-then (mailboxPiece (bare s) .rule) (put (specPiece s) nil) k rs d p refl ∙ ap (λ (ss : List AddressRecord). Then ss k d p) (spec-then s nil rs d p ∙ append-nil (addSpec s d p rs))
+box-then (angle q t s u) k rs d p =
+    let R = rs ++ (namedRecord 2 q (u .end) d p ∷ []) in
+    named-then 2 (mailboxPiece (angle q t s u) .rule) _ q LessThan t (put (specPiece s) (leaf (of GreaterThan u) nil)) GreaterThan u k rs (addBox (angle q t s u) d p rs) d p refl refl (λ bs. refl) refl
+    (last-mark (put (specPiece s) nil) (t .end) GreaterThan u)
+    (spec-then s (leaf (of GreaterThan u) nil) R (suc d) (suc (length rs)) ∙ append-nil (addSpec s (suc d) (suc (length rs)) R))
+box-then (routed q t r s u) k rs d p =
+    let R = rs ++ (namedRecord 2 q (u .end) d p ∷ []) in
+    named-then 2 (mailboxPiece (routed q t r s u) .rule) _ q LessThan t (put (routePiece r) (put (specPiece s) (leaf (of GreaterThan u) nil))) GreaterThan u k rs (addBox (routed q t r s u) d p rs) d p refl refl (λ bs. refl) refl
+    (last-mark (put (routePiece r) (put (specPiece s) nil)) (t .end) GreaterThan u)
+    (route-then r (put (specPiece s) (leaf (of GreaterThan u) nil)) R (suc d) (suc (length rs)) ∙ spec-then s (leaf (of GreaterThan u) nil) R (suc d) (suc (length rs)) ∙ append-nil (addSpec s (suc d) (suc (length rs)) R))
+
+mutual
+  boxPlace-then : (s : Place Mailbox) (k : Row822) (rs : List AddressRecord) (p : ℕ) → Then rs (put (boxPlacePiece s) k) 1 p ≡ Then (addBoxPlace s p rs) k 1 p
+  boxPlace-then empty k rs p = plain-then (boxPlacePiece empty .rule) nil k rs 1 p refl ∙ ap (λ (ss : List AddressRecord). Then ss k 1 p) (append-nil rs)
+  boxPlace-then (comma l t) k rs p =
+      plain-then (boxPlacePiece (comma l t) .rule) (put (boxesPiece l) (leaf (of Comma t) nil)) k rs 1 p refl
+      ∙ ap (λ (ss : List AddressRecord). Then ss k 1 p) (boxes-then l (leaf (of Comma t) nil) rs p ∙ append-nil (addBoxes l p rs))
+
+  boxes-then : (l : Listed Mailbox) (k : Row822) (rs : List AddressRecord) (p : ℕ) → Then rs (put (boxesPiece l) k) 1 p ≡ Then (addBoxes l p rs) k 1 p
+  boxes-then (idle s) k rs p =
+      plain-then (boxesPiece (idle s) .rule) (put (boxPlacePiece s) nil) k rs 1 p refl ∙ ap (λ (ss : List AddressRecord). Then ss k 1 p) (boxPlace-then s nil rs p ∙ append-nil (addBoxPlace s p rs))
+  boxes-then (full s b) k rs p =
+      plain-then (boxesPiece (full s b) .rule) (put (boxPlacePiece s) (put (mailboxPiece b) nil)) k rs 1 p refl
+      ∙ ap (λ (ss : List AddressRecord). Then ss k 1 p)
+      (boxPlace-then s (put (mailboxPiece b) nil) rs p ∙ box-then b nil (addBoxPlace s p rs) 1 p ∙ append-nil (addBox b 1 p (addBoxPlace s p rs)))
+
+address-then : (a : Address) (k : Row822) (rs : List AddressRecord) → Then rs (put (addressPiece a) k) 0 0 ≡ Then (addAddress a rs) k 0 0
+address-then (box b) k rs = plain-then (addressPiece (box b) .rule) (put (mailboxPiece b) nil) k rs 0 0 refl ∙ ap (λ (ss : List AddressRecord). Then ss k 0 0) (box-then b nil rs 0 0 ∙ append-nil (addBox b 0 0 rs))
+address-then (group q t l u) k rs =
+    named-then 3 (addressPiece (group q t l u) .rule) _ q Colon t (put (boxesPiece l) (leaf (of Semicolon u) nil)) Semicolon u k rs (addAddress (group q t l u) rs) 0 0 refl refl (λ bs. refl) refl
+    (last-mark (put (boxesPiece l) nil) (t .end) Semicolon u)
+    (boxes-then l (leaf (of Semicolon u) nil) (opensGroup q (u .end) rs) (suc (length rs)) ∙ append-nil (addAddress (group q t l u) rs))
+
+mutual
+  place-then : (r : Place Address) (k : Row822) (rs : List AddressRecord) → Then rs (put (placePiece r) k) 0 0 ≡ Then (addPlace r rs) k 0 0
+  place-then empty k rs = plain-then (placePiece empty .rule) nil k rs 0 0 refl ∙ ap (λ (ss : List AddressRecord). Then ss k 0 0) (append-nil rs)
+  place-then (comma l t) k rs =
+      plain-then (placePiece (comma l t) .rule) (put (listPiece l) (leaf (of Comma t) nil)) k rs 0 0 refl
+      ∙ ap (λ (ss : List AddressRecord). Then ss k 0 0) (list-then l (leaf (of Comma t) nil) rs ∙ append-nil (addList l rs))
+
+  list-then : (l : Listed Address) (k : Row822) (rs : List AddressRecord) → Then rs (put (listPiece l) k) 0 0 ≡ Then (addList l rs) k 0 0
+  list-then (idle r) k rs =
+      plain-then (listPiece (idle r) .rule) (put (placePiece r) nil) k rs 0 0 refl ∙ ap (λ (ss : List AddressRecord). Then ss k 0 0) (place-then r nil rs ∙ append-nil (addPlace r rs))
+  list-then (full r a) k rs =
+      plain-then (listPiece (full r a) .rule) (put (placePiece r) (put (addressPiece a) nil)) k rs 0 0 refl
+      ∙ ap (λ (ss : List AddressRecord). Then ss k 0 0)
+      (place-then r (put (addressPiece a) nil) rs ∙ address-then a nil (addPlace r rs) ∙ append-nil (addAddress a (addPlace r rs)))
+
+-- the records of a list are those of its derivation
+pub list-records : (l : Listed Address) → records (asRow l) ≡ addList l []
+list-records l = list-then l nil [] ∙ append-nil (addList l [])

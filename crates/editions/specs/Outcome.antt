@@ -1,0 +1,44 @@
+-- Document 02, CR 11: the address reader is told the edition, 733 or 822. What it answers, in the order 1, 21, 13 and then as document 01
+-- has it; and condition 3, which takes the rules of the edition.
+use Prim.Native.Nat.{ℕ}
+use mathlib.Core.Path.{_≡_}
+use mathlib.Core.List.{List}
+use lib.Dec.{eqb, ltb}
+use lib.ListN.{length}
+use Rattle.octets.specs.Choice.{pick}
+use Rattle.octets.specs.Numbers.{messageLimit, levelLimit, messageTooLong, tooManyLevels, editionUnknown}
+use Rattle.octets.specs.declared.answers.Answer.{Answer}
+use Rattle.octets.specs.declared.answers.Answer.the-variants.{Refused}
+use Rattle.scanner.specs.Symbols.{Symbol}
+use Rattle.scanner.specs.declared.Class.{Class}
+use Rattle.grammar.specs.Grammar.{Row}
+use Rattle.grammar.specs.Language.{Verdict}
+use Rattle.grammar.specs.Rfc822.{Notion}
+use Rattle.grammar.proofs.Machine822.{read}
+use Rattle.addresses.specs.Editions.{edition733, takenIn822, edition822}
+use Rattle.addresses.specs.Outcome.{Outcome, refusal, outcomeIn, outcome}
+use Rattle.addresses.specs.Condition3.{Condition3In}
+
+-- the verdict on the scanner's symbols is that of the machine of RFC 822, which the crate `grammar` proves right
+abbrev pub verdict822 : List (Symbol Class) → Verdict Class (Row Class Notion)
+verdict822 xs = read levelLimit (takenIn822 xs)
+
+-- the outcome in RFC 822
+abbrev pub outcome822 : List ℕ → ℕ → ℕ → List ℕ → Outcome
+outcome822 message start end table = outcomeIn edition822 (read levelLimit) message start end table
+
+-- the edition is the whole number
+abbrev pub outcomeOf : ℕ → List ℕ → ℕ → ℕ → List ℕ → Outcome
+outcomeOf edition message start end table =
+    pick (ltb messageLimit (length message)) (refusal table messageTooLong messageLimit)
+    (pick (eqb edition 733) (outcome message start end table)
+    (pick (eqb edition 822) (outcome822 message start end table) (refusal table editionUnknown 0)))
+
+-- condition 3 takes the rules of the edition; of any other number it does not speak
+pub record Condition3Of (edition : ℕ) (message : List ℕ) (start end : ℕ) (table : List ℕ) (r : Answer) (after : List ℕ) : Type 0 where
+  pub of733 : edition ≡ 733 → Condition3In edition733 message start end table r after
+  pub of822 : edition ≡ 822 → Condition3In edition822 message start end table r after
+
+-- a list of RFC 822 has at most 2 levels: 10 is never answered there
+abbrev pub NeverTooDeep : ℕ → Answer → Type 0
+NeverTooDeep edition r = edition ≡ 822 → (position : ℕ) → r ≡ Refused tooManyLevels position → ⊥

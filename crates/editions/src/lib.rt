@@ -1,0 +1,377 @@
+// The address reader of either edition, RFC 733 and RFC 822. That of RFC 733 is the crate `addresses`; that of RFC 822 is here.
+//
+// In RFC 822 a group holds mailboxes and nothing holds a group, so that one loop over the symbols reads a list: a table gives the
+// next place for each place and class, and coming to a place begins a record or comes to its end.
+ghost use mathlib.Core.Path.{_≡_};
+ghost use Prim.Native.Nat.{_+_, _*_, _≤_, _<_};
+ghost use lib.ListN.{length, getD};
+ghost use lib.Seq.{sets};
+ghost use Rattle.octets.specs.Choice.{both};
+ghost use Rattle.octets.specs.Numbers.{messageLimit, addressRecordSize};
+ghost use Rattle.grammar.specs.Rfc733.{classNumber};
+ghost use Rattle.grammar.specs.Records.{recordBytes};
+ghost use Rattle.addresses.specs.Editions.{classIn822};
+ghost use Rattle.addresses.specs.Whole.{Body, WholeIs, TwiceIs, TextIs};
+ghost use Rattle.editions.specs.Outcome.{verdict822, outcome822, outcomeOf, Condition3Of, NeverTooDeep};
+ghost use Rattle.editions.specs.Places.{placeCount, columns, nextPlace, placeTable, effectOf, endsAt, noGroup, oneIf, parentOf};
+ghost use Rattle.editions.specs.Walks.{effectFrom, Fine, newBy, walkBy, CloseIs, StepIs};
+use crate::places::COLUMNS;
+use crate::places::NEXT_PLACES;
+use crate::places::PLACES;
+use crate::places::TABLE_SIZE;
+use grammar::AddressRecord;
+use grammar::Span;
+use grammar::Whole;
+use grammar::store_end;
+use grammar::store_record;
+use octets::answers::Answer;
+use octets::classes822::CLASSES_822;
+use octets::numbers::ADDRESS_RECORD_SIZE;
+use octets::numbers::BODY_OUT_OF_ORDER;
+use octets::numbers::EDITION_UNKNOWN;
+use octets::numbers::ENDS_TOO_SOON;
+use octets::numbers::MESSAGE_LIMIT;
+use octets::numbers::MESSAGE_TOO_LONG;
+use octets::numbers::NO_LIST_GOES_ON;
+use scanner::Class;
+use scanner::Next;
+
+mod places;
+
+// What the loop keeps: its place; the name so far; the number of the open group and of the open angle address, plus 1 or 0; and
+// how many records there are.
+struct Walk {
+    place: usize,
+    name: Span,
+    group: usize,
+    angle: usize,
+    free: usize,
+}
+
+// Where a symbol leads: on, or nowhere.
+enum Stepped {
+    On(Walk),
+    Off,
+}
+
+// The kinds of the records.
+const MAILBOX: u8 = 1;
+
+const ANGLE_ADDRESS: u8 = 2;
+
+const GROUP: u8 = 3;
+
+// The column of a class, from 0.
+fn class_number(class: Class) -> usize
+    ensures { λ r. ⌜ (r ≡ classNumber class) × (r < 11) ⌝ }
+{
+    match class {
+        Class::Atom => 0,
+        Class::Quoted => 1,
+        Class::At => 2,
+        Class::LessThan => 3,
+        Class::GreaterThan => 4,
+        Class::Comma => 5,
+        Class::Semicolon => 6,
+        Class::Colon => 7,
+        Class::Stray => 8,
+        Class::Dot => 9,
+        Class::Literal => 10,
+    }
+}
+
+// A number of the table: that of a place in a column.
+fn cell(places: &[u8; TABLE_SIZE], place: usize, column: usize) -> u8
+    requires { ⌜ (place < placeCount) × (column < columns) ⌝ }
+    ensures { λ r. ⌜ r ≡ getD (now (places .entry)) (place * columns + column) 0 ⌝ }
+{
+    places[place * COLUMNS + column]
+}
+
+// The next place, from a place by a symbol of a class.
+fn next_place(places: &[u8; TABLE_SIZE], place: usize, class: Class) -> usize
+    requires { ⌜ (place < placeCount) × (now places ≡ placeTable) ⌝ }
+    ensures { λ r. ⌜ r ≡ nextPlace place class ⌝ }
+{
+    cell(places, place, class_number(class) + 2) as usize
+}
+
+// What coming to a place does; 9 where it is none.
+fn effect_at(places: &[u8; TABLE_SIZE], place: usize) -> u8
+    requires { ⌜ now places ≡ placeTable ⌝ }
+    ensures { λ r. ⌜ (effectFrom r ≡ effectOf place) × (r < 9 → place < placeCount) ⌝ }
+{
+    if PLACES <= place {
+        return 9;
+    }
+    cell(places, place, 0)
+}
+
+// Whether a list may end here.
+fn may_end(places: &[u8; TABLE_SIZE], w: Walk) -> bool
+    requires { ⌜ (w .place < placeCount) × (now places ≡ placeTable) ⌝ }
+    ensures { λ r. ⌜ r ≡ both (endsAt (w .place)) (noGroup (w .group)) ⌝ }
+{
+    if w.group != 0 {
+        return false;
+    }
+    cell(places, w.place, 1) == 1
+}
+
+// 1 for a number that is not 0.
+fn one_if(n: usize) -> usize
+    ensures { λ r. ⌜ (r ≡ oneIf n) × (r < 2) ⌝ }
+{
+    if n == 0 { 0 } else { 1 }
+}
+
+// The parent of what begins: the open angle address, or else the open group.
+fn parent_of(group: usize, angle: usize) -> usize
+    ensures { λ r. ⌜ r ≡ parentOf group angle ⌝ }
+{
+    if angle == 0 { group } else { angle }
+}
+
+// A record begins behind the others: from the name on, with an end for now.
+fn begin(table: &mut [u8], w: Walk, kind: u8, end: usize)
+    ensures { λ _. ⌜ now (table .exit) ≡ sets (now (table .entry)) (w .free * addressRecordSize) (recordBytes (newBy kind w end)) ⌝ }
+{
+    let depth = (one_if(w.group) + one_if(w.angle)) as u8;
+    let name = w.name;
+    let start = name.start;
+    let address = AddressRecord {
+        kind,
+        depth,
+        parent: parent_of(w.group, w.angle),
+        start,
+        end,
+        name,
+    };
+    store_record(table, w.free, address);
+}
+
+// The record with a number, plus 1, comes to an end; where there is none, the symbol leads nowhere.
+fn close(table: &mut [u8], number: usize, end: usize, then: Walk) -> Stepped
+    ensures { λ r. ⌜ CloseIs number end then (now (table .entry)) (now (table .exit)) r ⌝ }
+{
+    if number == 0 {
+        return Stepped::Off;
+    }
+    store_end(table, number - 1, end);
+    Stepped::On(then)
+}
+
+// At another place, with this name.
+fn named(w: Walk, place: usize, start: usize, end: usize) -> Walk
+    ensures { λ r. ⌜ r ≡ walkBy place start end (w .group) (w .angle) (w .free) ⌝ }
+{
+    let name = Span { start, end };
+    Walk {
+        place,
+        name,
+        group: w.group,
+        angle: w.angle,
+        free: w.free,
+    }
+}
+
+// At another place, in this group and angle address, with so many records.
+fn holding(w: Walk, place: usize, group: usize, angle: usize, free: usize) -> Walk
+    ensures { λ r. ⌜ r ≡ walkBy place (w .name .start) (w .name .end) group angle free ⌝ }
+{
+    let name = w.name;
+    Walk {
+        place,
+        name,
+        group,
+        angle,
+        free,
+    }
+}
+
+// One symbol.
+fn step(
+    places: &[u8; TABLE_SIZE],
+    table: &mut [u8],
+    w: Walk,
+    class: Class,
+    start: usize,
+    end: usize,
+) -> Stepped
+    requires { ⌜ Fine w × (w .free ≤ messageLimit) × (now places ≡ placeTable) ⌝ }
+    ensures { λ r. ⌜ StepIs w class start end (now (table .entry)) (now (table .exit)) r ⌝ }
+{
+    let place = next_place(places, w.place, class);
+    match effect_at(places, place) {
+        0 => Stepped::On(holding(w, place, w.group, w.angle, w.free)),
+        1 => Stepped::On(named(w, place, start, end)),
+        2 => Stepped::On(named(w, place, w.name.start, end)),
+        3 => {
+            begin(table, w, MAILBOX, end);
+            Stepped::On(holding(w, place, w.group, w.angle, w.free + 1))
+        }
+        4 => close(
+            table,
+            w.free,
+            end,
+            holding(w, place, w.group, w.angle, w.free),
+        ),
+        5 => {
+            begin(table, w, ANGLE_ADDRESS, end);
+            Stepped::On(holding(w, place, w.group, w.free + 1, w.free + 1))
+        }
+        6 => close(table, w.angle, end, holding(w, place, w.group, 0, w.free)),
+        7 => {
+            if w.group != 0 {
+                return Stepped::Off;
+            }
+            begin(table, w, GROUP, end);
+            Stepped::On(holding(w, place, w.free + 1, w.angle, w.free + 1))
+        }
+        8 => close(table, w.group, end, holding(w, place, 0, w.angle, w.free)),
+        _ => Stepped::Off,
+    }
+}
+
+// The class of a symbol in RFC 822: the atom "at" is an atom.
+fn class_in(class: Class, start: usize, end: usize) -> Class
+    requires { ⌜ start < end ⌝ }
+    ensures { λ r. ⌜ r ≡ classIn822 class start end ⌝ }
+{
+    match class {
+        Class::At => {
+            if end == start + 1 {
+                Class::At
+            } else {
+                Class::Atom
+            }
+        }
+        _ => class,
+    }
+}
+
+// The loop before its first symbol.
+fn beginning() -> Walk
+    ensures { λ r. ⌜ r ≡ walkBy 0 0 0 0 0 0 ⌝ }
+{
+    let name = Span { start: 0, end: 0 };
+    Walk {
+        place: 0,
+        name,
+        group: 0,
+        angle: 0,
+        free: 0,
+    }
+}
+
+// The list from a position of a text on to its end.
+fn read_whole(
+    classes: &[u8; 256],
+    places: &[u8; TABLE_SIZE],
+    text: &[u8],
+    table: &mut [u8],
+    at: usize,
+) -> Whole
+    requires { ⌜ Body (now classes) (now text) at × (now places ≡ placeTable) ⌝ }
+    ensures { λ r. ⌜ WholeIs verdict822 (now (classes .entry)) (now (text .entry)) at (now (table .entry)) (now (table .exit)) r ⌝ }
+{
+    let mut p = at;
+    let mut w = beginning();
+    loop {
+        let Next::Found(class, start, end) = scanner::next_by(classes, text, p) else {
+            if may_end(places, w) {
+                return Whole::Listed(w.free);
+            }
+            return Whole::Refused(ENDS_TOO_SOON, text.len());
+        };
+        let taken = class_in(class, start, end);
+        let Stepped::On(v) = step(places, table, w, taken, start, end) else {
+            return Whole::Refused(NO_LIST_GOES_ON, start);
+        };
+        w = v;
+        p = end;
+    }
+}
+
+// A text without fault: a run on the empty part of the table for the answer, and then, if there is room, the run that writes.
+fn read_twice(
+    classes: &[u8; 256],
+    places: &[u8; TABLE_SIZE],
+    text: &[u8],
+    table: &mut [u8],
+    at: usize,
+) -> Answer
+    requires { ⌜ Body (now classes) (now text) at × (now places ≡ placeTable) ⌝ }
+    ensures { λ r. ⌜ TwiceIs verdict822 (now (classes .entry)) (now (text .entry)) at (now (table .entry)) (now (table .exit)) r ⌝ }
+{
+    match read_whole(classes, places, text, &mut table[..0], at) {
+        Whole::Refused(number, place) => Answer::Refused(number, place),
+        Whole::Listed(count) => {
+            if table.len() / ADDRESS_RECORD_SIZE < count {
+                return Answer::NoRoom(count);
+            }
+            match read_whole(classes, places, text, table, at) {
+                Whole::Refused(number, place) => Answer::Refused(number, place),
+                Whole::Listed(written) => Answer::Accepted(written),
+            }
+        }
+    }
+}
+
+// A text from a position on: its first fault, or what it holds.
+fn read_text(
+    classes: &[u8; 256],
+    places: &[u8; TABLE_SIZE],
+    text: &[u8],
+    table: &mut [u8],
+    at: usize,
+) -> Answer
+    requires { ⌜ (at ≤ length (now text)) × (length (now text) ≤ messageLimit) × (now places ≡ placeTable) ⌝ }
+    ensures { λ r. ⌜ TextIs verdict822 (now (classes .entry)) (now (text .entry)) at (now (table .entry)) (now (table .exit)) r ⌝ }
+{
+    match scanner::fault_by(classes, text, at) {
+        Answer::Refused(number, place) => Answer::Refused(number, place),
+        _ => read_twice(classes, places, text, table, at),
+    }
+}
+
+// Read the address list of RFC 822 in the body of a message within its limit.
+fn read_822(message: &[u8], start: usize, end: usize, table: &mut [u8]) -> Answer
+    requires { ⌜ length (now message) ≤ messageLimit ⌝ }
+    ensures { λ r. ⌜ (r ≡ outcome822 (now (message .entry)) start end (now (table .entry)) .answer) × (now (table .exit) ≡ outcome822 (now (message .entry)) start end (now (table .entry)) .table) ⌝ }
+{
+    if end < start {
+        return Answer::Refused(BODY_OUT_OF_ORDER, 0);
+    }
+    if message.len() < end {
+        return Answer::Refused(BODY_OUT_OF_ORDER, 0);
+    }
+    let classes = &CLASSES_822;
+    let places = &NEXT_PLACES;
+    read_text(classes, places, &message[..end], table, start)
+}
+
+// Read the address list in the body of a message from start up to end by the rules of an edition, 733 or 822, and write its records
+// into the table.
+pub fn read_addresses(
+    message: &[u8],
+    start: usize,
+    end: usize,
+    edition: usize,
+    table: &mut [u8],
+) -> Answer
+    ensures outcome { λ r. ⌜ (r ≡ outcomeOf edition (now (message .entry)) start end (now (table .entry)) .answer) × (now (table .exit) ≡ outcomeOf edition (now (message .entry)) start end (now (table .entry)) .table) ⌝ }
+    ensures condition3 { λ r. ⌜ Condition3Of edition (now (message .entry)) start end (now (table .entry)) r (now (table .exit)) ⌝ }
+    ensures levels { λ r. ⌜ NeverTooDeep edition r ⌝ }
+{
+    if MESSAGE_LIMIT < message.len() {
+        return Answer::Refused(MESSAGE_TOO_LONG, MESSAGE_LIMIT);
+    }
+    if edition == 733 {
+        return addresses::read_addresses(message, start, end, table);
+    }
+    if edition == 822 {
+        return read_822(message, start, end, table);
+    }
+    Answer::Refused(EDITION_UNKNOWN, 0)
+}

@@ -1,0 +1,66 @@
+-- Condition 3 for RFC 822: exactly one derivation; the machine's answer is right; no derivation has more than 2 levels, so that 10 never occurs. Assumes nothing.
+use Prim.Native.Nat.{ℕ, _≤_}
+use mathlib.Core.Path.{_≡_, refl}
+use mathlib.Core.Bool.{true}
+use mathlib.Core.List.{List}
+use Rattle.grammar.specs.Grammar.{Row, levels}
+use Rattle.grammar.specs.Language.{tooDeep, refused, Right}
+use Rattle.grammar.specs.Rfc822.{Notion, list, place, address, boxes, boxPlace, mailbox, addrSpec, route, hops, emptyPlaces, localPart, domain, subDomain, phrase, word, rulesOf, rfc822}
+use Rattle.grammar.proofs.AnyMachine as any-machine
+use Rattle.grammar.proofs.Arrows as arrows
+use Rattle.grammar.proofs.Ranks as ranks
+use Rattle.grammar.proofs.Ranks.{ranked}
+use Rattle.grammar.proofs.AnyReader.{Reads}
+use Rattle.grammar.proofs.Trees822.{Class, Sym, DerivedList}
+use Rattle.grammar.proofs.Machine822.{step, finish, start, read}
+use Rattle.grammar.proofs.Complete822.{machine}
+
+-- the levels that a notion has at most
+abbrev rank : Notion → ℕ
+rank list = 2
+rank place = 2
+rank address = 2
+rank boxes = 1
+rank boxPlace = 1
+rank mailbox = 1
+rank addrSpec = 0
+rank route = 0
+rank hops = 0
+rank emptyPlaces = 0
+rank localPart = 0
+rank domain = 0
+rank subDomain = 0
+rank phrase = 0
+rank word = 0
+
+all-ranked : (A : Notion) → ranked rank (rank A) (rulesOf A) ≡ true
+all-ranked list = refl
+all-ranked place = refl
+all-ranked address = refl
+all-ranked boxes = refl
+all-ranked boxPlace = refl
+all-ranked mailbox = refl
+all-ranked addrSpec = refl
+all-ranked route = refl
+all-ranked hops = refl
+all-ranked emptyPlaces = refl
+all-ranked localPart = refl
+all-ranked domain = refl
+all-ranked subDomain = refl
+all-ranked phrase = refl
+all-ranked word = refl
+
+-- no list has more than 2 levels
+pub two-levels : (k : Row Class Notion) (xs : List Sym) → DerivedList k xs → levels k ≤ 2
+two-levels k xs d = ranks.bounded rank rfc822 all-ranked d
+
+pub reads : Reads rfc822 list 2 read
+reads =
+    record {
+      right = λ limit h xs. arrows.right-bounded DerivedList levels 2 limit h two-levels xs (read limit xs) (any-machine.right DerivedList (λ k. 0) step finish start machine limit xs);
+      one = any-machine.unique DerivedList (λ k. 0) step finish start machine;
+    }
+
+-- 10 never occurs
+pub never-ten : (limit : ℕ) → 2 ≤ limit → (xs rest : List Sym) → Right DerivedList levels limit xs (refused tooDeep rest) → ⊥
+never-ten limit h xs rest r = arrows.never-too-deep DerivedList levels 2 limit h two-levels xs rest r

@@ -1,0 +1,80 @@
+-- Trees for the derivations of any grammar: a tree is a rule and the row of its parts; if every rule is covered by trees, every derivation is a tree. Assumes nothing.
+use Prim.Native.Nat.{ℕ, zero, suc, _<_}
+use native.Mathlib.Omega.{arith}
+use mathlib.Core.Path.{_≡_, refl, ap, ap₂, _∙_}
+use mathlib.Core.List.{List, [], _∷_, List·Memᴰ, List·Memᴰ·head as here, List·Memᴰ·tail as there}
+use lib.ListN.{length, getD}
+use Rattle.scanner.specs.Symbols.{Lexeme, Symbol}
+use Rattle.grammar.specs.Grammar.{Item, symbol, part, Rule, Grammar, Row, nil, leaf, branch, yield, Allowed, Fits, done, take, apply, Derived}
+
+-- the symbol of a class with a lexeme
+abbrev pub mark : {C : Type 0} → C → Lexeme → Symbol C
+mark c t = record { class = c; lexeme = t }
+
+-- a rule, and the row of its parts
+pub record Piece (C N : Type 0) : Type 0 where
+  pub rule : Rule C N
+  pub parts : Row C N
+
+abbrev pub piece : {C N : Type 0} → Rule C N → Row C N → Piece C N
+piece r p = record { rule = r; parts = p }
+
+-- a piece before a row
+abbrev pub put : {C N : Type 0} → Piece C N → Row C N → Row C N
+put p k = branch (p .rule) (p .parts) k
+
+pub member : {R : Type 0} (rs : List R) (i : ℕ) (r : R) → i < length rs → List·Memᴰ (getD rs i r) rs
+member [] i r h = absurd (omega arith)
+member (x ∷ rs) zero r h = here refl
+member (x ∷ rs) (suc i) r h = there (member rs i r (omega arith))
+
+module _ {C N : Type 0} (G : Grammar C N) where
+  -- a piece is derived from a nonterminal
+  pub record From (A : N) (p : Piece C N) : Type 0 where
+    pub member : List·Memᴰ (p .rule) (G .rules A)
+    pub fits : Fits G (p .rule .items) (p .parts)
+    pub allowed : Allowed (G .same) (p .rule .never) (yield (p .parts))
+
+  pub put-fits : {A : N} {p : Piece C N} {items : List (Item C N)} {k : Row C N} → From A p → Fits G items k → Fits G (part A ∷ items) (put p k)
+  put-fits f d = apply (f .member) (f .fits) (f .allowed) d
+
+  module _ (Tree : N → Type 0) (pieceOf : (A : N) → Tree A → Piece C N) where
+    -- what these items hold: for a class a lexeme, for a nonterminal a tree
+    abbrev pub Values : List (Item C N) → Type 0
+    Values [] = Unit {0}
+    Values (symbol c ∷ items) = Lexeme × Values items
+    Values (part A ∷ items) = Tree A × Values items
+
+    abbrev pub rowOf : (items : List (Item C N)) → Values items → Row C N
+    rowOf [] v = nil
+    rowOf (symbol c ∷ items) v = leaf (mark c (v .0)) (rowOf items (v .1))
+    rowOf (part A ∷ items) v = put (pieceOf A (v .0)) (rowOf items (v .1))
+
+    -- whatever the items of a rule hold is a tree
+    abbrev pub Covers : N → Rule C N → Type 0
+    Covers A r = (v : Values (r .items)) → (x : Tree A) × (piece r (rowOf (r .items) v) ≡ pieceOf A x)
+
+    abbrev pub AllCovered : N → List (Rule C N) → Type 0
+    AllCovered A [] = Unit {0}
+    AllCovered A (r ∷ rs) = Covers A r × AllCovered A rs
+
+    covers : (A : N) (rs : List (Rule C N)) (r : Rule C N) → List·Memᴰ r rs → AllCovered A rs → Covers A r
+    covers A (r′ ∷ rs) r (here e) c = rw e (c .0)
+    covers A (r′ ∷ rs) r (there m) c = covers A rs r m (c .1)
+
+    module _ (all : (A : N) → AllCovered A (G .rules A)) where
+      -- the one induction over derivations
+      pub values : {items : List (Item C N)} {k : Row C N} → Fits G items k → (v : Values items) × (k ≡ rowOf items v)
+      values done = (tt, refl)
+      values (take {x = x} {row = k} e d) = let (v, q) = values d in ((x .lexeme, v), ap₂ leaf (ap (λ c. mark c (x .lexeme)) e) q)
+      values (apply {A = A} {rule = r} {parts = p} {row = k} m d o d′) =
+          let (u, q) = values d in
+          let (x, f) = covers A (G .rules A) r m (all A) u in
+          let (w, q′) = values d′ in
+          ((x, w), ap₂ put (ap (piece r) q ∙ f) q′)
+
+      -- every derivation is a tree
+      pub tree-of : {A : N} {k : Row C N} {xs : List (Symbol C)} → Derived G A k xs → (x : Tree A) × (k ≡ put (pieceOf A x) nil) × (yield (put (pieceOf A x) nil) ≡ xs)
+      tree-of {A} {k} {xs} d =
+          let (v, q) = values (d .fits) in
+          (v .0, q, rw q at (d .yields))

@@ -1,0 +1,278 @@
+-- The address rules of RFC 822 as trees: a constructor is a rule, its fields are the parts; and they are the derivations of the grammar `rfc822`. Assumes nothing.
+use Prim.Native.Nat.{ℕ, _<_}
+use native.Mathlib.Omega.{arith}
+use mathlib.Core.Path.{_≡_, refl}
+use mathlib.Core.List.{List, [], _∷_}
+use lib.ListN.{length, getD}
+use Rattle.grammar.specs.Grammar.{Item, part, Row, nil, leaf, yield, Allowed, Fits, done, take, Derived}
+use Rattle.grammar.specs.Rfc733.{sameClass, plain}
+use Rattle.grammar.specs.Rfc822.{rulesOf, Notion, list, place, address, boxes, boxPlace, mailbox, addrSpec, route, hops, emptyPlaces, localPart, domain, subDomain, phrase, word, rfc822}
+pub use Rattle.grammar.proofs.Trees.{Class, Atom, Quoted, At, LessThan, GreaterThan, Comma, Semicolon, Colon, Stray, Dot, Literal, Lexeme, Sym, of, Word, atomWord, quotedWord, Phrase, one, more}
+use Rattle.grammar.proofs.Pieces.{Piece, piece, put, member, From, put-fits, AllCovered, tree-of}
+
+-- ---- trees
+
+pub data Sub : Type 0 where
+  atomSub literalSub : Lexeme → Sub
+
+pub data Domain : Type 0 where
+  oneSub : Sub → Domain
+  moreSub : Domain → Lexeme → Sub → Domain
+
+pub data Local : Type 0 where
+  oneWord : Word → Local
+  moreWord : Local → Lexeme → Word → Local
+
+pub data Spec : Type 0 where
+  spec : Local → Lexeme → Domain → Spec
+
+pub data Empties : Type 0 where
+  noEmpty : Empties
+  oneEmpty : Empties → Lexeme → Empties
+
+pub data Hops : Type 0 where
+  firstHop : Empties → Lexeme → Domain → Hops
+  nextHop : Hops → Lexeme → Empties → Lexeme → Domain → Hops
+
+pub data Route : Type 0 where
+  direct : Hops → Lexeme → Route
+  trailing : Hops → Lexeme → Empties → Lexeme → Route
+
+pub data Mailbox : Type 0 where
+  bare : Spec → Mailbox
+  angle : Phrase → Lexeme → Spec → Lexeme → Mailbox
+  routed : Phrase → Lexeme → Route → Spec → Lexeme → Mailbox
+
+mutual
+  pub data Place (E : Type 0) : Type 0 where
+    empty : Place E
+    comma : Listed E → Lexeme → Place E
+
+  pub data Listed (E : Type 0) : Type 0 where
+    idle : Place E → Listed E
+    full : Place E → E → Listed E
+
+pub data Address : Type 0 where
+  box : Mailbox → Address
+  group : Phrase → Lexeme → Listed Mailbox → Lexeme → Address
+
+-- ---- each tree as a rule and the row of its parts
+
+abbrev pub Bit : Type 0
+Bit = Piece Class Notion
+
+-- the i-th rule of a notion, with these parts
+abbrev pub bit : Notion → ℕ → Row Class Notion → Bit
+bit A i p = piece (getD (rulesOf A) i (plain [])) p
+
+abbrev then : Class → Lexeme → Row Class Notion → Row Class Notion
+then c t k = leaf (of c t) k
+
+abbrev pub wordPiece : Word → Bit
+wordPiece (atomWord t) = bit word 0 (then Atom t nil)
+wordPiece (quotedWord t) = bit word 1 (then Quoted t nil)
+
+abbrev pub phrasePiece : Phrase → Bit
+phrasePiece (one w) = bit phrase 0 (put (wordPiece w) nil)
+phrasePiece (more p w) = bit phrase 1 (put (phrasePiece p) (put (wordPiece w) nil))
+
+abbrev pub subPiece : Sub → Bit
+subPiece (atomSub t) = bit subDomain 0 (then Atom t nil)
+subPiece (literalSub t) = bit subDomain 1 (then Literal t nil)
+
+abbrev pub domainPiece : Domain → Bit
+domainPiece (oneSub s) = bit domain 0 (put (subPiece s) nil)
+domainPiece (moreSub m t s) = bit domain 1 (put (domainPiece m) (then Dot t (put (subPiece s) nil)))
+
+abbrev pub localPiece : Local → Bit
+localPiece (oneWord w) = bit localPart 0 (put (wordPiece w) nil)
+localPiece (moreWord l t w) = bit localPart 1 (put (localPiece l) (then Dot t (put (wordPiece w) nil)))
+
+abbrev pub specPiece : Spec → Bit
+specPiece (spec l t m) = bit addrSpec 0 (put (localPiece l) (then At t (put (domainPiece m) nil)))
+
+abbrev pub emptiesPiece : Empties → Bit
+emptiesPiece noEmpty = bit emptyPlaces 0 nil
+emptiesPiece (oneEmpty g t) = bit emptyPlaces 1 (put (emptiesPiece g) (then Comma t nil))
+
+abbrev pub hopsPiece : Hops → Bit
+hopsPiece (firstHop g t m) = bit hops 0 (put (emptiesPiece g) (then At t (put (domainPiece m) nil)))
+hopsPiece (nextHop h u g t m) = bit hops 1 (put (hopsPiece h) (then Comma u (put (emptiesPiece g) (then At t (put (domainPiece m) nil)))))
+
+abbrev pub routePiece : Route → Bit
+routePiece (direct h t) = bit route 0 (put (hopsPiece h) (then Colon t nil))
+routePiece (trailing h u g t) = bit route 1 (put (hopsPiece h) (then Comma u (put (emptiesPiece g) (then Colon t nil))))
+
+abbrev pub mailboxPiece : Mailbox → Bit
+mailboxPiece (bare s) = bit mailbox 0 (put (specPiece s) nil)
+mailboxPiece (angle p t s u) = bit mailbox 1 (put (phrasePiece p) (then LessThan t (put (specPiece s) (then GreaterThan u nil))))
+mailboxPiece (routed p t r s u) = bit mailbox 2 (put (phrasePiece p) (then LessThan t (put (routePiece r) (put (specPiece s) (then GreaterThan u nil)))))
+
+abbrev mutual
+  pub boxPlacePiece : Place Mailbox → Bit
+  boxPlacePiece empty = bit boxPlace 0 nil
+  boxPlacePiece (comma l t) = bit boxPlace 1 (put (boxesPiece l) (then Comma t nil))
+
+  pub boxesPiece : Listed Mailbox → Bit
+  boxesPiece (idle r) = bit boxes 1 (put (boxPlacePiece r) nil)
+  boxesPiece (full r b) = bit boxes 0 (put (boxPlacePiece r) (put (mailboxPiece b) nil))
+
+abbrev pub addressPiece : Address → Bit
+addressPiece (box b) = bit address 0 (put (mailboxPiece b) nil)
+addressPiece (group p t l u) = bit address 1 (put (phrasePiece p) (then Colon t (put (boxesPiece l) (then Semicolon u nil))))
+
+abbrev mutual
+  pub placePiece : Place Address → Bit
+  placePiece empty = bit place 0 nil
+  placePiece (comma l t) = bit place 1 (put (listPiece l) (then Comma t nil))
+
+  pub listPiece : Listed Address → Bit
+  listPiece (idle r) = bit list 1 (put (placePiece r) nil)
+  listPiece (full r a) = bit list 0 (put (placePiece r) (put (addressPiece a) nil))
+
+-- ---- every tree is a derivation
+
+abbrev Is : Notion → Bit → Type 0
+Is A p = From rfc822 A p
+
+-- .. by the i-th rule
+by : (A : Notion) (i : ℕ) {p : Row Class Notion} → i < length (rulesOf A) → Fits rfc822 (bit A i p .rule .items) p → Allowed sameClass (bit A i p .rule .never) (yield p) → Is A (bit A i p)
+by A i h d o = record { member = member (rulesOf A) i (plain []) h; fits = d; allowed = o }
+
+with : {A : Notion} {p : Bit} {items : List (Item Class Notion)} {k : Row Class Notion} → Is A p → Fits rfc822 items k → Fits rfc822 (part A ∷ items) (put p k)
+with f d = put-fits rfc822 f d
+
+pub word-is : (w : Word) → Is word (wordPiece w)
+word-is (atomWord t) = by word 0 (omega arith) (take refl done) tt
+word-is (quotedWord t) = by word 1 (omega arith) (take refl done) tt
+
+pub phrase-is : (p : Phrase) → Is phrase (phrasePiece p)
+phrase-is (one w) = by phrase 0 (omega arith) (with (word-is w) done) tt
+phrase-is (more p w) = by phrase 1 (omega arith) (with (phrase-is p) (with (word-is w) done)) tt
+
+pub sub-is : (s : Sub) → Is subDomain (subPiece s)
+sub-is (atomSub t) = by subDomain 0 (omega arith) (take refl done) tt
+sub-is (literalSub t) = by subDomain 1 (omega arith) (take refl done) tt
+
+pub domain-is : (m : Domain) → Is domain (domainPiece m)
+domain-is (oneSub s) = by domain 0 (omega arith) (with (sub-is s) done) tt
+domain-is (moreSub m t s) = by domain 1 (omega arith) (with (domain-is m) (take refl (with (sub-is s) done))) tt
+
+pub local-is : (l : Local) → Is localPart (localPiece l)
+local-is (oneWord w) = by localPart 0 (omega arith) (with (word-is w) done) tt
+local-is (moreWord l t w) = by localPart 1 (omega arith) (with (local-is l) (take refl (with (word-is w) done))) tt
+
+pub spec-is : (s : Spec) → Is addrSpec (specPiece s)
+spec-is (spec l t m) = by addrSpec 0 (omega arith) (with (local-is l) (take refl (with (domain-is m) done))) tt
+
+pub empties-is : (g : Empties) → Is emptyPlaces (emptiesPiece g)
+empties-is noEmpty = by emptyPlaces 0 (omega arith) done tt
+empties-is (oneEmpty g t) = by emptyPlaces 1 (omega arith) (with (empties-is g) (take refl done)) tt
+
+pub hops-is : (h : Hops) → Is hops (hopsPiece h)
+hops-is (firstHop g t m) = by hops 0 (omega arith) (with (empties-is g) (take refl (with (domain-is m) done))) tt
+hops-is (nextHop h u g t m) = by hops 1 (omega arith) (with (hops-is h) (take refl (with (empties-is g) (take refl (with (domain-is m) done))))) tt
+
+pub route-is : (r : Route) → Is route (routePiece r)
+route-is (direct h t) = by route 0 (omega arith) (with (hops-is h) (take refl done)) tt
+route-is (trailing h u g t) = by route 1 (omega arith) (with (hops-is h) (take refl (with (empties-is g) (take refl done)))) tt
+
+pub mailbox-is : (b : Mailbox) → Is mailbox (mailboxPiece b)
+mailbox-is (bare s) = by mailbox 0 (omega arith) (with (spec-is s) done) tt
+mailbox-is (angle p t s u) = by mailbox 1 (omega arith) (with (phrase-is p) (take refl (with (spec-is s) (take refl done)))) tt
+mailbox-is (routed p t r s u) = by mailbox 2 (omega arith) (with (phrase-is p) (take refl (with (route-is r) (with (spec-is s) (take refl done))))) tt
+
+mutual
+  boxPlace-is : (r : Place Mailbox) → Is boxPlace (boxPlacePiece r)
+  boxPlace-is empty = by boxPlace 0 (omega arith) done tt
+  boxPlace-is (comma l t) = by boxPlace 1 (omega arith) (with (boxes-is l) (take refl done)) tt
+
+  boxes-is : (l : Listed Mailbox) → Is boxes (boxesPiece l)
+  boxes-is (idle r) = by boxes 1 (omega arith) (with (boxPlace-is r) done) tt
+  boxes-is (full r b) = by boxes 0 (omega arith) (with (boxPlace-is r) (with (mailbox-is b) done)) tt
+
+pub address-is : (a : Address) → Is address (addressPiece a)
+address-is (box b) = by address 0 (omega arith) (with (mailbox-is b) done) tt
+address-is (group p t l u) = by address 1 (omega arith) (with (phrase-is p) (take refl (with (boxes-is l) (take refl done)))) tt
+
+mutual
+  place-is : (r : Place Address) → Is place (placePiece r)
+  place-is empty = by place 0 (omega arith) done tt
+  place-is (comma l t) = by place 1 (omega arith) (with (list-is l) (take refl done)) tt
+
+  list-is : (l : Listed Address) → Is list (listPiece l)
+  list-is (idle r) = by list 1 (omega arith) (with (place-is r) done) tt
+  list-is (full r a) = by list 0 (omega arith) (with (place-is r) (with (address-is a) done)) tt
+
+-- ---- every derivation is a tree
+
+abbrev Tree : Notion → Type 0
+Tree list = Listed Address
+Tree place = Place Address
+Tree address = Address
+Tree boxes = Listed Mailbox
+Tree boxPlace = Place Mailbox
+Tree mailbox = Mailbox
+Tree addrSpec = Spec
+Tree route = Route
+Tree hops = Hops
+Tree emptyPlaces = Empties
+Tree localPart = Local
+Tree domain = Domain
+Tree subDomain = Sub
+Tree phrase = Phrase
+Tree word = Word
+
+abbrev pieceOf : (A : Notion) → Tree A → Bit
+pieceOf list x = listPiece x
+pieceOf place x = placePiece x
+pieceOf address x = addressPiece x
+pieceOf boxes x = boxesPiece x
+pieceOf boxPlace x = boxPlacePiece x
+pieceOf mailbox x = mailboxPiece x
+pieceOf addrSpec x = specPiece x
+pieceOf route x = routePiece x
+pieceOf hops x = hopsPiece x
+pieceOf emptyPlaces x = emptiesPiece x
+pieceOf localPart x = localPiece x
+pieceOf domain x = domainPiece x
+pieceOf subDomain x = subPiece x
+pieceOf phrase x = phrasePiece x
+pieceOf word x = wordPiece x
+
+covered : (A : Notion) → AllCovered rfc822 Tree pieceOf A (rulesOf A)
+covered list = (λ (r, (a, z)). (full r a, refl), (λ (r, z). (idle r, refl), tt))
+covered place = (λ z. (empty, refl), (λ (l, (t, z)). (comma l t, refl), tt))
+covered address = (λ (b, z). (box b, refl), (λ (p, (t, (l, (u, z)))). (group p t l u, refl), tt))
+covered boxes = (λ (r, (b, z)). (full r b, refl), (λ (r, z). (idle r, refl), tt))
+covered boxPlace = (λ z. (empty, refl), (λ (l, (t, z)). (comma l t, refl), tt))
+covered mailbox = (
+  λ (s, z). (bare s, refl),
+  (
+    λ (p, (t, (s, (u, z)))). (angle p t s u, refl),
+    (λ (p, (t, (r, (s, (u, z))))). (routed p t r s u, refl), tt),
+  ),
+)
+covered addrSpec = (λ (l, (t, (m, z))). (spec l t m, refl), tt)
+covered route = (λ (h, (t, z)). (direct h t, refl), (λ (h, (u, (g, (t, z)))). (trailing h u g t, refl), tt))
+covered hops = (λ (g, (t, (m, z))). (firstHop g t m, refl), (λ (h, (u, (g, (t, (m, z))))). (nextHop h u g t m, refl), tt))
+covered emptyPlaces = (λ z. (noEmpty, refl), (λ (g, (t, z)). (oneEmpty g t, refl), tt))
+covered localPart = (λ (w, z). (oneWord w, refl), (λ (l, (t, (w, z))). (moreWord l t w, refl), tt))
+covered domain = (λ (s, z). (oneSub s, refl), (λ (m, (t, (s, z))). (moreSub m t s, refl), tt))
+covered subDomain = (λ (t, z). (atomSub t, refl), (λ (t, z). (literalSub t, refl), tt))
+covered phrase = (λ (w, z). (one w, refl), (λ (p, (w, z)). (more p w, refl), tt))
+covered word = (λ (t, z). (atomWord t, refl), (λ (t, z). (quotedWord t, refl), tt))
+
+-- ---- the trees are the derivations
+
+abbrev pub asRow : Listed Address → Row Class Notion
+asRow l = put (listPiece l) nil
+
+abbrev pub DerivedList : Row Class Notion → List Sym → Type 0
+DerivedList k xs = Derived rfc822 list k xs
+
+pub row-derived : (l : Listed Address) {xs : List Sym} → yield (asRow l) ≡ xs → DerivedList (asRow l) xs
+row-derived l e = record { fits = with (list-is l) done; yields = e }
+
+pub tree-derived : {k : Row Class Notion} {xs : List Sym} → DerivedList k xs → (l : Listed Address) × (k ≡ asRow l) × (yield (asRow l) ≡ xs)
+tree-derived d = tree-of rfc822 Tree pieceOf covered d

@@ -1,0 +1,156 @@
+-- `scanner::literal_end` meets its contract: the literal-string is open up to the position reached. Assumes nothing.
+use borrow.Author.Needs.{needs}
+use mathlib.Core.Path.{refl, sym, ap, _∙_}
+use mathlib.Core.List.{[]}
+use native.Mathlib.Omega.{arith}
+use Prim.Native.Nat.{_-_, _≤_}
+use lib.ListN.{length}
+use Rattle.octets.specs.Numbers.{byteAbove127, strayControl, literalNotClosed}
+use Rattle.scanner.specs.Scanning.{takingInLiteral, go, halt}
+use Rattle.scanner.specs.Answers.{nextOf}
+use Rattle.scanner.specs.Steps.{FirstCharacter}
+use Rattle.scanner.specs.declared.Class.the-variants.{Literal}
+use Rattle.scanner.specs.declared.Next.the-variants.{Found}
+use Rattle.scanner.proofs.MoveLaws.{at-end, InLiteral, literal-moves, literal-on, literal-taking, literal-taken}
+use Rattle.scanner.proofs.literal_end.Statement.{statement}
+use Rattle.scanner.proofs.literal_end.Tie as tie
+
+abbrev Inv-loop : tie.InvT-loop
+Inv-loop classes text start at p₀ p =
+    (p ≤ length text) × InLiteral classes text start at p
+
+abbrev μ-loop : tie.MeasureT-loop
+μ-loop classes text start at p₀ p = length text - p
+
+-- the character that was read
+first : (c : tie.After-kind Inv-loop μ-loop) → (let f = c .kind .given .0 in let a = c .before .before .before .before .before .args in FirstCharacter (a .classes .now) (a .text .now) (c .before .before .before .loop .p) (f .0) (f .1 .0) (f .1 .1 .0))
+first c = rw (c .kind .given .1) at (c .before .before .character .ensures)
+
+-- the character behind a backslash
+second : (c : tie.After-taken Inv-loop μ-loop) → (let d = c .before .before .before .before .before .before in let f = c .taken .given .0 in let a = d .before .before .before .before .before .args in FirstCharacter (a .classes .now) (a .text .now) (d .kind .given .0 .1 .1 .0) (f .0) (f .1 .0) (f .1 .1 .0))
+second c = rw (c .taken .given .1) at (c .before .before .character2 .ensures)
+
+loop-holds : tie.Need-loop-holds Inv-loop μ-loop
+loop-holds c = (omega arith, record { same = refl })
+
+character-requires : tie.Need-character-requires Inv-loop μ-loop
+character-requires c κs = search needs
+
+enum-known-kind : tie.Need-enum-known-kind Inv-loop μ-loop
+enum-known-kind c = search needs
+
+enum-told : tie.Need-enum-told Inv-loop μ-loop
+enum-told c = search needs
+
+returns : tie.Need-returns Inv-loop μ-loop
+returns c =
+    let a = c .before .before .before .before .before .args in
+    let l = c .before .before .before .loop in
+    sym (ap nextOf (l .inv .1 .same ∙ at-end (a .classes .now) (a .text .now) (l .p) _ (rw (c .enum-told .given .1) at (c .before .before .character .ensures))))
+
+enum-told-2 : tie.Need-enum-told-2 Inv-loop μ-loop
+enum-told-2 c = search needs
+
+returns-2 : tie.Need-returns-2 Inv-loop μ-loop
+returns-2 c =
+    let x = rw (c .enum-told2 .given .1) at (first (c .before .before .before)) in
+    let l = c .before .before .before .before .before .before .loop in
+    sym (ap nextOf (literal-moves (l .inv .1) x _ refl) ∙ ap (Found Literal (c .before .before .before .before .before .before .before .before .args .start)) (sym (x .behind)))
+
+enum-told-3 : tie.Need-enum-told-3 Inv-loop μ-loop
+enum-told-3 c = search needs
+
+returns-3 : tie.Need-returns-3 Inv-loop μ-loop
+returns-3 c =
+    sym (ap nextOf (literal-moves (c .before .before .before .before .before .before .loop .inv .1) (rw (c .enum-told3 .given .1) at (first (c .before .before .before))) (halt [] strayControl _) refl))
+
+enum-told-4 : tie.Need-enum-told-4 Inv-loop μ-loop
+enum-told-4 c = search needs
+
+returns-4 : tie.Need-returns-4 Inv-loop μ-loop
+returns-4 c =
+    sym (ap nextOf (literal-moves (c .before .before .before .before .before .before .loop .inv .1) (rw (c .enum-told4 .given .1) at (first (c .before .before .before))) (halt [] byteAbove127 _) refl))
+
+enum-told-5 : tie.Need-enum-told-5 Inv-loop μ-loop
+enum-told-5 c = search needs
+
+character-requires-2 : tie.Need-character-requires-2 Inv-loop μ-loop
+character-requires-2 c κs = search needs
+
+enum-known-taken : tie.Need-enum-known-taken Inv-loop μ-loop
+enum-known-taken c = search needs
+
+enum-told-6 : tie.Need-enum-told-6 Inv-loop μ-loop
+enum-told-6 c = search needs
+
+returns-5 : tie.Need-returns-5 Inv-loop μ-loop
+returns-5 c =
+    let a = c .before .before .before .before .before .before .before .before .before .before .before .args in
+    let l = c .before .before .before .before .before .before .before .before .before .loop in
+    let x = rw (c .before .before .before .enum-told5 .given .1) at (first (c .before .before .before .before .before .before)) in
+    sym
+    (ap nextOf
+    (literal-moves (l .inv .1) x (go [] (takingInLiteral (a .start))) refl
+    ∙ at-end (a .classes .now) (a .text .now) (c .before .before .before .before .before .before .kind .given .0 .1 .1 .0) _ (rw (c .enum-told6 .given .1) at (c .before .before .character2 .ensures))))
+
+enum-told-7 : tie.Need-enum-told-7 Inv-loop μ-loop
+enum-told-7 c = search needs
+
+returns-6 : tie.Need-returns-6 Inv-loop μ-loop
+returns-6 c =
+    let x = rw (c .before .before .before .before .before .before .enum-told5 .given .1) at (first (c .before .before .before .before .before .before .before .before .before)) in
+    let y = rw (c .enum-told7 .given .1) at (second (c .before .before .before)) in
+    sym (ap nextOf (literal-taking (c .before .before .before .before .before .before .before .before .before .before .before .before .loop .inv .1) x y (halt [] byteAbove127 _) refl))
+
+loop-less : tie.Need-loop-less Inv-loop μ-loop
+loop-less c = let x = first (c .before .before .before .before .before .before .before .before) in let y = second (c .before .before) in omega (arith, x .from, x .behind, x .within, y .from, y .behind, y .within)
+
+loop-again : tie.Need-loop-again Inv-loop μ-loop
+loop-again c =
+    let x = rw (c .before .before .before .before .before .enum-told5 .given .1) at (first (c .before .before .before .before .before .before .before .before)) in
+    let y = second (c .before .before) in
+    (y .within, literal-taken (c .before .before .before .before .before .before .before .before .before .before .before .loop .inv .1) x y (c .match4 .keys2))
+
+enum-told-8 : tie.Need-enum-told-8 Inv-loop μ-loop
+enum-told-8 c = search needs
+
+returns-7 : tie.Need-returns-7 Inv-loop μ-loop
+returns-7 c =
+    sym (ap nextOf (literal-moves (c .before .before .before .before .before .before .loop .inv .1) (rw (c .enum-told8 .given .1) at (first (c .before .before .before))) (halt [] literalNotClosed _) refl))
+
+loop-less-2 : tie.Need-loop-less-2 Inv-loop μ-loop
+loop-less-2 c = let x = first (c .before .before) in omega (arith, x .from, x .behind, x .within)
+
+loop-again-2 : tie.Need-loop-again-2 Inv-loop μ-loop
+loop-again-2 c = let x = first (c .before .before) in (x .within, literal-on (c .before .before .before .before .before .loop .inv .1) x (c .match2 .keys6))
+
+pub literal-end-spec : {M : Type 1} → statement M
+literal-end-spec =
+    tie.close
+    (tie.spec
+    Inv-loop
+    μ-loop
+    loop-holds
+    character-requires
+    enum-known-kind
+    enum-told
+    returns
+    enum-told-2
+    returns-2
+    enum-told-3
+    returns-3
+    enum-told-4
+    returns-4
+    enum-told-5
+    character-requires-2
+    enum-known-taken
+    enum-told-6
+    returns-5
+    enum-told-7
+    returns-6
+    loop-less
+    loop-again
+    enum-told-8
+    returns-7
+    loop-less-2
+    loop-again-2)
