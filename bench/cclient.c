@@ -1,4 +1,4 @@
-/* The addresses that c-client finds in a list. It writes into the list. */
+/* The mailboxes that c-client finds in a list. It writes into the list. */
 #include <c-client/c-client.h>
 
 size_t cclient_addresses(char *list, size_t length) {
@@ -7,7 +7,8 @@ size_t cclient_addresses(char *list, size_t length) {
     size_t count = 0;
     (void)length;
     rfc822_parse_adrlist(&found, list, host);
-    for (ADDRESS *one = found; one != NULL; one = one->next) count++;
+    /* A group is two marks around its mailboxes, and a mark has no host. */
+    for (ADDRESS *one = found; one != NULL; one = one->next) count += one->host != NULL;
     mail_free_address(&found);
     return count;
 }

@@ -43,6 +43,15 @@ const COMMON: [Common; 6] = [
     },
 ];
 
+// A list with what RFC 822 reads in its own way, dots and a domain literal, and with a group, whose mailboxes count. Routes and
+// empty places are RFC 822 too, but libetpan reads neither.
+const LIST_822: Common = Common {
+    name: "RFC 822 list",
+    part: b"Al Neuman <neuman@mad.host>, Alfred.E.Neuman@mad.host, \"Sam, Irving\" <sam@[10.0.0.51]> (away),\r\n Cooks: childs@wgbh.org, Julia Child <julia@wgbh.org>;",
+    mailboxes: 5,
+    records: 9,
+};
+
 // A list with what only RFC 733 has: "at" in letters, an angle list and a group that are addresses themselves.
 const LIST: &[u8] = b"Al Neuman at Mad-Host, \"Sam, Irving\" <Sam at Other-Host> (away),\r\n Cooks: Childs@WGBH;";
 const LIST_RECORDS: usize = 5;
@@ -107,6 +116,8 @@ const BY_STORE: [usize; 1] = [0];
 pub enum Work {
     // Reading the common list of this number.
     Common(usize),
+    // Reading the list of RFC 822 by its edition.
+    List822,
     List,
     Plain,
     // Writing a list without Include, the store empty.
@@ -123,12 +134,17 @@ impl Work {
     // All but the openings.
     pub fn all() -> Vec<Work> {
         let mut all = Work::common();
-        all.extend([Work::List, Work::Plain, Work::Expand, Work::Touch, Work::Split, Work::Date]);
+        all.extend([Work::List822, Work::List, Work::Plain, Work::Expand, Work::Touch, Work::Split, Work::Date]);
         all
     }
 
     pub fn common() -> Vec<Work> {
         (0..COMMON.len()).map(Work::Common).collect()
+    }
+
+    // Whether the C libraries read it too.
+    pub fn for_libraries(self) -> bool {
+        matches!(self, Work::Common(_) | Work::List822)
     }
 
     pub fn openings() -> Vec<Work> {
@@ -138,6 +154,7 @@ impl Work {
     pub fn name(self) -> String {
         match self {
             Work::Common(number) => format!("addresses, {}", COMMON[number].name),
+            Work::List822 => format!("addresses, {}", LIST_822.name),
             Work::List => "addresses, RFC 733 list".to_string(),
             Work::Plain => "plain writing".to_string(),
             Work::Expand => "expansion, no Include".to_string(),
@@ -230,14 +247,16 @@ fn openings(work: Work, case: &Openings) -> Input {
     Input { work, text, store, addresses, found }
 }
 
+fn common(work: Work, list: &Common, size: usize) -> Input {
+    let (text, times) = repeated(list.part, BETWEEN, size);
+    Input { work, text, store: vec![], addresses: times * list.mailboxes, found: times * list.records }
+}
+
 pub fn input(work: Work, size: usize) -> Input {
     let store = vec![];
     match work {
-        Work::Common(number) => {
-            let list = &COMMON[number];
-            let (text, times) = repeated(list.part, BETWEEN, size);
-            Input { work, text, store, addresses: times * list.mailboxes, found: times * list.records }
-        }
+        Work::Common(number) => common(work, &COMMON[number], size),
+        Work::List822 => common(work, &LIST_822, size),
         Work::List => {
             let (text, times) = repeated(LIST, BETWEEN, size);
             Input { work, text, store, addresses: times * LIST_RECORDS, found: times * LIST_RECORDS }

@@ -8,6 +8,8 @@ use std::time::{Duration, Instant};
 mod inputs;
 #[path = "../tests/independent/reader.rs"]
 mod reader;
+#[path = "../tests/independent/reader822.rs"]
+mod reader822;
 mod readers;
 mod report;
 
@@ -68,7 +70,7 @@ impl Task<'_> {
 // All readers must find the same mailboxes: records of kind 1 are what RFC 822 calls addresses.
 fn check_mailboxes(task: &Task, desk: &mut Desk) {
     const KIND_MAILBOX: u8 = 1;
-    if !matches!(task.input.work, Work::Common(_)) || !WITH_RECORDS.contains(&task.reader) {
+    if !task.input.work.for_libraries() || !WITH_RECORDS.contains(&task.reader) {
         return;
     }
     desk.lay(task.input);

@@ -1,6 +1,7 @@
 // The readers, each as a function that works on a desk and tells what it found.
 use crate::inputs::{Input, Work};
 use crate::reader;
+use crate::reader822;
 
 // A fresh copy of an input, with a NUL behind its text, and a table to write into.
 pub struct Desk {
@@ -30,9 +31,10 @@ pub type Read = fn(&mut Desk) -> usize;
 
 pub const PROVED: &str = "proved";
 pub const BY_TABLE: &str = "proved, by table";
+pub const EDITION_822: &str = "proved, edition 822";
 pub const INDEPENDENT: &str = "independent";
 // The readers that write records.
-pub const WITH_RECORDS: [&str; 3] = [PROVED, BY_TABLE, INDEPENDENT];
+pub const WITH_RECORDS: [&str; 4] = [PROVED, BY_TABLE, EDITION_822, INDEPENDENT];
 // c-client holds back alarms at each allocation and release by a system call; here it is told not to.
 pub const NO_ALARMS: &str = "c-client, no alarms";
 
@@ -60,6 +62,7 @@ macro_rules! proved {
 }
 
 proved!(proved_addresses, rfc733_addresses, 733);
+proved!(proved_addresses_822, rfc733_addresses, 822);
 proved!(proved_by_table, rfc733_addresses_by_table);
 proved!(proved_plain, rfc733_plain);
 
@@ -93,6 +96,10 @@ fn independent_addresses(desk: &mut Desk) -> usize {
     reader::addresses(&desk.text[..desk.length], 0, desk.length, &mut desk.table).count as usize
 }
 
+fn independent_addresses_822(desk: &mut Desk) -> usize {
+    reader822::addresses(&desk.text[..desk.length], 0, desk.length, 822, &mut desk.table).count as usize
+}
+
 fn independent_plain(desk: &mut Desk) -> usize {
     reader::plain(&desk.text[..desk.length], 0, desk.length, &mut desk.table).count as usize
 }
@@ -115,7 +122,7 @@ fn independent_date(desk: &mut Desk) -> usize {
     reader::date(&desk.text[..desk.length], 0, desk.length).1 as usize
 }
 
-// A C library's function that counts the addresses of a list with a NUL behind it.
+// A C library's function that counts the mailboxes of a list with a NUL behind it.
 #[allow(unused_macros)]
 macro_rules! library {
     ($wrapper:ident, $function:ident) => {
@@ -164,7 +171,14 @@ fn libraries() -> Vec<(&'static str, Read)> {
 // The proved functions and the independent one for a work.
 fn ours(work: Work) -> Vec<(&'static str, Read)> {
     match work {
-        Work::Common(_) | Work::List => {
+        Work::Common(_) => vec![
+            (PROVED, proved_addresses),
+            (BY_TABLE, proved_by_table),
+            (EDITION_822, proved_addresses_822),
+            (INDEPENDENT, independent_addresses),
+        ],
+        Work::List822 => vec![(PROVED, proved_addresses_822), (INDEPENDENT, independent_addresses_822)],
+        Work::List => {
             vec![(PROVED, proved_addresses), (BY_TABLE, proved_by_table), (INDEPENDENT, independent_addresses)]
         }
         Work::Plain => vec![(PROVED, proved_plain), (INDEPENDENT, independent_plain)],
@@ -178,7 +192,7 @@ fn ours(work: Work) -> Vec<(&'static str, Read)> {
 // The readers of an input, and what each is to find.
 pub fn readers(input: &Input) -> Vec<(&'static str, Read, usize)> {
     let mut all: Vec<_> = ours(input.work).iter().map(|(name, read)| (*name, *read, input.found)).collect();
-    if matches!(input.work, Work::Common(_)) {
+    if input.work.for_libraries() {
         all.extend(libraries().iter().map(|(name, read)| (*name, *read, input.addresses)));
     }
     all

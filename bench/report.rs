@@ -145,7 +145,7 @@ fn library_target(rows: &[Row], name: &str, some: impl Fn(&str) -> bool) {
 pub fn targets(rows: &[Row]) {
     println!("\nTargets, each by its worst list and size:\n");
     let mut lists = Work::common();
-    lists.push(Work::List);
+    lists.extend([Work::List822, Work::List]);
     let (factor, list) = slower(rows, &lists, |reader| reader == INDEPENDENT).expect("the independent reader");
     let (ratio, met) = (1.0 / factor, verdict(1.0 / factor <= PROVED_TO_INDEPENDENT));
     println!("- {met}: the address reader takes at most {PROVED_TO_INDEPENDENT} times as long as the independent one: {ratio:.2} times at worst ({list})");
@@ -153,7 +153,7 @@ pub fn targets(rows: &[Row]) {
         reader != NO_ALARMS && !WITH_RECORDS.contains(&reader)
     });
     library_target(rows, "c-client without its system calls (stricter than the target)", |reader| reader == NO_ALARMS);
-    for work in [Work::Common(0), Work::List, Work::Plain, Work::Expand, Work::Split] {
+    for work in [Work::Common(0), Work::List822, Work::List, Work::Plain, Work::Expand, Work::Split] {
         let most = grown(rows, work, PROVED).into_iter().fold(0.0, f64::max);
         let (met, name) = (verdict(most <= LINEAR), work.name());
         println!("- {met}: growth is linear, {name}: a byte costs at most {most:.2} times what it costs at 1 kB; up to {LINEAR} is taken as linear");

@@ -9,7 +9,7 @@
 
 #include "rfc733.h"
 
-enum { STACK = 1 << 20, LIMIT = 32768, LEVELS = 64, BY_TABLE_MOST = 4095, PAINT = 0xA5, PATH = 65, FUNCTIONS = 10 };
+enum { STACK = 1 << 20, LIMIT = 32768, LEVELS = 64, BY_TABLE_MOST = 4095, PAINT = 0xA5, PATH = 65, FUNCTIONS = 11 };
 enum { RECORD = 512, NAME_BYTES = 64, OPENINGS = 64 };
 
 static _Alignas(4096) uint8_t stack[STACK];
@@ -27,7 +27,7 @@ struct worst {
     unsigned number;
 };
 
-enum { SPLIT, NAME, SCAN, ADDRESSES, BY_TABLE, TOUCH, PLAIN, EXPAND, DATE, REPLY };
+enum { SPLIT, NAME, SCAN, ADDRESSES, EDITION_822, BY_TABLE, TOUCH, PLAIN, EXPAND, DATE, REPLY };
 
 static const struct worst inputs[] = {
     {"empty", "", "", "", 0, 0, 0, ADDRESSES, 0},
@@ -45,6 +45,7 @@ static const struct worst inputs[] = {
     {"every word at level 64 of `:`", ":", "\"a\"(b)at\"c\"at d,", ";", 64, 1900, 64, ADDRESSES, 0},
     {"long phrase", "a ", "at b", "", 16382, 1, 0, ADDRESSES, 0},
     {"many nodes", "a", "@a", "", 1, 16383, 0, ADDRESSES, 0},
+    {"long RFC 822 group", "x:", "y<\"a\".b@[c]>,", ";", 1, 2340, 1, EDITION_822, 0},
     {"long quoted-string", "\"", "\\\"", "\"", 1, 16383, 1, ADDRESSES, 0},
     {"header of one field", "A:", "x", "\r\n", 1, LIMIT - 4, 1, SPLIT, 0},
     {"header of many fields", "a:\r\n", "", "", LIMIT / 4, 0, 0, SPLIT, 0},
@@ -68,6 +69,7 @@ static void run_split(void) { rfc733_split(message, length, table, sizeof table,
 static void run_name(void) { rfc733_known_name(message, length); }
 static void run_scan(void) { rfc733_scan(message, length, 0, length, told, 3); }
 static void run_addresses(void) { rfc733_addresses(message, length, 0, length, 733, table, sizeof table, told, 3); }
+static void run_edition_822(void) { rfc733_addresses(message, length, 0, length, 822, table, sizeof table, told, 3); }
 static void run_by_table(void) {
     rfc733_addresses_by_table(message, length, 0, length, table, sizeof table, told, 3);
 }
@@ -82,8 +84,9 @@ static void run_date(void) {
     rfc733_date(message, length, 0, length, told, 3, &seconds);
 }
 
-static void (*const functions[FUNCTIONS])(void) = {run_split, run_name,  run_scan,   run_addresses, run_by_table,
-                                                   run_touch, run_plain, run_expand, run_date,      run_reply};
+static void (*const functions[FUNCTIONS])(void) = {run_split,    run_name,  run_scan,  run_addresses, run_edition_822,
+                                                   run_by_table, run_touch, run_plain, run_expand,    run_date,
+                                                   run_reply};
 static const uint8_t *caller;
 
 static void *call(void *function) {
@@ -190,8 +193,8 @@ static void show_nested(const struct nested *one) {
 }
 
 int main(void) {
-    puts("| input | bytes | split | known_name | scan | addresses | addresses_by_table | touch | plain | expand | date | reply |");
-    puts("|---|--:|--:|--:|--:|--:|--:|--:|--:|--:|--:|--:|");
+    puts("| input | bytes | split | known_name | scan | addresses | addresses, 822 | addresses_by_table | touch | plain | expand | date | reply |");
+    puts("|---|--:|--:|--:|--:|--:|--:|--:|--:|--:|--:|--:|--:|");
     for (size_t i = 0; i < sizeof inputs / sizeof *inputs; i++) show(&inputs[i]);
     printf("| most | |");
     for (int i = 0; i < FUNCTIONS; i++) printf(" %zu |", most[i]);

@@ -1,6 +1,6 @@
 #!/usr/bin/env python3
-"""The built program on whole messages, the tool that makes stores, and the program that opens stored lists. What is
-expected is written by hand from documents 01 and 02 and RFC 733: which words begin and end each field, address and
+"""The built programs of both editions on whole messages, the tool that makes stores, and the program that opens stored lists. What is
+expected is written by hand from documents 01 and 02, RFC 733 and RFC 822: which words begin and end each field, address and
 name, and what each list becomes. Positions are those words' places in the message, and seconds come from Python's
 datetime. Nothing here reads a list or a header."""
 import datetime
@@ -13,20 +13,23 @@ import sys
 import tempfile
 
 root = pathlib.Path(__file__).resolve().parent.parent
-program = root / "target/bin/rfc733"
 LINE = re.compile(rb"(field( \d+){4}|address( \d+){7}|date -?\d+|refused \d+ \d+)\n")
 faults, seen = [], 0
 
 
-def run(message):
-    done = subprocess.run([program], input=message, capture_output=True, timeout=60)
+def program(edition):
+    return root / f"target/bin/rfc{edition}"
+
+
+def run(message, edition=733):
+    done = subprocess.run([program(edition)], input=message, capture_output=True, timeout=60)
     return done.returncode, done.stdout
 
 
-def expect(name, message, lines):
+def expect(name, message, lines, edition=733):
     global seen
     seen += 1
-    status, out = run(message)
+    status, out = run(message, edition)
     wanted = "".join(line + "\n" for line in lines).encode()
     if status != 0 or out != wanted:
         faults.append(f"{name}: exit {status}\n  wanted {wanted[:600]!r}\n  got    {out[:600]!r}")
@@ -164,6 +167,45 @@ expect("with Includes", m.text, m.lines)
 m = example("stored-lists.txt")
 expect("stored lists", m.text, [f"refused 4 {len(m.text)}"])
 
+# RFC 822, A.3.3, with a route and a domain literal; a phrase with a dot in it, at the "<"; a bare "[" in a literal, at its first one
+m = example("rfc822.txt")
+m.field("Date", " ", "PDT").date(1976, 8, 27, 16, 32)
+m.field("From", " ", "This-net>").address(ANGLE, 0, 0, "Ken", ">", "Ken Davis").address(MAILBOX, 1, 1, "KDavis", "This-net", "KDavis")
+m.field("Subject", " ", "RFC").field("Sender", " ", "Other-Host")
+m.field("Reply-To", " ", "Organization").address(MAILBOX, 0, 0, "Sam", "Organization", "Sam.Irving")
+m.field("To", " ", "Publisher").address(ANGLE, 0, 0, "George", ">", "George Jones").address(MAILBOX, 1, 1, "Group", "An-Org", "Group")
+m.address(MAILBOX, 0, 0, "Al", "Publisher", "Al.Neuman")
+m.field("cc", " ", "Tops-20-Host;").address(GROUP, 0, 0, "Important", ";", "Important folk")
+m.address(ANGLE, 1, 1, "Tom", ">", "Tom Softwood").address(MAILBOX, 2, 2, "Balsa", "Root", "Balsa")
+m.address(MAILBOX, 1, 1, '"Sam', "Other-Host", '"Sam Irving"')
+m.address(GROUP, 0, 0, "Standard", "Tops-20-Host;", "Standard Distribution")
+m.address(MAILBOX, 1, 5, "/main", "Other-Host", "/main/davis/people/standard")
+m.address(MAILBOX, 1, 5, '"<Jones>', "Tops-20-Host", '"<Jones>standard.dist.3"')
+m.field("bcc", " ", "Other-Host>").address(MAILBOX, 0, 0, "Wilt", "]", "Wilt . Chamberlain")
+m.address(ANGLE, 0, 0, "Secretary", ">", "Secretary").address(MAILBOX, 1, 2, "sec@", "Other-Host", "sec")
+m.field("bcc", " ", "Other-Host>").refused(8, "J. Smith <", "J. Smith ")
+m.field("bcc", " ", "3.19]").refused(23, "Jones@[", "Jones@")
+m.field("Message-ID", "", "Other-Host>")
+expect("RFC 822", m.text, m.lines, 822)
+of822 = m
+
+# the same bodies in both editions: dots are marks and "at" is an atom in RFC 822 alone, and a group holds no group there
+for body, in733, in822 in (
+    (b"a . b @ c . d", "refused 8 14", "address 1 0 0 4 17 4 9"),
+    (b"a at b", "address 1 0 0 4 10 4 5", "refused 9 10"),
+    (b"at@at", "refused 8 4", "address 1 0 0 4 9 4 6"),
+    (b"<>", "address 2 0 0 4 6 4 4", "refused 8 4"),
+    (b"a.b@[c]", "address 1 0 0 4 11 4 7", "address 1 0 0 4 11 4 7"),
+):
+    for edition, line in ((733, in733), (822, in822)):
+        expect(f"{body}, {edition}", b"To: " + body + b"\r\n", [f"field 0 2 3 {4 + len(body)}", line], edition)
+expect("a group in a group, 822", b"To: x:y:;;\r\n", ["field 0 2 3 10", "refused 8 7"], 822)
+expect("32,768 bytes, 822", b"To:" + b" " * 32760 + b"a@b\r\n", ["field 0 2 3 32766", "address 1 0 0 32763 32766 32763 32764"], 822)
+expect("32,769 bytes, 822", b"To:" + b" " * 32761 + b"a@b\r\n", ["refused 1 32768"], 822)
+boxes = [f"address 1 0 0 {3 + 4 * i} {6 + 4 * i} {3 + 4 * i} {4 + 4 * i}" for i in range(2048)]
+expect("2,048 addresses, 822", b"To:" + b"a@b," * 2048 + b"\r\n", ["field 0 2 3 8195"] + boxes, 822)
+expect("2,049 addresses, 822", b"To:" + b"a@b," * 2049 + b"\r\n", ["field 0 2 3 8199", "refused 11 0"], 822)
+
 # document 01's own lines, and seconds before 1900
 expect("document 01", b"To: Al at X\r\n", ["field 0 2 3 11", "address 1 0 0 4 11 4 6"])
 expect("negative seconds", b"Date: 1 Jan 1900 0000 +0100\r\n", ["field 0 4 5 27", "date -3600"])
@@ -208,29 +250,28 @@ expect("ten windows", message, lines)
 # any bytes: it ends, without a crash, and every line has one of the forms
 seed = 733
 random.seed(seed)
-words = [b"To:", b"cc:", b"Date: ", b"\r\n", b"\r\n ", b"at ", b"a", b"<", b">", b":", b";", b",", b'"', b"(", b")", b"\\", b"1 Jan 77 1200 Z", b"\x00", b"\xff"]
+words = [b"To:", b"cc:", b"Date: ", b"\r\n", b"\r\n ", b"at ", b"a", b"<", b">", b":", b";", b",", b'"', b"(", b")", b"[", b"]", b"@", b".", b"\\", b"1 Jan 77 1200 Z", b"\x00", b"\xff"]
 for i in range(400):
     if i % 2:
         message = bytes(random.randrange(256) for _ in range(random.randrange(2000)))
     else:
         message = b"To:" + b"".join(random.choice(words) for _ in range(random.randrange(300))) + b"\r\n"
-    status, out = run(message)
-    seen += 1
-    if status != 0 or LINE.sub(b"", out) != b"":
-        faults.append(f"seed {seed}, message {i}: exit {status}: {message!r}")
+    for edition in (733, 822):
+        status, out = run(message, edition)
+        seen += 1
+        if status != 0 or LINE.sub(b"", out) != b"":
+            faults.append(f"seed {seed}, message {i}, edition {edition}: exit {status}: {message!r}")
 
 # standard input that is closed, or a directory
-for name, how in (("closed", "<&-"), ("a directory", "</")):
-    done = subprocess.run(["sh", "-c", f'"{program}" {how}'], capture_output=True, timeout=60)
-    seen += 1
-    if done.returncode < 0 or done.stdout != b"" or b"cannot be read" not in done.stderr:
-        faults.append(f"standard input {name}: exit {done.returncode}, {done.stdout!r}, {done.stderr!r}")
+for edition in (733, 822):
+    for name, how in (("closed", "<&-"), ("a directory", "</")):
+        done = subprocess.run(["sh", "-c", f'"{program(edition)}" {how}'], capture_output=True, timeout=60)
+        seen += 1
+        if done.returncode < 0 or done.stdout != b"" or done.stderr != f"rfc{edition}: standard input cannot be read\n".encode():
+            faults.append(f"standard input {name}: exit {done.returncode}, {done.stdout!r}, {done.stderr!r}")
 
-# ---- make-store and expand-header
+# ---- read-header
 
-built = subprocess.run([root / "build-library"], capture_output=True, text=True)
-if built.returncode != 0:
-    sys.exit(f"build-library: exit {built.returncode}\n{built.stdout}{built.stderr}")
 kept = tempfile.TemporaryDirectory()
 folder = pathlib.Path(kept.name)
 
@@ -256,6 +297,26 @@ def expect_same(name, got, wanted):
     seen += 1
     if got != wanted:
         faults.append(f"{name}: wanted {wanted!r}, got {got!r}")
+
+
+# the edition is told; where it is not, it is 733
+lines = "".join(line + "\n" for line in of822.lines).encode()
+expect_call("edition 822", ["read-header", "--edition", "822", root / "examples/rfc822.txt"], b"", 0, lines, [])
+expect_call("edition 822, from standard input", ["read-header", "--edition=822"], of822.text, 0, lines, [])
+for text in sorted((root / "examples").glob("*.txt")):
+    expect_same(f"{text.name}, 733", call(["read-header", "--edition", "733", text]), call(["read-header", text]))
+expect_call("no edition", ["read-header", "--edition", "82"], b"", 2, b"", ["no edition 82: there are 733 and 822"])
+expect_call("an edition with a zero before it", ["read-header", "--edition=0822"], b"", 2, b"", ["no edition 0822: there are 733 and 822"])
+expect_call("no such message", ["read-header", "--edition", "822", "none"], b"", 2, b"", ["none is no file that can be read"])
+for wrong in (["--edition"], ["--none"], ["a", "b"]):
+    status, out, err = call(["read-header", *wrong])
+    expect_same(f"read-header {wrong}", (status, out, b"usage: ./read-header " in err), (2, b"", True))
+
+# ---- make-store and expand-header
+
+built = subprocess.run([root / "build-library"], capture_output=True, text=True)
+if built.returncode != 0:
+    sys.exit(f"build-library: exit {built.returncode}\n{built.stdout}{built.stderr}")
 
 
 def store_of(*entries):

@@ -1,4 +1,5 @@
--- What is answered for any message and positions, whatever is written of a list: a refusal, or what is written of its one derivation. Assumes nothing.
+-- What is answered for any message and positions, in any edition and whatever is written of a list: a refusal, or what is written of its one
+-- derivation. Assumes nothing.
 use mathlib.Core.Path.{_≡_, refl, ap, _∙_}
 use mathlib.Core.List.{List}
 use Prim.Native.Nat.{ℕ, _≤_}
@@ -7,34 +8,77 @@ use lib.ListN.{length, take}
 use Rattle.octets.specs.Numbers.{messageLimit, levelLimit}
 use Rattle.octets.specs.declared.answers.Answer.the-variants.{Accepted, Refused}
 use Rattle.scanner.specs.Symbols.{Symbol}
-use Rattle.scanner.specs.Scanning.{scan}
+use Rattle.scanner.specs.Scanning.{scanBy, scan}
 use Rattle.scanner.specs.Answers.{faultOf, bodyScanned}
 use Rattle.scanner.specs.declared.Class.{Class}
-use Rattle.scanner.proofs.BodyChecks.{in-order, unless-refused, Clean, refused-body, clean-body, body-case, when-refused}
+use Rattle.scanner.proofs.BodyChecks.{in-order, unless-refused, CleanBy, refused-body, clean-body, body-case-by, when-refused-by, Clean, body-case}
+use Rattle.grammar.specs.Grammar.{Row}
 use Rattle.grammar.specs.Language.{Refusal, Verdict, accepted, refused, number, positionOf}
 use Rattle.grammar.specs.Rfc733.{Derivation}
-use Rattle.grammar.proofs.Condition3.{answer, answer-accepts, answer-derives}
-use Rattle.addresses.specs.Editions.{edition733}
-use Rattle.addresses.specs.Outcome.{byVerdict, bodySymbols, readWithin, bodyRead}
-use Rattle.addresses.specs.Condition3.{IsList}
+use Rattle.grammar.proofs.AnyReader.{Reads, answer-accepts, answer-derives}
+use Rattle.grammar.proofs.Condition3.{answer, reads}
+use Rattle.addresses.specs.Editions.{Edition, edition733}
+use Rattle.addresses.specs.Outcome.{byVerdict, symbolsIn, readIn, bodySymbols, readWithin, bodyRead}
+use Rattle.addresses.specs.Condition3.{IsListIn, IsList}
 use Rattle.addresses.proofs.AnyEdition.{verdict-decides}
 
+-- ---- in any edition
+
 -- a body within its message that scans without fault to a list with this derivation
-pub record ListBody (message : List ℕ) (start end : ℕ) (k : Derivation) : Type 0 where
+pub record ListBodyIn {N : Type 0} (edition : Edition N) (message : List ℕ) (start end : ℕ) (k : Row Class N) : Type 0 where
   pub short : length message ≤ messageLimit
   pub ordered : start ≤ end
   pub inside : end ≤ length message
-  pub faultless : faultOf (scan (take end message) start) ≡ Accepted 0
-  pub list : IsList (bodySymbols message start end) k
+  pub faultless : faultOf (scanBy (edition .classes) (take end message) start) ≡ Accepted 0
+  pub list : IsListIn edition (symbolsIn edition message start end) k
 
 -- a body that is refused with this number at this position, whatever is answered of it
-abbrev pub RefusedBody : List ℕ → ℕ → ℕ → ℕ → ℕ → Type 1
-RefusedBody message start end n p = (A : Type 0) (refuse : ℕ → ℕ → A) (derive : Derivation → A) → bodyRead refuse derive message start end ≡ refuse n p
+abbrev pub RefusedIn : {N : Type 0} → Edition N → (List (Symbol Class) → Verdict Class (Row Class N)) → List ℕ → ℕ → ℕ → ℕ → ℕ → Type 1
+RefusedIn {N} edition verdict message start end n p = (A : Type 0) (refuse : ℕ → ℕ → A) (derive : Row Class N → A) → readIn edition verdict refuse derive message start end ≡ refuse n p
 
 -- refused, or a list
-pub data Judged (message : List ℕ) (start end : ℕ) : Type 1 where
-  refusedAt : (n p : ℕ) → RefusedBody message start end n p → Judged message start end
-  listed : (k : Derivation) → ListBody message start end k → Judged message start end
+pub data JudgedIn {N : Type 0} (edition : Edition N) (verdict : List (Symbol Class) → Verdict Class (Row Class N)) (message : List ℕ) (start end : ℕ) : Type 1 where
+  refusedAt : (n p : ℕ) → RefusedIn edition verdict message start end n p → JudgedIn edition verdict message start end
+  listed : (k : Row Class N) → ListBodyIn edition message start end k → JudgedIn edition verdict message start end
+
+-- a clean body that is a list
+pub list-body-in : {N : Type 0} (edition : Edition N) {message : List ℕ} {start end : ℕ} {k : Row Class N} → CleanBy (edition .classes) message start end → IsListIn edition (symbolsIn edition message start end) k → ListBodyIn edition message start end k
+list-body-in edition x l = record { short = x .short; ordered = x .ordered; inside = x .inside; faultless = x .faultless; list = l }
+
+module _ {N : Type 0} (edition : Edition N) (least : ℕ) (answerOf : ℕ → List (Symbol Class) → Verdict Class (Row Class N)) (right : Reads (edition .grammar) (edition .list) least answerOf) (below : least ≤ levelLimit) where
+  -- of a list it is answered what is to be answered of its derivation
+  pub listed-read-in : {message : List ℕ} {start end : ℕ} {k : Row Class N} → ListBodyIn edition message start end k
+      → {A : Type 0} (refuse : ℕ → ℕ → A) (derive : Row Class N → A) → readIn edition (answerOf levelLimit) refuse derive message start end ≡ derive k
+  listed-read-in {message} {start} {end} b refuse derive =
+      verdict-decides edition (answerOf levelLimit) message start end (b .short) (b .ordered) (b .inside) (b .faultless) refuse derive
+      ∙ ap (byVerdict refuse derive end) (answer-accepts (edition .grammar) (edition .list) least answerOf right levelLimit below (b .list .derived) (b .list .within))
+
+  module _ (message : List ℕ) (start end : ℕ) where
+    by-verdict : CleanBy (edition .classes) message start end → (v : Verdict Class (Row Class N)) → answerOf levelLimit (symbolsIn edition message start end) ≡ v → JudgedIn edition (answerOf levelLimit) message start end
+    by-verdict x (accepted k) e =
+        let d = answer-derives (edition .grammar) (edition .list) least answerOf right levelLimit below {xs = symbolsIn edition message start end} e in
+        listed k (list-body-in edition x (record { derived = d .0; within = d .1 }))
+    by-verdict x (refused why rest) e =
+        refusedAt (number why) (positionOf end rest)
+        (λ A refuse derive. verdict-decides edition (answerOf levelLimit) message start end (x .short) (x .ordered) (x .inside) (x .faultless) refuse derive ∙ ap (byVerdict refuse derive end) e)
+
+    pub judged-in : JudgedIn edition (answerOf levelLimit) message start end
+    judged-in =
+        elim (body-case-by (edition .classes) message start end) [
+          | refused-body n p e ↦ refusedAt n p (λ A refuse derive. when-refused-by (edition .classes) message start end refuse _ e)
+          | clean-body x ↦ by-verdict x _ refl
+        ]
+
+-- ---- in RFC 733
+
+abbrev pub ListBody : List ℕ → ℕ → ℕ → Derivation → Type 0
+ListBody message start end k = ListBodyIn edition733 message start end k
+
+abbrev pub RefusedBody : List ℕ → ℕ → ℕ → ℕ → ℕ → Type 1
+RefusedBody message start end n p = RefusedIn edition733 (answer levelLimit) message start end n p
+
+abbrev pub Judged : List ℕ → ℕ → ℕ → Type 1
+Judged message start end = JudgedIn edition733 (answer levelLimit) message start end
 
 module _ (message : List ℕ) (start end : ℕ) (short : length message ≤ messageLimit) (ordered : start ≤ end) (inside : end ≤ length message) where
   -- a fault of scanning is refused ..
@@ -50,25 +94,19 @@ module _ (message : List ℕ) (start end : ℕ) (short : length message ≤ mess
   pub refused-read : faultOf (scan (take end message) start) ≡ Accepted 0 → {why : Refusal} {rest : List (Symbol Class)} → answer levelLimit (bodySymbols message start end) ≡ refused why rest → RefusedBody message start end (number why) (positionOf end rest)
   refused-read f e A refuse derive = decided-read levelLimit f e refuse derive
 
--- of a list it is answered what is to be answered of its derivation
 pub listed-read : {message : List ℕ} {start end : ℕ} {k : Derivation} → ListBody message start end k → {A : Type 0} (refuse : ℕ → ℕ → A) (derive : Derivation → A) → bodyRead refuse derive message start end ≡ derive k
-listed-read {message} {start} {end} b refuse derive = decided-read message start end (b .short) (b .ordered) (b .inside) levelLimit (b .faultless) (answer-accepts levelLimit (b .list .derived) (b .list .within)) refuse derive
+listed-read b refuse derive = listed-read-in edition733 0 answer reads (omega arith) b refuse derive
 
 -- a refusal is no acceptance
 never : {n p m : ℕ} → Refused n p ≡ Accepted m → ⊥
 never e = let z : _≡_ {A = ℕ} 0 1 = cc in omega arith
 
 module _ (message : List ℕ) (start end : ℕ) where
-  -- a clean body that is a list
   pub list-body : {k : Derivation} → Clean message start end → IsList (bodySymbols message start end) k → ListBody message start end k
-  list-body x l = record { short = x .short; ordered = x .ordered; inside = x .inside; faultless = x .faultless; list = l }
-
-  by-verdict : Clean message start end → (v : Verdict Class Derivation) → answer levelLimit (bodySymbols message start end) ≡ v → Judged message start end
-  by-verdict x (accepted k) e = let d = answer-derives levelLimit {xs = bodySymbols message start end} e in listed k (list-body x (record { derived = d .0; within = d .1 }))
-  by-verdict x (refused why rest) e = refusedAt (number why) (positionOf end rest) (refused-read message start end (x .short) (x .ordered) (x .inside) (x .faultless) e)
+  list-body x l = list-body-in edition733 x l
 
   pub judged : Judged message start end
-  judged = elim (body-case message start end) [ refused-body n p e ↦ refusedAt n p (λ A refuse derive. when-refused message start end refuse _ e) | clean-body x ↦ by-verdict x _ refl ]
+  judged = judged-in edition733 0 answer reads (omega arith) message start end
 
   -- a body that passes the checks and scans without fault
   pub scanned-body : bodyScanned message start end ≡ Accepted 0 → {k : Derivation} → IsList (bodySymbols message start end) k → ListBody message start end k

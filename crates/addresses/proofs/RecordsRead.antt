@@ -1,53 +1,60 @@
 -- The records of a list in a body, read back from a table, and what an accepted answer says of it. Assumes nothing.
 use mathlib.Core.Path.{_≡_, refl, ap, _∙_}
 use mathlib.Core.Bool.{Bool, true, false}
-use mathlib.Core.List.{List, [], _∷_, _++_}
-use Prim.Native.Nat.{ℕ, _+_, _*_, _/_, _≤_, _<_}
+use mathlib.Core.List.{List, [], _∷_}
+use Prim.Native.Nat.{ℕ, _*_, _/_, _≤_, _<_}
 use native.Mathlib.Omega.{arith}
 use borrow.Author.Tests.{ltb-false}
 use lib.Dec.{ltb}
-use lib.ListN.{length, getD}
-use lib.Seq.{sets}
+use lib.ListN.{length, getD, take}
+use lib.Seq.{sets, length-take-le}
 use Rattle.octets.specs.Numbers.{messageLimit, addressRecordSize}
-use Rattle.octets.specs.Stored.{numberFrom, numberAt, roomFor}
+use Rattle.octets.specs.Stored.{roomFor}
 use Rattle.octets.specs.declared.answers.Answer.the-variants.{Accepted, NoRoom}
-use Rattle.octets.proofs.RecordsBack.{joined, record-back, number-back}
-use Rattle.grammar.specs.Records.{AddressRecord, noRecord, count, records, recordBytes, tableBytes, recordIn}
+use Rattle.scanner.specs.Symbols.{Symbol}
+use Rattle.scanner.specs.declared.Class.{Class}
+use Rattle.scanner.proofs.Spans.{Placed, none, one, placed}
+use Rattle.grammar.specs.Grammar.{Row}
+use Rattle.grammar.specs.Records.{noRecord, count, records, tableBytes, recordIn}
 use Rattle.grammar.specs.Rfc733.{Derivation}
-use Rattle.grammar.proofs.Order.{Lies, lies-at}
-use Rattle.grammar.proofs.Records.{length-records, length-recordBytes, parent-smaller}
+use Rattle.grammar.proofs.Positions.{SymbolsUpTo, ReadBack, read-back}
+use Rattle.addresses.specs.Editions.{Edition, edition733, edition822}
 use Rattle.addresses.specs.Outcome.{Outcome, refusal, derived, outcome}
-use Rattle.addresses.proofs.BodyRecords.{records-half, records-in-order}
-use Rattle.addresses.proofs.Judgements.{ListBody, Judged, refusedAt, listed, listed-read, judged}
+use Rattle.addresses.proofs.BodyRecords.{records-half}
+use Rattle.addresses.proofs.Judgements.{ListBodyIn, ListBody, Judged, refusedAt, listed, listed-read, judged}
 
--- the bytes of a table of records are joined
-table-joined : (rs : List AddressRecord) → tableBytes rs ≡ joined recordBytes rs
-table-joined [] = refl
-table-joined (r ∷ rs) = ap (λ (bytes : List ℕ). recordBytes r ++ bytes) (table-joined rs)
+-- ---- in any edition
+
+-- an edition takes the symbols where they are
+abbrev pub TakesInPlace : {N : Type 0} → Edition N → Type 0
+TakesInPlace edition = (limit : ℕ) (xs : List (Symbol Class)) → SymbolsUpTo limit xs → SymbolsUpTo limit (edition .taken xs)
+
+pub takes-733 : TakesInPlace edition733
+takes-733 limit xs u = u
+
+pub takes-822 : TakesInPlace edition822
+takes-822 limit [] u = tt
+takes-822 limit (x ∷ xs) u = (u .0, u .1, takes-822 limit xs (u .2))
+
+-- the symbols of a text do not lie past its end
+placed-up-to : {classes text : List ℕ} {end at limit : ℕ} {xs : List (Symbol Class)} → end ≤ limit → Placed classes text end at xs → SymbolsUpTo limit xs
+placed-up-to h none = tt
+placed-up-to h (one a b c q m rest) = (omega arith, omega arith, placed-up-to h rest)
+
+-- the records of a list in a body are read back
+pub body-read-back : {N : Type 0} (edition : Edition N) → TakesInPlace edition → {message : List ℕ} {start end : ℕ} {k : Row Class N} → ListBodyIn edition message start end k → ReadBack k
+body-read-back edition takes {message} {start} {end} {k} b =
+    let text = take end message in
+    let within : length text ≤ messageLimit = omega (arith, length-take-le end message (b .inside), b .inside, b .short) in
+    let u = takes messageLimit _ (placed-up-to within (placed (edition .classes) text start)) in
+    read-back k messageLimit (omega arith) (rw (b .list .derived .yields) u)
+
+-- ---- in RFC 733
 
 -- the record of each address is read back
 pub record-read : {message : List ℕ} {start end : ℕ} {k : Derivation} → ListBody message start end k → (table : List ℕ) → count k * addressRecordSize ≤ length table
     → (i : ℕ) → i < count k → recordIn (sets table 0 (tableBytes (records k))) i ≡ getD (records k) i noRecord
-record-read {message} {start} {end} {k} b table fits i l =
-    let n : length (records k) ≡ count k = length-records k in
-    let small : end ≤ messageLimit = omega (arith, b .inside, b .short) in
-    let half : start + 2 * count k ≤ end = records-half b in
-    let before : getD (records k) i noRecord .parent ≤ i = parent-smaller k i noRecord (omega arith) in
-    let lies : Lies start end (getD (records k) i noRecord) = lies-at start end (records k) i noRecord (records-in-order b) (omega arith) in
-    let byte = record-back addressRecordSize recordBytes length-recordBytes noRecord (records k) table (omega arith) i (omega arith) 1 in
-    let two = number-back addressRecordSize recordBytes length-recordBytes noRecord (records k) table (omega arith) i (omega arith) 2 in
-    let e : i * addressRecordSize + 0 ≡ i * addressRecordSize = omega arith in
-    let at = i * addressRecordSize in
-    let r = getD (records k) i noRecord in
-    let t = sets table 0 (joined recordBytes (records k)) in
-    let kind : numberAt 1 t at ≡ r .kind = ap (numberFrom 0) (rw e at (byte 0 (omega arith))) ∙ omega arith in
-    let depth : numberAt 1 t (at + 1) ≡ r .depth = ap (numberFrom 0) (byte 1 (omega arith)) ∙ omega arith in
-    let parent : numberAt 2 t (at + 2) ≡ r .parent = two 2 _ (omega arith) refl (omega arith) in
-    let from : numberAt 2 t (at + 4) ≡ r .start = two 4 _ (omega arith) refl (omega arith) in
-    let to : numberAt 2 t (at + 6) ≡ r .end = two 6 _ (omega arith) refl (omega arith) in
-    let name-from : numberAt 2 t (at + 8) ≡ r .nameStart = two 8 _ (omega arith) refl (omega arith) in
-    let name-to : numberAt 2 t (at + 10) ≡ r .nameEnd = two 10 _ (omega arith) refl (omega arith) in
-    rw (table-joined (records k), kind, depth, parent, from, to, name-from, name-to)
+record-read b table fits i l = body-read-back edition733 takes-733 b table fits i l (omega (arith, records-half b, b .inside, b .short))
 
 -- ---- an accepted body
 

@@ -33,6 +33,10 @@ module _ (w : Walk) (class : Class) (start end next : ℕ) (nx : next ≡ nextPl
       → stepFrom (walkedOf w rs) (symbolOf class start end m) ≡ effect (effectFrom k) next (walkedOf w rs) (symbolOf class start end m .lexeme)
   known k e rs m = rw (← nx, ← e)
 
+  -- the record that begins
+  abbrev new : ℕ → AddressRecord
+  new kind = newBy kind (w .group) (w .angle) (w .name .start) (w .name .end) end
+
   module _ (table : List ℕ) (f : Fine w) (l : next < placeCount) where
     -- ---- the records stay
 
@@ -47,25 +51,25 @@ module _ (w : Walk) (class : Class) (start end next : ℕ) (nx : next ≡ nextPl
 
     -- ---- a record behind the others
 
-    added : (kind : ℕ) {after : List ℕ} → after ≡ sets table (w .free * addressRecordSize) (recordBytes (newBy kind w end)) → (v : Walk) → v .free ≡ w .free + 1 → (rs : List AddressRecord) (lent : List ℕ) → Holds w rs lent table
-        → Holds v (rs ++ (newBy kind w end ∷ [])) lent after
+    added : (kind : ℕ) {after : List ℕ} → after ≡ sets table (w .free * addressRecordSize) (recordBytes (new kind)) → (v : Walk) → v .free ≡ w .free + 1 → (rs : List AddressRecord) (lent : List ℕ) → Holds w rs lent table
+        → Holds v (rs ++ (new kind ∷ [])) lent after
     added kind {after} a v n rs lent h =
         record {
-          counted = omega (arith, length-append rs (newBy kind w end ∷ []), h .counted, n);
-          stored = a ∙ rw (h .stored, ← (h .counted)) (record-behind lent rs (newBy kind w end));
+          counted = omega (arith, length-append rs (new kind ∷ []), h .counted, n);
+          stored = a ∙ rw (h .stored, ← (h .counted)) (record-behind lent rs (new kind));
         }
 
-    pub goes-3 : {after : List ℕ} {v : Walk} → effectFrom 3 ≡ effectOf next → after ≡ sets table (w .free * addressRecordSize) (recordBytes (newBy 1 w end))
+    pub goes-3 : {after : List ℕ} {v : Walk} → effectFrom 3 ≡ effectOf next → after ≡ sets table (w .free * addressRecordSize) (recordBytes (new 1))
         → v ≡ walkBy next (w .name .start) (w .name .end) (w .group) (w .angle) (w .free + 1) → Goes w class start end table after v
     goes-3 e a q =
         rw q
         (record {
           fine = record { place = l; group = omega (arith, f .group); angle = omega (arith, f .angle) };
           few = omega arith;
-          steps = λ m rs lent h. (rs ++ (newBy 1 w end ∷ []), added 1 a (walkBy next (w .name .start) (w .name .end) (w .group) (w .angle) (w .free + 1)) refl rs lent h, known 3 e rs m);
+          steps = λ m rs lent h. (rs ++ (new 1 ∷ []), added 1 a (walkBy next (w .name .start) (w .name .end) (w .group) (w .angle) (w .free + 1)) refl rs lent h, known 3 e rs m);
         })
 
-    pub goes-5 : {after : List ℕ} {v : Walk} → effectFrom 5 ≡ effectOf next → after ≡ sets table (w .free * addressRecordSize) (recordBytes (newBy 2 w end))
+    pub goes-5 : {after : List ℕ} {v : Walk} → effectFrom 5 ≡ effectOf next → after ≡ sets table (w .free * addressRecordSize) (recordBytes (new 2))
         → v ≡ walkBy next (w .name .start) (w .name .end) (w .group) (w .free + 1) (w .free + 1) → Goes w class start end table after v
     goes-5 e a q =
         rw q
@@ -73,13 +77,13 @@ module _ (w : Walk) (class : Class) (start end next : ℕ) (nx : next ≡ nextPl
           fine = record { place = l; group = omega (arith, f .group); angle = omega arith };
           few = omega arith;
           steps = λ m rs lent h. (
-            rs ++ (newBy 2 w end ∷ []),
+            rs ++ (new 2 ∷ []),
             added 2 a (walkBy next (w .name .start) (w .name .end) (w .group) (w .free + 1) (w .free + 1)) refl rs lent h,
-            known 5 e rs m ∙ ap (λ (n : ℕ). some (walkedBy next (w .name .start) (w .name .end) (w .group) n (rs ++ (newBy 2 w end ∷ [])))) (omega (arith, h .counted)),
+            known 5 e rs m ∙ ap (λ (n : ℕ). some (walkedBy next (w .name .start) (w .name .end) (w .group) n (rs ++ (new 2 ∷ [])))) (omega (arith, h .counted)),
           );
         })
 
-    pub goes-7 : {after : List ℕ} {v : Walk} → effectFrom 7 ≡ effectOf next → w .group ≡ 0 → after ≡ sets table (w .free * addressRecordSize) (recordBytes (newBy 3 w end))
+    pub goes-7 : {after : List ℕ} {v : Walk} → effectFrom 7 ≡ effectOf next → w .group ≡ 0 → after ≡ sets table (w .free * addressRecordSize) (recordBytes (new 3))
         → v ≡ walkBy next (w .name .start) (w .name .end) (w .free + 1) (w .angle) (w .free + 1) → Goes w class start end table after v
     goes-7 e g a q =
         rw q
@@ -87,10 +91,10 @@ module _ (w : Walk) (class : Class) (start end next : ℕ) (nx : next ≡ nextPl
           fine = record { place = l; group = omega arith; angle = omega (arith, f .angle) };
           few = omega arith;
           steps = λ m rs lent h. (
-            rs ++ (newBy 3 w end ∷ []),
+            rs ++ (new 3 ∷ []),
             added 3 a (walkBy next (w .name .start) (w .name .end) (w .free + 1) (w .angle) (w .free + 1)) refl rs lent h,
             known 7 e rs m ∙ open-zero (w .group) next (walkedOf w rs) (symbolOf class start end m .lexeme) g
-                ∙ ap (λ (n : ℕ). some (walkedBy next (w .name .start) (w .name .end) n (w .angle) (rs ++ (newBy 3 w end ∷ [])))) (omega (arith, h .counted)),
+                ∙ ap (λ (n : ℕ). some (walkedBy next (w .name .start) (w .name .end) n (w .angle) (rs ++ (new 3 ∷ [])))) (omega (arith, h .counted)),
           );
         })
 

@@ -11,11 +11,11 @@ use Rattle.octets.proofs.ChoiceLaws.{both-parts}
 use Rattle.grammar.specs.Grammar.{Makes, Item, symbol, part, Rule, Grammar, Row, nil, leaf, branch, yieldThen, yield, Fits, done, take, apply}
 use Rattle.grammar.specs.Language.{positionOf}
 use Rattle.grammar.specs.Records.{AddressRecord, recordBy, lastEnd, count, recordOf, recordsFrom, records}
-use Rattle.grammar.specs.Rfc822.{rulesOf, Notion, list, place, address, boxes, boxPlace, mailbox, addrSpec, route, hops, emptyPlaces, localPart, domain, subDomain, phrase, word, rfc822}
+use Rattle.grammar.specs.Rfc822.{rulesOf, Notion, list, place, address, boxes, boxPlace, mailbox, routeAddr, addrSpec, route, hops, emptyPlaces, localPart, domain, subDomain, phrase, word, rfc822}
 use Rattle.grammar.proofs.Records.{length-from}
 use Rattle.grammar.proofs.Pieces.{Piece, put, From}
 use Rattle.grammar.proofs.TreeRecords.{wordLexeme, phraseStart, phraseEnd, yield-append, last-append}
-use Rattle.grammar.proofs.Trees822.{Class, At, LessThan, GreaterThan, Comma, Semicolon, Colon, Dot, Lexeme, Sym, of, Word, atomWord, quotedWord, Phrase, one, more, Sub, atomSub, literalSub, Domain, oneSub, moreSub, Local, oneWord, moreWord, Spec, spec, Route, Mailbox, bare, angle, routed, Place, empty, comma, Listed, idle, full, Address, box, group, wordPiece, phrasePiece, subPiece, domainPiece, localPiece, specPiece, routePiece, mailboxPiece, boxPlacePiece, boxesPiece, addressPiece, placePiece, listPiece, asRow, phrase-is, domain-is, local-is, route-is}
+use Rattle.grammar.proofs.Trees822.{Class, At, LessThan, GreaterThan, Comma, Semicolon, Colon, Dot, Lexeme, Sym, of, Word, atomWord, quotedWord, Phrase, one, more, Sub, atomSub, literalSub, Domain, oneSub, moreSub, Local, oneWord, moreWord, Spec, spec, RouteAddr, noRoute, withRoute, routeAddrPiece, Route, Mailbox, bare, angle, routed, Place, empty, comma, Listed, idle, full, Address, box, group, wordPiece, phrasePiece, subPiece, domainPiece, localPiece, specPiece, routePiece, mailboxPiece, boxPlacePiece, boxesPiece, addressPiece, placePiece, listPiece, asRow, phrase-is, domain-is, local-is, route-is}
 use Rattle.grammar.proofs.Machine822.{seen}
 use Rattle.editions.proofs.Follows.{subEnd, endOfDomain, localStart, localEnd, namedRecord, addSpec, addBox, addBoxPlace, addBoxes, opensGroup, addAddress, addPlace, addList}
 
@@ -93,6 +93,7 @@ silent address = false
 silent boxes = false
 silent boxPlace = false
 silent mailbox = false
+silent routeAddr = false
 silent addrSpec = false
 silent route = true
 silent hops = true
@@ -113,6 +114,7 @@ all-silent address e = never e
 all-silent boxes e = never e
 all-silent boxPlace e = never e
 all-silent mailbox e = never e
+all-silent routeAddr e = never e
 all-silent addrSpec e = never e
 all-silent route e = refl
 all-silent hops e = refl
@@ -190,36 +192,44 @@ spec-then (spec l t m) k rs d p =
     ∙ ap (λ (ss : List AddressRecord). Then ss k d p)
     (local-then l (leaf (of At t) (put (domainPiece m) nil)) R (suc d) (suc (length rs)) ∙ domain-then m nil R (suc d) (suc (length rs)) ∙ append-nil R ∙ ap (λ x. rs ++ (x ∷ [])) r)
 
--- a rule whose first item is the phrase that is its name, and whose last is a mark; `inner` are the others
-named-then : (kind : ℕ) (r : Rule Class Notion) (m : Makes) (ph : Phrase) (c : Class) (t : Lexeme) (inner : Row822) (e : Class) (u : Lexeme) (k : Row822) (rs ss : List AddressRecord) (d p : ℕ)
+-- a rule whose first item is the phrase that is its name; `inner` are the others, and end at `last`
+named-then : (kind : ℕ) (r : Rule Class Notion) (m : Makes) (ph : Phrase) (inner : Row822) (last : ℕ) (k : Row822) (rs ss : List AddressRecord) (d p : ℕ)
     → r .makes ≡ some m → m .name ≡ some 0 → ((bs : List ℕ) → m .kind bs ≡ kind)
-    → yield (put (phrasePiece ph) (leaf (of c t) inner)) ≡ seen (phrasePiece ph) (of c t ∷ yieldThen inner [])
-    → lastEnd (t .end) (yieldThen inner []) ≡ u .end
-    → Then (rs ++ (namedRecord kind ph (u .end) d p ∷ [])) inner (suc d) (suc (length rs)) ≡ ss
-    → Then rs (branch r (put (phrasePiece ph) (leaf (of c t) inner)) k) d p ≡ Then ss k d p
-named-then kind r m ph c t inner e u k rs ss d p a b f y l h =
-    let parts : Row822 = put (phrasePiece ph) (leaf (of c t) inner) in
+    → lastEnd (phraseEnd ph) (yieldThen inner []) ≡ last
+    → Then (rs ++ (namedRecord kind ph last d p ∷ [])) inner (suc d) (suc (length rs)) ≡ ss
+    → Then rs (branch r (put (phrasePiece ph) inner) k) d p ≡ Then ss k d p
+named-then kind r m ph inner last k rs ss d p a b f l h =
+    let parts : Row822 = put (phrasePiece ph) inner in
     let q = positionOf 0 (yield parts) in
     let name = seen (phrasePiece ph) [] in
     let g : recordOf m d p parts ≡ recordBy kind d p q (lastEnd q (yield parts)) (positionOf q name) (lastEnd q name) = rw (b, f) in
-    let x = g ∙ same-record kind d p (start-phrase ph 0 (of c t ∷ yieldThen inner [])) (last-phrase ph q (of c t ∷ yieldThen inner []) ∙ l) (start-phrase ph q []) (last-phrase ph q []) in
+    let x = g ∙ same-record kind d p (start-phrase ph 0 (yieldThen inner [])) (last-phrase ph q (yieldThen inner []) ∙ l) (start-phrase ph q []) (last-phrase ph q []) in
     record-then r m parts k rs d p a
     ∙ ap (λ (ss : List AddressRecord). Then ss k d p)
     (ap (λ z. Then (rs ++ (z ∷ [])) parts (suc d) (suc (length rs))) x
-    ∙ phrase-then ph (leaf (of c t) inner) (rs ++ (namedRecord kind ph (u .end) d p ∷ [])) (suc d) (suc (length rs)) ∙ h)
+    ∙ phrase-then ph inner (rs ++ (namedRecord kind ph last d p ∷ [])) (suc d) (suc (length rs)) ∙ h)
+
+abbrev specIn : RouteAddr → Spec
+specIn (noRoute t s u) = s
+specIn (withRoute t r s u) = s
+
+-- the record in angle brackets
+route-addr-then : (r : RouteAddr) (rs : List AddressRecord) (d p : ℕ) → Then rs (put (routeAddrPiece r) nil) d p ≡ addSpec (specIn r) d p rs
+route-addr-then (noRoute t s u) rs d p =
+    plain-then (routeAddrPiece (noRoute t s u) .rule) (leaf (of LessThan t) (put (specPiece s) (leaf (of GreaterThan u) nil))) nil rs d p refl
+    ∙ append-nil _ ∙ spec-then s (leaf (of GreaterThan u) nil) rs d p ∙ append-nil (addSpec s d p rs)
+route-addr-then (withRoute t r s u) rs d p =
+    plain-then (routeAddrPiece (withRoute t r s u) .rule) (leaf (of LessThan t) (put (routePiece r) (put (specPiece s) (leaf (of GreaterThan u) nil)))) nil rs d p refl
+    ∙ append-nil _ ∙ route-then r (put (specPiece s) (leaf (of GreaterThan u) nil)) rs d p ∙ spec-then s (leaf (of GreaterThan u) nil) rs d p ∙ append-nil (addSpec s d p rs)
 
 box-then : (b : Mailbox) (k : Row822) (rs : List AddressRecord) (d p : ℕ) → Then rs (put (mailboxPiece b) k) d p ≡ Then (addBox b d p rs) k d p
 box-then (bare s) k rs d p = plain-then (mailboxPiece (bare s) .rule) (put (specPiece s) nil) k rs d p refl ∙ ap (λ (ss : List AddressRecord). Then ss k d p) (spec-then s nil rs d p ∙ append-nil (addSpec s d p rs))
 box-then (angle q t s u) k rs d p =
-    let R = rs ++ (namedRecord 2 q (u .end) d p ∷ []) in
-    named-then 2 (mailboxPiece (angle q t s u) .rule) _ q LessThan t (put (specPiece s) (leaf (of GreaterThan u) nil)) GreaterThan u k rs (addBox (angle q t s u) d p rs) d p refl refl (λ bs. refl) refl
-    (last-mark (put (specPiece s) nil) (t .end) GreaterThan u)
-    (spec-then s (leaf (of GreaterThan u) nil) R (suc d) (suc (length rs)) ∙ append-nil (addSpec s (suc d) (suc (length rs)) R))
+    named-then 2 (mailboxPiece (angle q t s u) .rule) _ q (put (routeAddrPiece (noRoute t s u)) nil) (u .end) k rs (addBox (angle q t s u) d p rs) d p refl refl (λ bs. refl)
+    (last-mark (put (specPiece s) nil) (t .end) GreaterThan u) (route-addr-then (noRoute t s u) (rs ++ (namedRecord 2 q (u .end) d p ∷ [])) (suc d) (suc (length rs)))
 box-then (routed q t r s u) k rs d p =
-    let R = rs ++ (namedRecord 2 q (u .end) d p ∷ []) in
-    named-then 2 (mailboxPiece (routed q t r s u) .rule) _ q LessThan t (put (routePiece r) (put (specPiece s) (leaf (of GreaterThan u) nil))) GreaterThan u k rs (addBox (routed q t r s u) d p rs) d p refl refl (λ bs. refl) refl
-    (last-mark (put (routePiece r) (put (specPiece s) nil)) (t .end) GreaterThan u)
-    (route-then r (put (specPiece s) (leaf (of GreaterThan u) nil)) R (suc d) (suc (length rs)) ∙ spec-then s (leaf (of GreaterThan u) nil) R (suc d) (suc (length rs)) ∙ append-nil (addSpec s (suc d) (suc (length rs)) R))
+    named-then 2 (mailboxPiece (routed q t r s u) .rule) _ q (put (routeAddrPiece (withRoute t r s u)) nil) (u .end) k rs (addBox (routed q t r s u) d p rs) d p refl refl (λ bs. refl)
+    (last-mark (put (routePiece r) (put (specPiece s) nil)) (t .end) GreaterThan u) (route-addr-then (withRoute t r s u) (rs ++ (namedRecord 2 q (u .end) d p ∷ [])) (suc d) (suc (length rs)))
 
 mutual
   boxPlace-then : (s : Place Mailbox) (k : Row822) (rs : List AddressRecord) (p : ℕ) → Then rs (put (boxPlacePiece s) k) 1 p ≡ Then (addBoxPlace s p rs) k 1 p
@@ -239,7 +249,7 @@ mutual
 address-then : (a : Address) (k : Row822) (rs : List AddressRecord) → Then rs (put (addressPiece a) k) 0 0 ≡ Then (addAddress a rs) k 0 0
 address-then (box b) k rs = plain-then (addressPiece (box b) .rule) (put (mailboxPiece b) nil) k rs 0 0 refl ∙ ap (λ (ss : List AddressRecord). Then ss k 0 0) (box-then b nil rs 0 0 ∙ append-nil (addBox b 0 0 rs))
 address-then (group q t l u) k rs =
-    named-then 3 (addressPiece (group q t l u) .rule) _ q Colon t (put (boxesPiece l) (leaf (of Semicolon u) nil)) Semicolon u k rs (addAddress (group q t l u) rs) 0 0 refl refl (λ bs. refl) refl
+    named-then 3 (addressPiece (group q t l u) .rule) _ q (leaf (of Colon t) (put (boxesPiece l) (leaf (of Semicolon u) nil))) (u .end) k rs (addAddress (group q t l u) rs) 0 0 refl refl (λ bs. refl)
     (last-mark (put (boxesPiece l) nil) (t .end) Semicolon u)
     (boxes-then l (leaf (of Semicolon u) nil) (opensGroup q (u .end) rs) (suc (length rs)) ∙ append-nil (addAddress (group q t l u) rs))
 

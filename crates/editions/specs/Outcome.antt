@@ -13,26 +13,35 @@ use Rattle.scanner.specs.Symbols.{Symbol}
 use Rattle.scanner.specs.declared.Class.{Class}
 use Rattle.grammar.specs.Grammar.{Row}
 use Rattle.grammar.specs.Language.{Verdict}
+use Rattle.grammar.specs.Rfc733 as rules733
 use Rattle.grammar.specs.Rfc822.{Notion}
 use Rattle.grammar.proofs.Machine822.{read}
 use Rattle.addresses.specs.Editions.{edition733, takenIn822, edition822}
-use Rattle.addresses.specs.Outcome.{Outcome, refusal, outcomeIn, outcome}
+use Rattle.addresses.specs.Outcome.{Outcome, refusal, derived, readIn, bodyRead}
 use Rattle.addresses.specs.Condition3.{Condition3In}
 
 -- the verdict on the scanner's symbols is that of the machine of RFC 822, which the crate `grammar` proves right
 abbrev pub verdict822 : List (Symbol Class) → Verdict Class (Row Class Notion)
 verdict822 xs = read levelLimit (takenIn822 xs)
 
+-- what is answered in RFC 822, of a derivation or of a refusal
+abbrev pub bodyRead822 : {A : Type 0} → (ℕ → ℕ → A) → (Row Class Notion → A) → List ℕ → ℕ → ℕ → A
+bodyRead822 refuse derive message start end = readIn edition822 (read levelLimit) refuse derive message start end
+
 -- the outcome in RFC 822
 abbrev pub outcome822 : List ℕ → ℕ → ℕ → List ℕ → Outcome
-outcome822 message start end table = outcomeIn edition822 (read levelLimit) message start end table
+outcome822 message start end table = bodyRead822 (refusal table) (derived table) message start end
 
--- the edition is the whole number
+-- what is answered in the edition with a number, of a derivation in its rules or of a refusal; the edition is the whole number
+abbrev pub readOf : {A : Type 0} → ℕ → (ℕ → ℕ → A) → ((N : Type 0) → Row Class N → A) → List ℕ → ℕ → ℕ → A
+readOf edition refuse derive message start end =
+    pick (ltb messageLimit (length message)) (refuse messageTooLong messageLimit)
+    (pick (eqb edition 733) (bodyRead refuse (derive rules733.Notion) message start end)
+    (pick (eqb edition 822) (bodyRead822 refuse (derive Notion) message start end) (refuse editionUnknown 0)))
+
+-- the outcome for any edition, message, positions and table
 abbrev pub outcomeOf : ℕ → List ℕ → ℕ → ℕ → List ℕ → Outcome
-outcomeOf edition message start end table =
-    pick (ltb messageLimit (length message)) (refusal table messageTooLong messageLimit)
-    (pick (eqb edition 733) (outcome message start end table)
-    (pick (eqb edition 822) (outcome822 message start end table) (refusal table editionUnknown 0)))
+outcomeOf edition message start end table = readOf edition (refusal table) (λ N k. derived table k) message start end
 
 -- condition 3 takes the rules of the edition; of any other number it does not speak
 pub record Condition3Of (edition : ℕ) (message : List ℕ) (start end : ℕ) (table : List ℕ) (r : Answer) (after : List ℕ) : Type 0 where

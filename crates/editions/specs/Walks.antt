@@ -36,9 +36,9 @@ pub record Holds (w : Walk) (rs : List AddressRecord) (lent table : List ℕ) : 
   pub counted : length rs ≡ w .free
   pub stored : table ≡ sets lent 0 (tableBytes rs)
 
--- the record that begins
-abbrev pub newBy : ℕ → Walk → ℕ → AddressRecord
-newBy kind w end = recordBy kind (oneIf (w .group) + oneIf (w .angle)) (parentOf (w .group) (w .angle)) (w .name .start) end (w .name .start) (w .name .end)
+-- the record that begins, in this group and angle address and with this name
+abbrev pub newBy : ℕ → ℕ → ℕ → ℕ → ℕ → ℕ → AddressRecord
+newBy kind group angle start nameEnd end = recordBy kind (oneIf group + oneIf angle) (parentOf group angle) start end start nameEnd
 
 -- a record comes to its end
 abbrev pub CloseIs : ℕ → ℕ → Walk → List ℕ → List ℕ → Stepped → Type 0

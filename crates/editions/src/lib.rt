@@ -16,7 +16,10 @@ ghost use Rattle.editions.specs.Outcome.{verdict822, outcome822, outcome
 ghost use Rattle.editions.specs.Places.{placeCount, columns, nextPlace, placeTable, effectOf, endsAt, noGroup, oneIf, parentOf};
 ghost use Rattle.editions.specs.Walks.{effectFrom, Fine, newBy, walkBy, CloseIs, StepIs};
 use crate::places::COLUMNS;
-use crate::places::NEXT_PLACES;
+use crate::places::EFFECT;
+use crate::places::ENDS;
+use crate::places::NEXT;
+use crate::places::PLACE_TABLE;
 use crate::places::PLACES;
 use crate::places::TABLE_SIZE;
 use grammar::AddressRecord;
@@ -93,7 +96,7 @@ fn next_place(places: &[u8; TABLE_SIZE], place: usize, class: Class) -> usize
     requires { ⌜ (place < placeCount) × (now places ≡ placeTable) ⌝ }
     ensures { λ r. ⌜ r ≡ nextPlace place class ⌝ }
 {
-    cell(places, place, class_number(class) + 2) as usize
+    cell(places, place, class_number(class) + NEXT) as usize
 }
 
 // What coming to a place does; 9 where it is none.
@@ -104,7 +107,7 @@ fn effect_at(places: &[u8; TABLE_SIZE], place: usize) -> u8
     if PLACES <= place {
         return 9;
     }
-    cell(places, place, 0)
+    cell(places, place, EFFECT)
 }
 
 // Whether a list may end here.
@@ -115,7 +118,7 @@ fn may_end(places: &[u8; TABLE_SIZE], w: Walk) -> bool
     if w.group != 0 {
         return false;
     }
-    cell(places, w.place, 1) == 1
+    cell(places, w.place, ENDS) == 1
 }
 
 // 1 for a number that is not 0.
@@ -132,22 +135,28 @@ fn parent_of(group: usize, angle: usize) -> usize
     if angle == 0 { group } else { angle }
 }
 
-// A record begins behind the others: from the name on, with an end for now.
-fn begin(table: &mut [u8], w: Walk, kind: u8, end: usize)
-    ensures { λ _. ⌜ now (table .exit) ≡ sets (now (table .entry)) (w .free * addressRecordSize) (recordBytes (newBy kind w end)) ⌝ }
+// A record begins behind the others: from its name on, with an end for now.
+fn begin(
+    table: &mut [u8],
+    number: usize,
+    kind: u8,
+    group: usize,
+    angle: usize,
+    name: Span,
+    end: usize,
+)
+    ensures { λ _. ⌜ now (table .exit) ≡ sets (now (table .entry)) (number * addressRecordSize) (recordBytes (newBy kind group angle (name .start) (name .end) end)) ⌝ }
 {
-    let depth = (one_if(w.group) + one_if(w.angle)) as u8;
-    let name = w.name;
-    let start = name.start;
+    let depth = (one_if(group) + one_if(angle)) as u8;
     let address = AddressRecord {
         kind,
         depth,
-        parent: parent_of(w.group, w.angle),
-        start,
+        parent: parent_of(group, angle),
+        start: name.start,
         end,
         name,
     };
-    store_record(table, w.free, address);
+    store_record(table, number, address);
 }
 
 // The record with a number, plus 1, comes to an end; where there is none, the symbol leads nowhere.
@@ -202,12 +211,13 @@ fn step(
     ensures { λ r. ⌜ StepIs w class start end (now (table .entry)) (now (table .exit)) r ⌝ }
 {
     let place = next_place(places, w.place, class);
+    let name = w.name;
     match effect_at(places, place) {
         0 => Stepped::On(holding(w, place, w.group, w.angle, w.free)),
         1 => Stepped::On(named(w, place, start, end)),
-        2 => Stepped::On(named(w, place, w.name.start, end)),
+        2 => Stepped::On(named(w, place, name.start, end)),
         3 => {
-            begin(table, w, MAILBOX, end);
+            begin(table, w.free, MAILBOX, w.group, w.angle, name, end);
             Stepped::On(holding(w, place, w.group, w.angle, w.free + 1))
         }
         4 => close(
@@ -217,7 +227,7 @@ fn step(
             holding(w, place, w.group, w.angle, w.free),
         ),
         5 => {
-            begin(table, w, ANGLE_ADDRESS, end);
+            begin(table, w.free, ANGLE_ADDRESS, w.group, w.angle, name, end);
             Stepped::On(holding(w, place, w.group, w.free + 1, w.free + 1))
         }
         6 => close(table, w.angle, end, holding(w, place, w.group, 0, w.free)),
@@ -225,7 +235,7 @@ fn step(
             if w.group != 0 {
                 return Stepped::Off;
             }
-            begin(table, w, GROUP, end);
+            begin(table, w.free, GROUP, w.group, w.angle, name, end);
             Stepped::On(holding(w, place, w.free + 1, w.angle, w.free + 1))
         }
         8 => close(table, w.group, end, holding(w, place, 0, w.angle, w.free)),
@@ -347,7 +357,7 @@ fn read_822(message: &[u8], start: usize, end: usize, table: &mut [u8]) -> Answe
         return Answer::Refused(BODY_OUT_OF_ORDER, 0);
     }
     let classes = &CLASSES_822;
-    let places = &NEXT_PLACES;
+    let places = &PLACE_TABLE;
     read_text(classes, places, &message[..end], table, start)
 }
 

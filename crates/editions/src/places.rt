@@ -13,9 +13,15 @@ pub const PLACES: usize = 24;
 // to its end (4), so that of an angle address (5, 6), and of a group (7, 8).
 pub const COLUMNS: usize = 13;
 
+pub const EFFECT: usize = 0;
+
+pub const ENDS: usize = 1;
+
+pub const NEXT: usize = 2;
+
 pub const TABLE_SIZE: usize = 312;
 
-pub const NEXT_PLACES: [u8; TABLE_SIZE] = [
+pub const PLACE_TABLE: [u8; TABLE_SIZE] = [
     0,
     1,
     1,

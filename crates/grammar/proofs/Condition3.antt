@@ -9,8 +9,8 @@ use Rattle.scanner.specs.declared.Class.the-variants.{Atom, Quoted, At, LessTha
 use Rattle.grammar.specs.Grammar.{levels}
 use Rattle.grammar.specs.Language.{GoesOn, FirstRefused, unfit, unfinished, tooDeep, Verdict, accepted, refused, Right}
 use Rattle.grammar.specs.Rfc733.{list, rfc733, Derivation, DerivedList, RightWithin}
+use Rattle.grammar.proofs.AnyReader as any-reader
 use Rattle.grammar.proofs.AnyReader.{Reads}
-use Rattle.grammar.proofs.OnlyRight.{only-right}
 use Rattle.grammar.proofs.AnyMachine as any-machine
 use Rattle.grammar.proofs.AnyMachine.{Step, go, stop, Result, after, atEnd, not-too-deep}
 use Rattle.grammar.proofs.Trees.{Lexeme, Sym, of, atomWord, quotedWord, AddressList, listLevels, DerivedTree}
@@ -87,25 +87,25 @@ one-derivation {k} {k′} {xs} d e =
     let (l′, p′, e′) = tree-derived e in
     p ∙ ap asRow (one-tree d′ e′) ∙ sym p′
 
--- a right verdict is the only right one
-pub only-verdict : (limit : ℕ) (xs : List Sym) (v w : Verdict Class Derivation) → RightWithin limit xs v → RightWithin limit xs w → v ≡ w
-only-verdict limit xs = only-right DerivedList levels limit (λ k k′ ys d e. one-derivation d e) xs
-
--- .. and it is the answer
-pub answer-only : (limit : ℕ) (xs : List Sym) (v : Verdict Class Derivation) → RightWithin limit xs v → v ≡ answer limit xs
-answer-only limit xs v r = only-verdict limit xs v (answer limit xs) r (answer-right limit xs)
-
--- a derivation of at most `limit` levels is accepted as itself
-pub answer-accepts : (limit : ℕ) {k : Derivation} {xs : List Sym} → DerivedList k xs → levels k ≤ limit → answer limit xs ≡ accepted k
-answer-accepts limit {k} {xs} d v = sym (answer-only limit xs (accepted k) (d, v))
-
--- .. and only that is accepted
-pub answer-derives : (limit : ℕ) {k : Derivation} {xs : List Sym} → answer limit xs ≡ accepted k → DerivedList k xs × (levels k ≤ limit)
-answer-derives limit {k} {xs} e = rw e at (answer-right limit xs)
-
 -- what is proved of this edition
 pub reads : Reads rfc733 list 0 answer
 reads = record { right = λ limit h xs. answer-right limit xs; one = λ k k′ xs d e. one-derivation d e }
+
+-- a right verdict is the only right one
+pub only-verdict : (limit : ℕ) (xs : List Sym) (v w : Verdict Class Derivation) → RightWithin limit xs v → RightWithin limit xs w → v ≡ w
+only-verdict limit xs = any-reader.only-verdict rfc733 list 0 answer reads limit xs
+
+-- .. and it is the answer
+pub answer-only : (limit : ℕ) (xs : List Sym) (v : Verdict Class Derivation) → RightWithin limit xs v → v ≡ answer limit xs
+answer-only limit xs v r = any-reader.answer-only rfc733 list 0 answer reads limit (omega arith) xs v r
+
+-- a derivation of at most `limit` levels is accepted as itself
+pub answer-accepts : (limit : ℕ) {k : Derivation} {xs : List Sym} → DerivedList k xs → levels k ≤ limit → answer limit xs ≡ accepted k
+answer-accepts limit d v = any-reader.answer-accepts rfc733 list 0 answer reads limit (omega arith) d v
+
+-- .. and only that is accepted
+pub answer-derives : (limit : ℕ) {k : Derivation} {xs : List Sym} → answer limit xs ≡ accepted k → DerivedList k xs × (levels k ≤ limit)
+answer-derives limit {k} {xs} e = any-reader.answer-derives rfc733 list 0 answer reads limit (omega arith) {xs = xs} e
 
 -- ---- the place of 10
 

@@ -5,7 +5,7 @@ use mathlib.Core.Bool.{true}
 use mathlib.Core.List.{List}
 use Rattle.grammar.specs.Grammar.{Row, levels}
 use Rattle.grammar.specs.Language.{tooDeep, refused, Right}
-use Rattle.grammar.specs.Rfc822.{Notion, list, place, address, boxes, boxPlace, mailbox, addrSpec, route, hops, emptyPlaces, localPart, domain, subDomain, phrase, word, rulesOf, rfc822}
+use Rattle.grammar.specs.Rfc822.{Notion, list, place, address, boxes, boxPlace, mailbox, routeAddr, addrSpec, route, hops, emptyPlaces, localPart, domain, subDomain, phrase, word, rulesOf, rfc822}
 use Rattle.grammar.proofs.AnyMachine as any-machine
 use Rattle.grammar.proofs.Arrows as arrows
 use Rattle.grammar.proofs.Ranks as ranks
@@ -23,6 +23,7 @@ rank address = 2
 rank boxes = 1
 rank boxPlace = 1
 rank mailbox = 1
+rank routeAddr = 0
 rank addrSpec = 0
 rank route = 0
 rank hops = 0
@@ -40,6 +41,7 @@ all-ranked address = refl
 all-ranked boxes = refl
 all-ranked boxPlace = refl
 all-ranked mailbox = refl
+all-ranked routeAddr = refl
 all-ranked addrSpec = refl
 all-ranked route = refl
 all-ranked hops = refl

@@ -11,6 +11,7 @@ pub mod Rows
 pub mod Condition3
 pub mod Readers
 pub mod Records
+pub mod Positions
 pub mod TreeRecords
 pub mod RecordLaws
 pub mod Order

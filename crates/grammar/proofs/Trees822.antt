@@ -6,7 +6,7 @@ use mathlib.Core.List.{List, [], _∷_}
 use lib.ListN.{length, getD}
 use Rattle.grammar.specs.Grammar.{Item, part, Row, nil, leaf, yield, Allowed, Fits, done, take, Derived}
 use Rattle.grammar.specs.Rfc733.{sameClass, plain}
-use Rattle.grammar.specs.Rfc822.{rulesOf, Notion, list, place, address, boxes, boxPlace, mailbox, addrSpec, route, hops, emptyPlaces, localPart, domain, subDomain, phrase, word, rfc822}
+use Rattle.grammar.specs.Rfc822.{rulesOf, Notion, list, place, address, boxes, boxPlace, mailbox, routeAddr, addrSpec, route, hops, emptyPlaces, localPart, domain, subDomain, phrase, word, rfc822}
 pub use Rattle.grammar.proofs.Trees.{Class, Atom, Quoted, At, LessThan, GreaterThan, Comma, Semicolon, Colon, Stray, Dot, Literal, Lexeme, Sym, of, Word, atomWord, quotedWord, Phrase, one, more}
 use Rattle.grammar.proofs.Pieces.{Piece, piece, put, member, From, put-fits, AllCovered, tree-of}
 
@@ -37,6 +37,10 @@ pub data Hops : Type 0 where
 pub data Route : Type 0 where
   direct : Hops → Lexeme → Route
   trailing : Hops → Lexeme → Empties → Lexeme → Route
+
+pub data RouteAddr : Type 0 where
+  noRoute : Lexeme → Spec → Lexeme → RouteAddr
+  withRoute : Lexeme → Route → Spec → Lexeme → RouteAddr
 
 pub data Mailbox : Type 0 where
   bare : Spec → Mailbox
@@ -103,10 +107,14 @@ abbrev pub routePiece : Route → Bit
 routePiece (direct h t) = bit route 0 (put (hopsPiece h) (then Colon t nil))
 routePiece (trailing h u g t) = bit route 1 (put (hopsPiece h) (then Comma u (put (emptiesPiece g) (then Colon t nil))))
 
+abbrev pub routeAddrPiece : RouteAddr → Bit
+routeAddrPiece (noRoute t s u) = bit routeAddr 0 (then LessThan t (put (specPiece s) (then GreaterThan u nil)))
+routeAddrPiece (withRoute t r s u) = bit routeAddr 1 (then LessThan t (put (routePiece r) (put (specPiece s) (then GreaterThan u nil))))
+
 abbrev pub mailboxPiece : Mailbox → Bit
 mailboxPiece (bare s) = bit mailbox 0 (put (specPiece s) nil)
-mailboxPiece (angle p t s u) = bit mailbox 1 (put (phrasePiece p) (then LessThan t (put (specPiece s) (then GreaterThan u nil))))
-mailboxPiece (routed p t r s u) = bit mailbox 2 (put (phrasePiece p) (then LessThan t (put (routePiece r) (put (specPiece s) (then GreaterThan u nil)))))
+mailboxPiece (angle p t s u) = bit mailbox 1 (put (phrasePiece p) (put (routeAddrPiece (noRoute t s u)) nil))
+mailboxPiece (routed p t r s u) = bit mailbox 1 (put (phrasePiece p) (put (routeAddrPiece (withRoute t r s u)) nil))
 
 abbrev mutual
   pub boxPlacePiece : Place Mailbox → Bit
@@ -177,10 +185,14 @@ pub route-is : (r : Route) → Is route (routePiece r)
 route-is (direct h t) = by route 0 (omega arith) (with (hops-is h) (take refl done)) tt
 route-is (trailing h u g t) = by route 1 (omega arith) (with (hops-is h) (take refl (with (empties-is g) (take refl done)))) tt
 
+pub route-addr-is : (r : RouteAddr) → Is routeAddr (routeAddrPiece r)
+route-addr-is (noRoute t s u) = by routeAddr 0 (omega arith) (take refl (with (spec-is s) (take refl done))) tt
+route-addr-is (withRoute t r s u) = by routeAddr 1 (omega arith) (take refl (with (route-is r) (with (spec-is s) (take refl done)))) tt
+
 pub mailbox-is : (b : Mailbox) → Is mailbox (mailboxPiece b)
 mailbox-is (bare s) = by mailbox 0 (omega arith) (with (spec-is s) done) tt
-mailbox-is (angle p t s u) = by mailbox 1 (omega arith) (with (phrase-is p) (take refl (with (spec-is s) (take refl done)))) tt
-mailbox-is (routed p t r s u) = by mailbox 2 (omega arith) (with (phrase-is p) (take refl (with (route-is r) (with (spec-is s) (take refl done))))) tt
+mailbox-is (angle p t s u) = by mailbox 1 (omega arith) (with (phrase-is p) (with (route-addr-is (noRoute t s u)) done)) tt
+mailbox-is (routed p t r s u) = by mailbox 1 (omega arith) (with (phrase-is p) (with (route-addr-is (withRoute t r s u)) done)) tt
 
 mutual
   boxPlace-is : (r : Place Mailbox) → Is boxPlace (boxPlacePiece r)
@@ -213,6 +225,7 @@ Tree address = Address
 Tree boxes = Listed Mailbox
 Tree boxPlace = Place Mailbox
 Tree mailbox = Mailbox
+Tree routeAddr = RouteAddr
 Tree addrSpec = Spec
 Tree route = Route
 Tree hops = Hops
@@ -230,6 +243,7 @@ pieceOf address x = addressPiece x
 pieceOf boxes x = boxesPiece x
 pieceOf boxPlace x = boxPlacePiece x
 pieceOf mailbox x = mailboxPiece x
+pieceOf routeAddr x = routeAddrPiece x
 pieceOf addrSpec x = specPiece x
 pieceOf route x = routePiece x
 pieceOf hops x = hopsPiece x
@@ -240,19 +254,18 @@ pieceOf subDomain x = subPiece x
 pieceOf phrase x = phrasePiece x
 pieceOf word x = wordPiece x
 
+named : (p : Phrase) (r : RouteAddr) → (x : Mailbox) × (bit mailbox 1 (put (phrasePiece p) (put (routeAddrPiece r) nil)) ≡ mailboxPiece x)
+named p (noRoute t s u) = (angle p t s u, refl)
+named p (withRoute t r s u) = (routed p t r s u, refl)
+
 covered : (A : Notion) → AllCovered rfc822 Tree pieceOf A (rulesOf A)
 covered list = (λ (r, (a, z)). (full r a, refl), (λ (r, z). (idle r, refl), tt))
 covered place = (λ z. (empty, refl), (λ (l, (t, z)). (comma l t, refl), tt))
 covered address = (λ (b, z). (box b, refl), (λ (p, (t, (l, (u, z)))). (group p t l u, refl), tt))
 covered boxes = (λ (r, (b, z)). (full r b, refl), (λ (r, z). (idle r, refl), tt))
 covered boxPlace = (λ z. (empty, refl), (λ (l, (t, z)). (comma l t, refl), tt))
-covered mailbox = (
-  λ (s, z). (bare s, refl),
-  (
-    λ (p, (t, (s, (u, z)))). (angle p t s u, refl),
-    (λ (p, (t, (r, (s, (u, z))))). (routed p t r s u, refl), tt),
-  ),
-)
+covered mailbox = (λ (s, z). (bare s, refl), (λ (p, (r, z)). named p r, tt))
+covered routeAddr = (λ (t, (s, (u, z))). (noRoute t s u, refl), (λ (t, (r, (s, (u, z)))). (withRoute t r s u, refl), tt))
 covered addrSpec = (λ (l, (t, (m, z))). (spec l t m, refl), tt)
 covered route = (λ (h, (t, z)). (direct h t, refl), (λ (h, (u, (g, (t, z)))). (trailing h u g t, refl), tt))
 covered hops = (λ (g, (t, (m, z))). (firstHop g t m, refl), (λ (h, (u, (g, (t, (m, z))))). (nextHop h u g t m, refl), tt))

@@ -22,12 +22,14 @@ use Rattle.header.specs.Names.{holdsAddresses}
 use Rattle.header.specs.declared.names.Known.{Known}
 use Rattle.header.specs.declared.names.Known.the-variants as known
 use Rattle.header.proofs.names.Known.{the-type}
+use Rattle.scanner.specs.declared.Class.{Class}
+use Rattle.grammar.specs.Grammar.{Row}
 use Rattle.grammar.specs.Records.{noRecord, count, records, tableBytes, recordIn}
-use Rattle.grammar.specs.Rfc733.{Derivation}
 use Rattle.grammar.proofs.Records.{length-records}
-use Rattle.addresses.specs.Outcome.{Outcome, refusal, derived, outcome}
-use Rattle.addresses.proofs.Judgements.{ListBody, Judged, refusedAt, listed as list-body, listed-read, judged}
-use Rattle.addresses.proofs.RecordsRead.{record-read}
+use Rattle.grammar.proofs.Positions.{ReadBack}
+use Rattle.addresses.specs.Outcome.{Outcome, refusal, derived, outcomeBy}
+use Rattle.editions.specs.Outcome.{outcomeOf}
+use Rattle.editions.proofs.Judgements.{AnsweredBy, JudgedOf, refusedAt, listed as list-of, judged-of, unchanged-733}
 use Rattle.dates.specs.declared.DateAnswer.{DateAnswer}
 use Rattle.dates.specs.declared.DateAnswer.the-variants as date
 use Rattle.listing.specs.Lines.{signed, addressLine, refusedLine}
@@ -35,13 +37,13 @@ use Rattle.listing.specs.Listing.{each, listed, unlessRefused, addressBo
 use Rattle.listing.specs.Putting.{tabulate}
 use Rattle.listing.proofs.TableLaws.{tabulated}
 
-module _ (message : List ℕ) (start end : ℕ) (table : List ℕ) (size : 24576 ≡ length table) where
+module _ (edition : ℕ) (message : List ℕ) (start end : ℕ) (table : List ℕ) (size : 24576 ≡ length table) where
   -- what the reader's answer says of what is printed
   abbrev pub Printed : Answer → List ℕ → Type 0
   Printed (Accepted many) after =
-      (many ≤ tableRecords) × ((rest : List ℕ) → each addressLine (tabulate (recordIn after) many 0) rest ≡ addressBody message start end rest)
-  Printed (Refused number position) after = (rest : List ℕ) → refusedLine number position rest ≡ addressBody message start end rest
-  Printed (NoRoom needed) after = (rest : List ℕ) → refusedLine tooLittleRoom 0 rest ≡ addressBody message start end rest
+      (many ≤ tableRecords) × ((rest : List ℕ) → each addressLine (tabulate (recordIn after) many 0) rest ≡ addressBody edition message start end rest)
+  Printed (Refused number position) after = (rest : List ℕ) → refusedLine number position rest ≡ addressBody edition message start end rest
+  Printed (NoRoom needed) after = (rest : List ℕ) → refusedLine tooLittleRoom 0 rest ≡ addressBody edition message start end rest
 
   abbrev PrintedOf : Outcome → Type 0
   PrintedOf o = Printed (o .answer) (o .table)
@@ -52,34 +54,39 @@ module _ (message : List ℕ) (start end : ℕ) (table : List ℕ) (size : 24576
   room-is : length table / addressRecordSize ≡ tableRecords
   room-is = rw (← size)
 
-  -- the records in the table are those of the list
-  records-in : (k : Derivation) → ListBody message start end k → count k ≤ tableRecords → tabulate (recordIn (sets table 0 (tableBytes (records k)))) (count k) 0 ≡ records k
-  records-in k b h =
-      let n : count k ≡ length (records k) = sym (length-records k) in
-      ap (λ m. tabulate (recordIn (sets table 0 (tableBytes (records k)))) m 0) n
-      ∙ tabulated (recordIn (sets table 0 (tableBytes (records k)))) (records k) noRecord 0
-      (λ i l. let z : 0 + i ≡ i = omega arith in rw z (record-read b table (omega (arith, size)) i (omega arith)))
+  module _ {N : Type 0} (k : Row Class N) (back : ReadBack k) (answered : AnsweredBy edition message start end (λ A refuse derive. derive N k)) where
+    -- the records in the table are those of the list
+    records-in : count k ≤ tableRecords → tabulate (recordIn (sets table 0 (tableBytes (records k)))) (count k) 0 ≡ records k
+    records-in h =
+        let n : count k ≡ length (records k) = sym (length-records k) in
+        ap (λ m. tabulate (recordIn (sets table 0 (tableBytes (records k)))) m 0) n
+        ∙ tabulated (recordIn (sets table 0 (tableBytes (records k)))) (records k) noRecord 0
+        (λ i l. let z : 0 + i ≡ i = omega arith in rw z (back table (omega (arith, size)) i (omega arith) (omega arith)))
 
-  -- what is printed of a list
-  of-list : (k : Derivation) → ListBody message start end k → (rest : List ℕ) (o : Outcome) → listed rest k ≡ o → text-of o ≡ addressBody message start end rest
-  of-list k b rest o e = ap text-of (sym (listed-read b (refusal rest) (listed rest) ∙ e))
+    -- what is printed of a list
+    of-list : (rest : List ℕ) (o : Outcome) → listed rest k ≡ o → text-of o ≡ addressBody edition message start end rest
+    of-list rest o e = ap text-of (sym (answered Outcome (refusal rest) (λ M j. listed rest j) ∙ e))
 
-  in-room : (k : Derivation) → ListBody message start end k → (t : Bool) → ltb tableRecords (count k) ≡ t → PrintedOf (derived table k)
-  in-room k b true e =
-      let d : derived table k ≡ record { answer = NoRoom (count k); table = table } = rw (room-is, e) in
-      subst (λ (o : Outcome). PrintedOf o) (sym d) (λ rest. of-list k b rest (record { answer = NoRoom (count k); table = rest }) (rw e))
-  in-room k b false e =
-      let d : derived table k ≡ record { answer = Accepted (count k); table = sets table 0 (tableBytes (records k)) } = rw (room-is, e) in
-      let few : count k ≤ tableRecords = ltb-false tableRecords (count k) e in
-      subst (λ (o : Outcome). PrintedOf o) (sym d)
-      (few, λ rest. ap (λ l. each addressLine l rest) (records-in k b few) ∙ of-list k b rest (record { answer = Accepted (count k); table = each addressLine (records k) rest }) (rw e))
+    in-room : (t : Bool) → ltb tableRecords (count k) ≡ t → PrintedOf (derived table k)
+    in-room true e =
+        let d : derived table k ≡ record { answer = NoRoom (count k); table = table } = rw (room-is, e) in
+        subst (λ (o : Outcome). PrintedOf o) (sym d) (λ rest. of-list rest (record { answer = NoRoom (count k); table = rest }) (rw e))
+    in-room false e =
+        let d : derived table k ≡ record { answer = Accepted (count k); table = sets table 0 (tableBytes (records k)) } = rw (room-is, e) in
+        let few : count k ≤ tableRecords = ltb-false tableRecords (count k) e in
+        subst (λ (o : Outcome). PrintedOf o) (sym d)
+        (few, λ rest. ap (λ l. each addressLine l rest) (records-in few) ∙ of-list rest (record { answer = Accepted (count k); table = each addressLine (records k) rest }) (rw e))
 
-  by-case : Judged message start end → PrintedOf (outcome message start end table)
-  by-case (refusedAt n p f) = subst (λ (o : Outcome). PrintedOf o) (sym (f Outcome (refusal table) (derived table))) (λ rest. ap text-of (sym (f Outcome (refusal rest) (listed rest))))
-  by-case (list-body k b) = subst (λ (o : Outcome). PrintedOf o) (sym (listed-read b (refusal table) (derived table))) (in-room k b _ refl)
+  by-case : JudgedOf edition message start end → PrintedOf (outcomeOf edition message start end table)
+  by-case (refusedAt n p f) = subst (λ (o : Outcome). PrintedOf o) (sym (f Outcome (refusal table) (λ N k. derived table k))) (λ rest. ap text-of (sym (f Outcome (refusal rest) (λ N k. listed rest k))))
+  by-case (list-of k back f) = subst (λ (o : Outcome). PrintedOf o) (sym (f Outcome (refusal table) (λ N j. derived table j))) (in-room k back f _ refl)
 
-  pub printed : {r : Answer} {after : List ℕ} → r ≡ outcome message start end table .answer → after ≡ outcome message start end table .table → Printed r after
-  printed e f = rw (e, f) (by-case (judged message start end))
+  pub printed : {r : Answer} {after : List ℕ} → r ≡ outcomeOf edition message start end table .answer → after ≡ outcomeOf edition message start end table .table → Printed r after
+  printed e f = rw (e, f) (by-case (judged-of edition message start end))
+
+-- in RFC 733 it is what the reader that takes no edition gives
+pub body-733 : (message : List ℕ) (start end : ℕ) (rest : List ℕ) → addressBody 733 message start end rest ≡ (let o = outcomeBy (λ lent k. listed lent k) message start end rest in unlessRefused (o .answer) (o .table))
+body-733 message start end rest = ap (λ (o : Outcome). unlessRefused (o .answer) (o .table)) (unchanged-733 (refusal rest) (λ N k. listed rest k) message start end)
 
 -- a date, and a body that is none
 pub accepted-date : {store : List ℕ → ℕ → List ℕ → List ℕ} (s : ℤ) {r : DateAnswer} {o p q z : List ℕ} {n a b c : ℕ} → r ≡ date.Accepted s
@@ -90,11 +97,11 @@ pub refused-date : {store : List ℕ → ℕ → List ℕ → List ℕ} {r : Dat
 refused-date e w = rw e w
 
 -- the lines of a body, by what its name holds
-module _ (k : Known) (message : List ℕ) (start end : ℕ) {store : List ℕ → ℕ → List ℕ → List ℕ} {o p : List ℕ} {n a : ℕ} where
-  pub address-name : holdsAddresses k ≡ true → WroteBy store (addressBody message start end) o n p a → WroteBy store (body k message start end) o n p a
+module _ (edition : ℕ) (k : Known) (message : List ℕ) (start end : ℕ) {store : List ℕ → ℕ → List ℕ → List ℕ} {o p : List ℕ} {n a : ℕ} where
+  pub address-name : holdsAddresses k ≡ true → WroteBy store (addressBody edition message start end) o n p a → WroteBy store (body edition k message start end) o n p a
   address-name e w = wrote-as (λ rest. sym (rw e)) w
 
-  pub no-address-name : holdsAddresses k ≡ false → WroteBy store (otherBody k message start end) o n p a → WroteBy store (body k message start end) o n p a
+  pub no-address-name : holdsAddresses k ≡ false → WroteBy store (otherBody k message start end) o n p a → WroteBy store (body edition k message start end) o n p a
   no-address-name e w = wrote-as (λ rest. sym (rw e)) w
 
 -- a name that is neither a date's nor an address list's gives no line

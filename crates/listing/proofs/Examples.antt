@@ -3,7 +3,7 @@ use mathlib.Core.Path.{_≡_, refl}
 use mathlib.Core.List.{List, [], _∷_, _++_}
 use Prim.Native.Nat.{ℕ}
 use Prim.Native.String.{String}
-use Rattle.octets.specs.Classes.{classOf, classTable}
+use Rattle.octets.specs.Classes.{classOf, classOf822, classTable, classTable822}
 use Rattle.octets.specs.Letters.{lower, same}
 use Rattle.octets.specs.Octets.{returnByte, lineFeedByte}
 use Rattle.octets.specs.Text.{bytes}
@@ -23,8 +23,9 @@ use Rattle.dates.specs.Answers.{dayExists, timeExists, nameTrue, momentOf, date
 use Rattle.listing.specs.Lines.{digitsOf, signed, spaced}
 use Rattle.listing.specs.Listing.{each, fieldText, listing}
 
--- lines of a message, each ended by CRLF, and the lines printed for it, each ended by LF
+-- an edition, lines of a message, each ended by CRLF, and the lines printed for it, each ended by LF
 pub record Row : Type 0 where
+  pub edition : ℕ
   pub message : List String
   pub printed : List String
 
@@ -35,18 +36,23 @@ ended end (line ∷ lines) = bytes line ++ (end ++ ended end lines)
 
 abbrev pub rows : List Row
 rows =
-    record { message = "To: Al at X" ∷ []; printed = "field 0 2 3 11" ∷ "address 1 0 0 4 11 4 6" ∷ [] }
-    ∷ record { message = "Date: 1 Jan 1900 0000 +0100" ∷ []; printed = "field 0 4 5 27" ∷ "date -3600" ∷ [] }
-    ∷ record { message = "To: x" ∷ "cc :" ∷ []; printed = "field 0 2 3 5" ∷ "refused 9 5" ∷ "field 7 9 11 11" ∷ [] }
-    ∷ record { message = "Subject: x" ∷ []; printed = "field 0 7 8 10" ∷ [] }
-    ∷ record { message = "To" ∷ []; printed = "refused 2 2" ∷ [] }
+    record { edition = 733; message = "To: Al at X" ∷ []; printed = "field 0 2 3 11" ∷ "address 1 0 0 4 11 4 6" ∷ [] }
+    ∷ record { edition = 733; message = "Date: 1 Jan 1900 0000 +0100" ∷ []; printed = "field 0 4 5 27" ∷ "date -3600" ∷ [] }
+    ∷ record { edition = 733; message = "To: x" ∷ "cc :" ∷ []; printed = "field 0 2 3 5" ∷ "refused 9 5" ∷ "field 7 9 11 11" ∷ [] }
+    ∷ record { edition = 733; message = "Subject: x" ∷ []; printed = "field 0 7 8 10" ∷ [] }
+    ∷ record { edition = 733; message = "To" ∷ []; printed = "refused 2 2" ∷ [] }
+    ∷ record { edition = 733; message = "To: a.b at [c]" ∷ []; printed = "field 0 2 3 14" ∷ "address 1 0 0 4 14 4 7" ∷ [] }
+    ∷ record { edition = 822; message = "To: a.b@[c]" ∷ "Date: 1 Jan 1900 0000 +0100" ∷ []; printed = "field 0 2 3 11" ∷ "address 1 0 0 4 11 4 7" ∷ "field 13 17 18 40" ∷ "date -3600" ∷ [] }
+    ∷ record { edition = 822; message = "cc: x:y<@a:b@c>;" ∷ []; printed = "field 0 2 3 16" ∷ "address 3 0 0 4 16 4 5" ∷ "address 2 1 1 6 15 6 7" ∷ "address 1 2 2 11 14 11 12" ∷ [] }
+    ∷ record { edition = 822; message = "To: a at b" ∷ "cc: a@[" ∷ []; printed = "field 0 2 3 10" ∷ "refused 9 10" ∷ "field 12 14 15 19" ∷ "refused 23 18" ∷ [] }
+    ∷ record { edition = 66269; message = "To: a@b" ∷ []; printed = "field 0 2 3 7" ∷ "refused 21 0" ∷ [] }
     ∷ []
 
 -- each row of a table holds
 abbrev pub AllHold : List Row → Type 0
 AllHold [] = Unit {0}
-AllHold (row ∷ more) = (listing (ended (returnByte ∷ lineFeedByte ∷ []) (row .message)) ≡ ended (lineFeedByte ∷ []) (row .printed)) × AllHold more
+AllHold (row ∷ more) = (listing (row .edition) (ended (returnByte ∷ lineFeedByte ∷ []) (row .message)) ≡ ended (lineFeedByte ∷ []) (row .printed)) × AllHold more
 
 pub rows-hold : AllHold rows
-unfolding scanFrom symbolsOf charactersFrom kindOf classOf classTable lower same unlessFault nameHolds nameStartsWith crlf endsBody atLineStart atName atBody headerFrom knownNames knownIn answerIn answerFor called place isMark isRun keyOf runs parts number offsetOf leap monthLength daysBeforeMonth daysOfYears dayNumber firstKey firstBytes after done digitsPart named secondAfter minuteAfter hourOf zoneNamed zoneOf hourAfter pastDash yearAfter monthAfter dayAfter readingOf dayExists timeExists nameTrue momentOf dateAnswer digitsOf signed spaced each fieldText
-rows-hold = (refl, (refl, (refl, (refl, (refl, tt)))))
+unfolding scanFrom symbolsOf charactersFrom kindOf classOf classOf822 classTable classTable822 lower same unlessFault nameHolds nameStartsWith crlf endsBody atLineStart atName atBody headerFrom knownNames knownIn answerIn answerFor called place isMark isRun keyOf runs parts number offsetOf leap monthLength daysBeforeMonth daysOfYears dayNumber firstKey firstBytes after done digitsPart named secondAfter minuteAfter hourOf zoneNamed zoneOf hourAfter pastDash yearAfter monthAfter dayAfter readingOf dayExists timeExists nameTrue momentOf dateAnswer digitsOf signed spaced each fieldText
+rows-hold = (refl, (refl, (refl, (refl, (refl, (refl, (refl, (refl, (refl, (refl, tt))))))))))

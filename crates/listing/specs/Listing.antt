@@ -1,4 +1,5 @@
--- Document 01, "Checked examples": the lines of a message. Each function puts its text before the bytes `rest`.
+-- Document 01, "Checked examples": the lines of a message, with its address bodies read by the rules of an edition, 733 or 822. Each function
+-- puts its text before the bytes `rest`.
 use Prim.Native.Nat.{ℕ}
 use mathlib.Core.List.{List, [], _∷_}
 use lib.Dec.{ltb}
@@ -12,9 +13,11 @@ use Rattle.header.specs.Split.{answerFor}
 use Rattle.header.specs.Names.{knownOf, holdsAddresses}
 use Rattle.header.specs.declared.names.Known.{Known}
 use Rattle.header.specs.declared.names.Known.the-variants as known
+use Rattle.scanner.specs.declared.Class.{Class}
+use Rattle.grammar.specs.Grammar.{Row}
 use Rattle.grammar.specs.Records.{count, records}
-use Rattle.grammar.specs.Rfc733.{Derivation}
-use Rattle.addresses.specs.Outcome.{Outcome, outcomeBy}
+use Rattle.addresses.specs.Outcome.{Outcome, refusal}
+use Rattle.editions.specs.Outcome.{readOf}
 use Rattle.dates.specs.Answers.{dateAnswer}
 use Rattle.dates.specs.declared.DateAnswer.{DateAnswer}
 use Rattle.dates.specs.declared.DateAnswer.the-variants as date
@@ -28,7 +31,7 @@ each text (a ∷ more) rest = text a (each text more rest)
 -- ---- bodies
 
 -- what is printed of a list: a line for each of its records, or 11 where a table has no room for them
-abbrev pub listed : List ℕ → Derivation → Outcome
+abbrev pub listed : {N : Type 0} → List ℕ → Row Class N → Outcome
 listed rest k =
     pick (ltb tableRecords (count k)) (record { answer = NoRoom (count k); table = rest })
     (record { answer = Accepted (count k); table = each addressLine (records k) rest })
@@ -39,10 +42,10 @@ unlessRefused (Accepted written) text = text
 unlessRefused (Refused number position) text = refusedLine number position text
 unlessRefused (NoRoom needed) text = refusedLine tooLittleRoom 0 text
 
--- a body that holds an address list
-abbrev pub addressBody : List ℕ → ℕ → ℕ → List ℕ → List ℕ
-addressBody message start end rest =
-    let o = outcomeBy listed message start end rest in
+-- a body that holds an address list, by the rules of the edition with a number; of any other number it is refused
+abbrev pub addressBody : ℕ → List ℕ → ℕ → ℕ → List ℕ → List ℕ
+addressBody edition message start end rest =
+    let o = readOf edition (refusal rest) (λ N k. listed rest k) message start end in
     unlessRefused (o .answer) (o .table)
 
 -- a body that holds a date, from its answer
@@ -61,23 +64,23 @@ otherBody known.Bcc message start end rest = rest
 otherBody known.Other message start end rest = rest
 
 -- the lines of a body, by the name of its field
-abbrev pub body : Known → List ℕ → ℕ → ℕ → List ℕ → List ℕ
-body k message start end rest =
-    pick (holdsAddresses k) (addressBody message start end rest) (otherBody k message start end rest)
+abbrev pub body : ℕ → Known → List ℕ → ℕ → ℕ → List ℕ → List ℕ
+body edition k message start end rest =
+    pick (holdsAddresses k) (addressBody edition message start end rest) (otherBody k message start end rest)
 
 -- ---- headers
 
 -- a field's line, followed by the lines of its body
-unfoldable pub fieldText : List ℕ → Field → List ℕ → List ℕ
-fieldText message f rest =
-    fieldLine f (body (knownOf (part message (f .nameStart) (f .nameEnd))) message (f .bodyStart) (f .bodyEnd) rest)
+unfoldable pub fieldText : ℕ → List ℕ → Field → List ℕ → List ℕ
+fieldText edition message f rest =
+    fieldLine f (body edition (knownOf (part message (f .nameStart) (f .nameEnd))) message (f .bodyStart) (f .bodyEnd) rest)
 
 -- each field with its body; a refused header gives one line and nothing else
-abbrev pub headerText : List ℕ → Answer → List ℕ
-headerText message (Accepted fields) = each (fieldText message) (fieldsOf (headerOf message)) []
-headerText message (Refused number position) = refusedLine number position []
-headerText message (NoRoom needed) = refusedLine tooLittleRoom 0 []
+abbrev pub headerText : ℕ → List ℕ → Answer → List ℕ
+headerText edition message (Accepted fields) = each (fieldText edition message) (fieldsOf (headerOf message)) []
+headerText edition message (Refused number position) = refusedLine number position []
+headerText edition message (NoRoom needed) = refusedLine tooLittleRoom 0 []
 
--- what the program prints for a message
-abbrev pub listing : List ℕ → List ℕ
-listing message = headerText message (answerFor tableRecords message)
+-- what the program of an edition prints for a message
+abbrev pub listing : ℕ → List ℕ → List ℕ
+listing edition message = headerText edition message (answerFor tableRecords message)

@@ -1,4 +1,4 @@
-// What the program prints for a message, as one text.
+// What the program of an edition prints for a message, as one text.
 //
 // The lent part is a window on the text: of each byte put, its place in the text is counted, and it is stored if it lies in the window.
 ghost use mathlib.Core.Path.{_≡_};
@@ -15,9 +15,9 @@ ghost use Rattle.listing.specs.Lines.{decimal, signed as signedText, add
 ghost use Rattle.listing.specs.Listing.{each, addressBody, dateText, body as bodyText, fieldText, headerText, listing};
 ghost use Rattle.listing.specs.Putting.{lineLimit, bodyLimit, fieldLimit, listingLimit, tabulate, number as numberText, four, fieldIn, Named, AllNamed, Fits};
 ghost use Rattle.dates.specs.Answers.{dateAnswer};
-use addresses::read_addresses;
 use dates::DateAnswer;
 use dates::read_date;
+use editions::read_addresses;
 use header::fields::split;
 use header::names::Known;
 use header::names::holds_addresses;
@@ -29,6 +29,8 @@ use octets::numbers::TOO_LITTLE_ROOM;
 use octets::stored::load_byte;
 use octets::stored::load_two;
 use octets::stored::store_byte;
+
+pub mod printing;
 
 // A table of 2,048 field records.
 fn field_table() -> [u8; 16384]
@@ -160,6 +162,7 @@ fn put_addresses(table: &[u8], many: usize, from: usize, out: &mut [u8], n: usiz
 // The lines of a body that holds an address list.
 fn put_address_body(
     message: &[u8],
+    edition: usize,
     start: usize,
     end: usize,
     from: usize,
@@ -167,10 +170,10 @@ fn put_address_body(
     n: usize,
 ) -> usize
     requires { ⌜ n + bodyLimit ≤ countLimit ⌝ }
-    ensures { λ r. ⌜ WroteBy (inWindow from) (addressBody (now (message .entry)) start end) (now (out .entry)) n (now (out .exit)) r × (r ≤ n + bodyLimit) ⌝ }
+    ensures { λ r. ⌜ WroteBy (inWindow from) (addressBody edition (now (message .entry)) start end) (now (out .entry)) n (now (out .exit)) r × (r ≤ n + bodyLimit) ⌝ }
 {
     let mut table = address_table();
-    match read_addresses(message, start, end, &mut table) {
+    match read_addresses(message, start, end, edition, &mut table) {
         Answer::Accepted(many) => put_addresses(&table, many, from, out, n),
         Answer::Refused(number, position) => put_refused(number, position, from, out, n),
         Answer::NoRoom(_) => put_refused(TOO_LITTLE_ROOM, 0, from, out, n),
@@ -210,6 +213,7 @@ fn name_at(message: &[u8], start: usize, end: usize) -> Known
 // The lines of a body, by the name of its field.
 fn put_body(
     message: &[u8],
+    edition: usize,
     known: Known,
     start: usize,
     end: usize,
@@ -218,10 +222,10 @@ fn put_body(
     n: usize,
 ) -> usize
     requires { ⌜ n + bodyLimit ≤ countLimit ⌝ }
-    ensures { λ r. ⌜ WroteBy (inWindow from) (bodyText known (now (message .entry)) start end) (now (out .entry)) n (now (out .exit)) r × (r ≤ n + bodyLimit) ⌝ }
+    ensures { λ r. ⌜ WroteBy (inWindow from) (bodyText edition known (now (message .entry)) start end) (now (out .entry)) n (now (out .exit)) r × (r ≤ n + bodyLimit) ⌝ }
 {
     if holds_addresses(known) {
-        return put_address_body(message, start, end, from, out, n);
+        return put_address_body(message, edition, start, end, from, out, n);
     }
     match known {
         Known::Date => put_date_body(message, start, end, from, out, n),
@@ -232,6 +236,7 @@ fn put_body(
 // The line of a field record of a table, and the lines of its body.
 fn put_field(
     message: &[u8],
+    edition: usize,
     fields: &[u8],
     i: usize,
     from: usize,
@@ -239,7 +244,7 @@ fn put_field(
     n: usize,
 ) -> usize
     requires { ⌜ (i < tableRecords) × Named (now message) (fieldIn (now fields) i) × (n + fieldLimit ≤ countLimit) ⌝ }
-    ensures { λ r. ⌜ WroteBy (inWindow from) (fieldText (now (message .entry)) (fieldIn (now (fields .entry)) i)) (now (out .entry)) n (now (out .exit)) r × (r ≤ n + fieldLimit) ⌝ }
+    ensures { λ r. ⌜ WroteBy (inWindow from) (fieldText edition (now (message .entry)) (fieldIn (now (fields .entry)) i)) (now (out .entry)) n (now (out .exit)) r × (r ≤ n + fieldLimit) ⌝ }
 {
     let at = i * FIELD_RECORD_SIZE;
     let a = put_bytes(b"field", from, out, n);
@@ -248,41 +253,55 @@ fn put_field(
     let known = name_at(message, load_two(fields, at), load_two(fields, at + 2));
     let start = load_two(fields, at + 4);
     let end = load_two(fields, at + 6);
-    put_body(message, known, start, end, from, out, c)
+    put_body(message, edition, known, start, end, from, out, c)
 }
 
 // The lines of the first field records of a table, each with those of its body.
-fn put_fields(message: &[u8], fields: &[u8], many: usize, from: usize, out: &mut [u8]) -> usize
+fn put_fields(
+    message: &[u8],
+    edition: usize,
+    fields: &[u8],
+    many: usize,
+    from: usize,
+    out: &mut [u8],
+) -> usize
     requires { ⌜ (many ≤ tableRecords) × AllNamed (now message) (now fields) many ⌝ }
-    ensures { λ r. ⌜ WroteBy (inWindow from) (each (fieldText (now (message .entry))) (tabulate (fieldIn (now (fields .entry))) many 0)) (now (out .entry)) 0 (now (out .exit)) r ⌝ }
+    ensures { λ r. ⌜ WroteBy (inWindow from) (each (fieldText edition (now (message .entry))) (tabulate (fieldIn (now (fields .entry))) many 0)) (now (out .entry)) 0 (now (out .exit)) r ⌝ }
 {
     let mut i: usize = 0;
     let mut m: usize = 0;
     while i < many {
-        m = put_field(message, fields, i, from, out, m);
+        m = put_field(message, edition, fields, i, from, out, m);
         i += 1;
     }
     m
 }
 
 // The lines of a header with this answer.
-fn put_header(message: &[u8], fields: &[u8], answer: Answer, from: usize, out: &mut [u8]) -> usize
+fn put_header(
+    message: &[u8],
+    edition: usize,
+    fields: &[u8],
+    answer: Answer,
+    from: usize,
+    out: &mut [u8],
+) -> usize
     requires { ⌜ Fits (now message) (now fields) answer ⌝ }
-    ensures { λ r. ⌜ (r ≡ length (headerText (now (message .entry)) answer)) × (now (out .exit) ≡ sets (now (out .entry)) 0 (drop from (headerText (now (message .entry)) answer))) ⌝ }
+    ensures { λ r. ⌜ (r ≡ length (headerText edition (now (message .entry)) answer)) × (now (out .exit) ≡ sets (now (out .entry)) 0 (drop from (headerText edition (now (message .entry)) answer))) ⌝ }
 {
     match answer {
-        Answer::Accepted(many) => put_fields(message, fields, many, from, out),
+        Answer::Accepted(many) => put_fields(message, edition, fields, many, from, out),
         Answer::Refused(number, position) => put_refused(number, position, from, out, 0),
         Answer::NoRoom(_) => put_refused(TOO_LITTLE_ROOM, 0, from, out, 0),
     }
 }
 
-// Write what the program prints for a message, from a position of that text on and as much as there is room for.
+// Write what the program of an edition, 733 or 822, prints for a message, from a position of that text on and as much as there is room for.
 // The answer is the length of the whole text.
-pub fn write_listing(message: &[u8], from: usize, text: &mut [u8]) -> usize
-    ensures { λ r. ⌜ (r ≡ length (listing (now (message .entry)))) × (now (text .exit) ≡ sets (now (text .entry)) 0 (drop from (listing (now (message .entry))))) ⌝ }
+pub fn write_listing(message: &[u8], edition: usize, from: usize, text: &mut [u8]) -> usize
+    ensures { λ r. ⌜ (r ≡ length (listing edition (now (message .entry)))) × (now (text .exit) ≡ sets (now (text .entry)) 0 (drop from (listing edition (now (message .entry))))) ⌝ }
 {
     let mut fields = field_table();
     let answer = split(message, &mut fields);
-    put_header(message, &fields, answer, from, text)
+    put_header(message, edition, &fields, answer, from, text)
 }

@@ -11,12 +11,13 @@ use lib.ListN.{length, take}
 use types.Run.{OneOf, miss}
 use denote.Enum.Declared.{tagOf}
 use Rattle.octets.specs.Choice.{pick, either}
+use Rattle.octets.specs.Classes.{classTable}
 use Rattle.octets.specs.Numbers.{messageLimit, messageTooLong, bodyOutOfOrder}
 use Rattle.octets.specs.declared.answers.Answer.{Answer}
 use Rattle.octets.specs.declared.answers.Answer.the-variants.{Accepted, Refused}
 use Rattle.octets.proofs.answers.Answer.{the-type}
 use Rattle.octets.proofs.ChoiceLaws.{either-true}
-use Rattle.scanner.specs.Scanning.{Scanned, ended, next, faultAt, scan}
+use Rattle.scanner.specs.Scanning.{Scanned, ended, next, faultAt, scanBy, scan}
 use Rattle.scanner.specs.Answers.{bodyChecked, unlessFault, faultOf, bodyScanned}
 
 module _ {A : Type 0} (refused : ℕ → ℕ → A) (message : List ℕ) (start end : ℕ) (otherwise : A) where
@@ -63,14 +64,18 @@ fault-or-none ended r e o = refl
 fault-or-none (next x rest) r e o = fault-or-none rest r e o
 fault-or-none (faultAt n p) r e o = absurd (not-refused o e)
 
--- ---- a body that `scan_body` has looked at
+-- ---- a body, scanned by any classes
+
+-- the answer of scanning it
+abbrev pub scannedBy : List ℕ → List ℕ → ℕ → ℕ → Answer
+scannedBy classes message start end = bodyChecked Refused message start end (faultOf (scanBy classes (take end message) start))
 
 -- it passes the checks and has no fault
-pub record Clean (message : List ℕ) (start end : ℕ) : Type 0 where
+pub record CleanBy (classes message : List ℕ) (start end : ℕ) : Type 0 where
   pub short : length message ≤ messageLimit
   pub ordered : start ≤ end
   pub inside : end ≤ length message
-  pub faultless : faultOf (scan (take end message) start) ≡ Accepted 0
+  pub faultless : faultOf (scanBy classes (take end message) start) ≡ Accepted 0
 
 -- a scan has a first fault or none
 data FaultCase (r : Answer) : Type 0 where
@@ -84,26 +89,47 @@ fault-case (next x rest) = fault-case rest
 fault-case (faultAt number p) = faulty number p refl
 
 -- a body is refused, or clean
-pub data BodyCase (message : List ℕ) (start end : ℕ) : Type 0 where
-  refused-body : (number p : ℕ) → Refused number p ≡ bodyScanned message start end → BodyCase message start end
-  clean-body : Clean message start end → BodyCase message start end
+pub data BodyCaseBy (classes message : List ℕ) (start end : ℕ) : Type 0 where
+  refused-body : (number p : ℕ) → Refused number p ≡ scannedBy classes message start end → BodyCaseBy classes message start end
+  clean-body : CleanBy classes message start end → BodyCaseBy classes message start end
 
-module _ (message : List ℕ) (start end : ℕ) where
-  pub body-case : BodyCase message start end
-  body-case =
+module _ (classes message : List ℕ) (start end : ℕ) where
+  pub body-case-by : BodyCaseBy classes message start end
+  body-case-by =
       elim (decLt messageLimit (length message)) [
         | yes h ↦ refused-body messageTooLong messageLimit (sym (too-long Refused message start end _ h))
         | no h ↦ elim (decLt end start) [
           | yes k ↦ refused-body bodyOutOfOrder 0 (sym (out-of-order Refused message start end _ (omega arith) k))
           | no k ↦ elim (decLt (length message) end) [
             | yes l ↦ refused-body bodyOutOfOrder 0 (sym (past-the-end Refused message start end _ (omega arith) l))
-            | no l ↦ elim (fault-case (scan (take end message) start)) [
+            | no l ↦ elim (fault-case (scanBy classes (take end message) start)) [
               | faulty number p e ↦ refused-body number p (e ∙ sym (in-order Refused message start end _ (omega arith) (omega arith) (omega arith)))
               | faultless e ↦ clean-body (record { short = omega arith; ordered = omega arith; inside = omega arith; faultless = e })
             ]
           ]
         ]
       ]
+
+  module _ {A : Type 0} (refused : ℕ → ℕ → A) (otherwise : A) where
+    by-tests : (a b : Bool) {number p : ℕ} (s : Scanned) → Refused number p ≡ pick a (Refused messageTooLong messageLimit) (pick b (Refused bodyOutOfOrder 0) (faultOf s))
+        → pick a (refused messageTooLong messageLimit) (pick b (refused bodyOutOfOrder 0) (unlessFault refused s otherwise)) ≡ refused number p
+    by-tests true b {number} {p} s e = let i : number ≡ messageTooLong = cc in let j : p ≡ messageLimit = cc in rw (i, j)
+    by-tests false true {number} {p} s e = let i : number ≡ bodyOutOfOrder = cc in let j : p ≡ 0 = cc in rw (i, j)
+    by-tests false false s e = unless-refused refused s otherwise e
+
+    -- a refused one is so with the same number and position, whatever is answered of others
+    pub when-refused-by : {number p : ℕ} → Refused number p ≡ scannedBy classes message start end
+        → bodyChecked refused message start end (unlessFault refused (scanBy classes (take end message) start) otherwise) ≡ refused number p
+    when-refused-by e = by-tests (ltb messageLimit (length message)) (either (ltb end start) (ltb (length message) end)) (scanBy classes (take end message) start) e
+
+-- ---- a body that `scan_body` has looked at
+
+abbrev pub Clean : List ℕ → ℕ → ℕ → Type 0
+Clean message start end = CleanBy classTable message start end
+
+module _ (message : List ℕ) (start end : ℕ) where
+  pub body-case : BodyCaseBy classTable message start end
+  body-case = body-case-by classTable message start end
 
   -- it is not refused ..
   pub clean : (r : Answer) → r ≡ bodyScanned message start end → NotRefused r → Clean message start end
@@ -114,12 +140,6 @@ module _ (message : List ℕ) (start end : ℕ) where
     pub when-clean : Clean message start end → bodyChecked refused message start end (unlessFault refused (scan (take end message) start) otherwise) ≡ otherwise
     when-clean x = in-order refused message start end _ (x .short) (x .ordered) (x .inside) ∙ unless-none refused (scan (take end message) start) otherwise (x .faultless)
 
-    by-tests : (a b : Bool) {number p : ℕ} (s : Scanned) → Refused number p ≡ pick a (Refused messageTooLong messageLimit) (pick b (Refused bodyOutOfOrder 0) (faultOf s))
-        → pick a (refused messageTooLong messageLimit) (pick b (refused bodyOutOfOrder 0) (unlessFault refused s otherwise)) ≡ refused number p
-    by-tests true b {number} {p} s e = let i : number ≡ messageTooLong = cc in let j : p ≡ messageLimit = cc in rw (i, j)
-    by-tests false true {number} {p} s e = let i : number ≡ bodyOutOfOrder = cc in let j : p ≡ 0 = cc in rw (i, j)
-    by-tests false false s e = unless-refused refused s otherwise e
-
     -- it is refused, and so with the same number and position
     pub when-refused : {number p : ℕ} → Refused number p ≡ bodyScanned message start end → bodyChecked refused message start end (unlessFault refused (scan (take end message) start) otherwise) ≡ refused number p
-    when-refused e = by-tests (ltb messageLimit (length message)) (either (ltb end start) (ltb (length message) end)) (scan (take end message) start) e
+    when-refused e = when-refused-by classTable message start end refused otherwise e

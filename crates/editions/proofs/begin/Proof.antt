@@ -26,7 +26,7 @@ same-length : tie.Need-same-length
 same-length c = search needs
 
 returns : tie.Need-returns
-returns c = c .before .before .store-record .ensures ∙ rw (c .before .before .before .before .parent-of .ensures, c .before .before .before .before .before .before .one-if2 .ensures .0, c .before .before .before .before .before .before .before .one-if .ensures .0)
+returns c = c .before .before .store-record .ensures ∙ rw (c .before .before .before .before .parent-of .ensures, c .before .before .before .before .before .one-if2 .ensures .0, c .before .before .before .before .before .before .one-if .ensures .0)
 
 pub begin-spec : {M : Type 1} → statement M
 begin-spec =

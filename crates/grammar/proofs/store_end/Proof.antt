@@ -28,7 +28,7 @@ same-length : tie.Need-same-length
 same-length c = search needs
 
 returns-2 : tie.Need-returns-2
-returns-2 c = search needs
+returns-2 c = c .before .before .store-two .ensures
 
 pub store-end-spec : {M : Type 1} → statement M
 store-end-spec = tie.close (tie.spec returns mul-store-two add-store-two store-two-requires same-length returns-2)

@@ -21,7 +21,7 @@ returns c =
     let a = c .before .before .before .before .before .before .before .before .args in
     let e = sym (c .before .before .before .before .before .holds-addresses .ensures) ∙ c .before .before .before .before .if1 .taken in
     let w = c .before .before .put-address-body in
-    (address-name (a .known) (a .message .now) (a .start) (a .end) e (w .ensures .0), w .ensures .1)
+    (address-name (a .edition) (a .known) (a .message .now) (a .start) (a .end) e (w .ensures .0), w .ensures .1)
 
 enum-told : tie.Need-enum-told
 enum-told c = search needs
@@ -41,7 +41,7 @@ returns-3 : tie.Need-returns-3
 returns-3 c =
     let a = c .before .before .before .before .before .args in
     let e = sym (c .before .before .holds-addresses .ensures) ∙ c .before .if1 .left in
-    (no-address-name (a .known) (a .message .now) (a .start) (a .end) e (wrote-as (λ rest. sym (other-name (a .known) (a .message .now) (a .start) (a .end) rest (c .match .keys2))) (wrote-nothing _ _)), omega arith)
+    (no-address-name (a .edition) (a .known) (a .message .now) (a .start) (a .end) e (wrote-as (λ rest. sym (other-name (a .known) (a .message .now) (a .start) (a .end) rest (c .match .keys2))) (wrote-nothing _ _)), omega arith)
 
 pub put-body-spec : {M : Type 1} → statement M
 put-body-spec =

@@ -34,7 +34,7 @@ returns : tie.Need-returns
 returns c =
     let a = c .before .before .before .before .before .before .before .before .before .before .args in
     let h = rw (c .before .before .before .before .before .answer .given .1) at (c .before .before .before .before .before .before .before .before .before .before .pre) in
-    rw (c .before .before .before .before .before .answer .given .1) (whole _ (c .before .before .put-fields .ensures) (ap (λ l. each (fieldText (a .message .now)) l []) (h .are)))
+    rw (c .before .before .before .before .before .answer .given .1) (whole _ (c .before .before .put-fields .ensures) (ap (λ l. each (fieldText (a .edition) (a .message .now)) l []) (h .are)))
 
 same-length-2 : tie.Need-same-length-2
 same-length-2 c = search needs

@@ -1,18 +1,17 @@
--- `rfc733::print_listing` is safe and ends: each window starts behind the one before. Assumes nothing.
+-- `listing::printing::print_listing` is safe and ends: each window starts behind the one before. Assumes nothing.
 use mathlib.Core.Path.{_≡_, refl, _∙_}
 use Prim.Native.Nat.{_-_}
-use native.Mathlib.Omega.{arith}
 use borrow.Author.Needs.{needs}
 use lib.ListN.{length}
 use Rattle.listing.specs.Listing.{listing}
-use Rattle.rfc733.proofs.print_listing.Statement.{statement}
-use Rattle.rfc733.proofs.print_listing.Tie as tie
+use Rattle.listing.proofs.printing.print_listing.Statement.{statement}
+use Rattle.listing.proofs.printing.print_listing.Tie as tie
 
 abbrev Inv-loop : tie.InvT-loop
-Inv-loop message window₀ from₀ window from = length window ≡ length window₀
+Inv-loop message edition window₀ from₀ window from = length window ≡ length window₀
 
 abbrev μ-loop : tie.MeasureT-loop
-μ-loop message window₀ from₀ window from = length (listing message) - from
+μ-loop message edition window₀ from₀ window from = length (listing edition message) - from
 
 loop-holds : tie.Need-loop-holds Inv-loop μ-loop
 loop-holds c = refl
@@ -21,7 +20,7 @@ write-listing-requires : tie.Need-write-listing-requires Inv-loop μ-loop
 write-listing-requires c κs = search needs
 
 same-length : tie.Need-same-length Inv-loop μ-loop
-same-length c = c .before .before .before .write-listing .kept .1 .1 .0 ∙ c .before .before .before .before .before .loop .inv
+same-length c = c .before .before .before .write-listing .kept .1 .1 .1 .0 ∙ c .before .before .before .before .before .loop .inv
 
 returns : tie.Need-returns Inv-loop μ-loop
 returns c = search needs
@@ -33,7 +32,7 @@ print-requires : tie.Need-print-requires Inv-loop μ-loop
 print-requires c κs = search needs
 
 same-length-2 : tie.Need-same-length-2 Inv-loop μ-loop
-same-length-2 c = c .before .before .before .before .before .before .write-listing .kept .1 .1 .0 ∙ c .before .before .before .before .before .before .before .before .loop .inv
+same-length-2 c = c .before .before .before .before .before .before .write-listing .kept .1 .1 .1 .0 ∙ c .before .before .before .before .before .before .before .before .loop .inv
 
 returns-2 : tie.Need-returns-2 Inv-loop μ-loop
 returns-2 c = search needs

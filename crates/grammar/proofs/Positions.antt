@@ -1,0 +1,154 @@
+-- The positions of a record are positions of symbols, over any grammar: where no symbol lies past a position, no record does; and where
+-- two bytes hold that position, the records are read back from a table. Assumes nothing.
+use Prim.Native.Nat.{ℕ, zero, suc, _+_, _*_, _^_, _≤_, _<_}
+use native.Mathlib.Omega.{arith}
+use mathlib.Core.Path.{_≡_, refl, ap, _∙_}
+use mathlib.Core.List.{List, [], _∷_, _++_}
+use mathlib.Core.Option.{Option, none, some}
+use lib.ListN.{length, getD}
+use lib.Seq.{sets}
+use Rattle.octets.specs.Numbers.{addressRecordSize, numberWidth}
+use Rattle.octets.specs.Stored.{numberFrom, numberAt}
+use Rattle.octets.proofs.RecordsBack.{joined, record-back, number-back}
+use Rattle.scanner.specs.Symbols.{Symbol}
+use Rattle.grammar.specs.Grammar.{Makes, Rule, Row, nil, leaf, branch, yieldThen, yield}
+use Rattle.grammar.specs.Language.{positionOf}
+use Rattle.grammar.specs.Records.{AddressRecord, noRecord, lastEnd, partOf, nameOf, count, recordOf, recordsFrom, records, recordBytes, tableBytes, recordIn}
+use Rattle.grammar.proofs.Records.{length-records, length-recordBytes, parent-smaller}
+
+-- ---- symbols
+
+module _ {C : Type 0} (limit : ℕ) where
+  -- the symbols do not lie past a position
+  abbrev pub SymbolsUpTo : List (Symbol C) → Type 0
+  SymbolsUpTo [] = Unit {0}
+  SymbolsUpTo (x ∷ xs) = (x .lexeme .start ≤ limit) × (x .lexeme .end ≤ limit) × SymbolsUpTo xs
+
+  position-up-to : (q : ℕ) → q ≤ limit → (xs : List (Symbol C)) → SymbolsUpTo xs → positionOf q xs ≤ limit
+  position-up-to q h [] u = h
+  position-up-to q h (x ∷ xs) u = u .0
+
+  last-up-to : (q : ℕ) → q ≤ limit → (xs : List (Symbol C)) → SymbolsUpTo xs → lastEnd q xs ≤ limit
+  last-up-to q h [] u = h
+  last-up-to q h (x ∷ xs) u = last-up-to (x .lexeme .end) (u .1) xs (u .2)
+
+-- ---- rows
+
+module _ {C N : Type 0} (limit : ℕ) where
+  -- the symbols of a row do not lie past a position
+  abbrev RowUpTo : Row C N → Type 0
+  RowUpTo nil = Unit {0}
+  RowUpTo (leaf x row) = (x .lexeme .start ≤ limit) × (x .lexeme .end ≤ limit) × RowUpTo row
+  RowUpTo (branch rule parts row) = RowUpTo parts × RowUpTo row
+
+  row-up-to : (row : Row C N) (xs : List (Symbol C)) → SymbolsUpTo limit (yieldThen row xs) → RowUpTo row × SymbolsUpTo limit xs
+  row-up-to nil xs u = (tt, u)
+  row-up-to (leaf x row) xs u = let (a, b) = row-up-to row xs (u .2) in ((u .0, u .1, a), b)
+  row-up-to (branch rule parts row) xs u =
+      let (a, b) = row-up-to parts (yieldThen row xs) u in
+      let (c, d) = row-up-to row xs b in
+      ((a, c), d)
+
+  yield-up-to : (row : Row C N) (xs : List (Symbol C)) → RowUpTo row → SymbolsUpTo limit xs → SymbolsUpTo limit (yieldThen row xs)
+  yield-up-to nil xs r u = u
+  yield-up-to (leaf x row) xs r u = (r .0, r .1, yield-up-to row xs (r .2) u)
+  yield-up-to (branch rule parts row) xs r u = yield-up-to parts (yieldThen row xs) (r .0) (yield-up-to row xs (r .1) u)
+
+  part-up-to : (i : ℕ) (row : Row C N) → RowUpTo row → SymbolsUpTo limit (partOf i row)
+  part-up-to i nil r = tt
+  part-up-to zero (leaf x row) r = (r .0, r .1, tt)
+  part-up-to zero (branch rule parts row) r = yield-up-to parts [] (r .0) tt
+  part-up-to (suc i) (leaf x row) r = part-up-to i row (r .2)
+  part-up-to (suc i) (branch rule parts row) r = part-up-to i row (r .1)
+
+  name-up-to : (o : Option ℕ) (row : Row C N) → RowUpTo row → SymbolsUpTo limit (nameOf o row)
+  name-up-to none row r = tt
+  name-up-to (some i) row r = part-up-to i row r
+
+-- ---- records
+
+-- a record does not lie past a position
+pub record RecordUpTo (limit : ℕ) (r : AddressRecord) : Type 0 where
+  pub start : r .start ≤ limit
+  pub end : r .end ≤ limit
+  pub name-start : r .nameStart ≤ limit
+  pub name-end : r .nameEnd ≤ limit
+
+module _ (limit : ℕ) where
+  -- each of these
+  abbrev pub RecordsUpTo : List AddressRecord → Type 0
+  RecordsUpTo [] = Unit {0}
+  RecordsUpTo (r ∷ rs) = RecordUpTo limit r × RecordsUpTo rs
+
+  up-to-append : (rs ss : List AddressRecord) → RecordsUpTo rs → RecordsUpTo ss → RecordsUpTo (rs ++ ss)
+  up-to-append [] ss a b = b
+  up-to-append (r ∷ rs) ss a b = (a .0, up-to-append rs ss (a .1) b)
+
+  up-to-at : (rs : List AddressRecord) (i : ℕ) (d : AddressRecord) → RecordsUpTo rs → i < length rs → RecordUpTo limit (getD rs i d)
+  up-to-at [] i d a l = absurd (omega arith)
+  up-to-at (r ∷ rs) zero d a l = a .0
+  up-to-at (r ∷ rs) (suc i) d a l = up-to-at rs i d (a .1) (omega arith)
+
+module _ {C N : Type 0} (limit : ℕ) where
+  record-up-to : (makes : Makes) (depth parent : ℕ) (parts : Row C N) → RowUpTo limit parts → RecordUpTo limit (recordOf makes depth parent parts)
+  record-up-to makes depth parent parts r =
+      let xs = yield-up-to limit parts [] r tt in
+      let name = name-up-to limit (makes .name) parts r in
+      let start : positionOf 0 (yield parts) ≤ limit = position-up-to limit 0 (omega arith) (yield parts) xs in
+      record {
+        start = start;
+        end = last-up-to limit (positionOf 0 (yield parts)) start (yield parts) xs;
+        name-start = position-up-to limit (positionOf 0 (yield parts)) start (nameOf (makes .name) parts) name;
+        name-end = last-up-to limit (positionOf 0 (yield parts)) start (nameOf (makes .name) parts) name;
+      }
+
+  branch-up-to : (rule : Rule C N) (parts row : Row C N) (depth parent next : ℕ) → RowUpTo limit parts
+      → ((d p i : ℕ) → RecordsUpTo limit (recordsFrom parts d p i)) → ((d p i : ℕ) → RecordsUpTo limit (recordsFrom row d p i))
+      → RecordsUpTo limit (recordsFrom (branch rule parts row) depth parent next)
+  branch-up-to rule parts row depth parent next r a b = by (rule .makes) refl
+    where
+      by : (o : Option Makes) → rule .makes ≡ o → RecordsUpTo limit (recordsFrom (branch rule parts row) depth parent next)
+      by none e = rw e (up-to-append limit (recordsFrom parts depth parent next) _ (a depth parent next) (b depth parent (next + count parts)))
+      by (some makes) e = rw e (record-up-to makes depth parent parts r, up-to-append limit (recordsFrom parts (suc depth) (suc next) (suc next)) _ (a (suc depth) (suc next) (suc next)) (b depth parent (suc next + count parts)))
+
+  from-up-to : (row : Row C N) (depth parent next : ℕ) → RowUpTo limit row → RecordsUpTo limit (recordsFrom row depth parent next)
+  from-up-to nil depth parent next r = tt
+  from-up-to (leaf x row) depth parent next r = from-up-to row depth parent next (r .2)
+  from-up-to (branch rule parts row) depth parent next r = branch-up-to rule parts row depth parent next (r .0) (λ d p i. from-up-to parts d p i (r .0)) (λ d p i. from-up-to row d p i (r .1))
+
+  -- the records of a derivation of symbols that do not lie past a position
+  pub records-up-to : (row : Row C N) → SymbolsUpTo limit (yield row) → RecordsUpTo limit (records row)
+  records-up-to row u = from-up-to row 0 0 0 (row-up-to limit row [] u .0)
+
+-- ---- read back from a table
+
+-- the bytes of a table of records are joined
+table-joined : (rs : List AddressRecord) → tableBytes rs ≡ joined recordBytes rs
+table-joined [] = refl
+table-joined (r ∷ rs) = ap (λ (bytes : List ℕ). recordBytes r ++ bytes) (table-joined rs)
+
+-- each record of a derivation whose number two bytes hold is read back from a table with room for all
+abbrev pub ReadBack : {C N : Type 0} → Row C N → Type 0
+ReadBack k =
+    (table : List ℕ) → count k * addressRecordSize ≤ length table → (i : ℕ) → i < count k → i < 256 ^ numberWidth
+    → recordIn (sets table 0 (tableBytes (records k))) i ≡ getD (records k) i noRecord
+
+pub read-back : {C N : Type 0} (k : Row C N) (limit : ℕ) → limit < 256 ^ numberWidth → SymbolsUpTo limit (yield k) → ReadBack k
+read-back k limit small u table fits i l h =
+    let n : length (records k) ≡ count k = length-records k in
+    let before : getD (records k) i noRecord .parent ≤ i = parent-smaller k i noRecord (omega arith) in
+    let here = up-to-at limit (records k) i noRecord (records-up-to limit k u) (omega arith) in
+    let byte = record-back addressRecordSize recordBytes length-recordBytes noRecord (records k) table (omega arith) i (omega arith) 1 in
+    let two = number-back addressRecordSize recordBytes length-recordBytes noRecord (records k) table (omega arith) i (omega arith) 2 in
+    let e : i * addressRecordSize + 0 ≡ i * addressRecordSize = omega arith in
+    let at = i * addressRecordSize in
+    let r = getD (records k) i noRecord in
+    let t = sets table 0 (joined recordBytes (records k)) in
+    let kind : numberAt 1 t at ≡ r .kind = ap (numberFrom 0) (rw e at (byte 0 (omega arith))) ∙ omega arith in
+    let depth : numberAt 1 t (at + 1) ≡ r .depth = ap (numberFrom 0) (byte 1 (omega arith)) ∙ omega arith in
+    let parent : numberAt 2 t (at + 2) ≡ r .parent = two 2 _ (omega arith) refl (omega arith) in
+    let from : numberAt 2 t (at + 4) ≡ r .start = two 4 _ (omega arith) refl (omega (arith, here .start)) in
+    let to : numberAt 2 t (at + 6) ≡ r .end = two 6 _ (omega arith) refl (omega (arith, here .end)) in
+    let name-from : numberAt 2 t (at + 8) ≡ r .nameStart = two 8 _ (omega arith) refl (omega (arith, here .name-start)) in
+    let name-to : numberAt 2 t (at + 10) ≡ r .nameEnd = two 10 _ (omega arith) refl (omega (arith, here .name-end)) in
+    rw (table-joined (records k), kind, depth, parent, from, to, name-from, name-to)
