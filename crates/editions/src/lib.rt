@@ -210,35 +210,30 @@ fn step(
     requires { ⌜ Fine w × (w .free ≤ messageLimit) × (now places ≡ placeTable) ⌝ }
     ensures { λ r. ⌜ StepIs w class start end (now (table .entry)) (now (table .exit)) r ⌝ }
 {
-    let place = next_place(places, w.place, class);
+    let to = next_place(places, w.place, class);
     let name = w.name;
-    match effect_at(places, place) {
-        0 => Stepped::On(holding(w, place, w.group, w.angle, w.free)),
-        1 => Stepped::On(named(w, place, start, end)),
-        2 => Stepped::On(named(w, place, name.start, end)),
+    match effect_at(places, to) {
+        0 => Stepped::On(holding(w, to, w.group, w.angle, w.free)),
+        1 => Stepped::On(named(w, to, start, end)),
+        2 => Stepped::On(named(w, to, name.start, end)),
         3 => {
             begin(table, w.free, MAILBOX, w.group, w.angle, name, end);
-            Stepped::On(holding(w, place, w.group, w.angle, w.free + 1))
+            Stepped::On(holding(w, to, w.group, w.angle, w.free + 1))
         }
-        4 => close(
-            table,
-            w.free,
-            end,
-            holding(w, place, w.group, w.angle, w.free),
-        ),
+        4 => close(table, w.free, end, holding(w, to, w.group, w.angle, w.free)),
         5 => {
             begin(table, w.free, ANGLE_ADDRESS, w.group, w.angle, name, end);
-            Stepped::On(holding(w, place, w.group, w.free + 1, w.free + 1))
+            Stepped::On(holding(w, to, w.group, w.free + 1, w.free + 1))
         }
-        6 => close(table, w.angle, end, holding(w, place, w.group, 0, w.free)),
+        6 => close(table, w.angle, end, holding(w, to, w.group, 0, w.free)),
         7 => {
             if w.group != 0 {
                 return Stepped::Off;
             }
             begin(table, w.free, GROUP, w.group, w.angle, name, end);
-            Stepped::On(holding(w, place, w.free + 1, w.angle, w.free + 1))
+            Stepped::On(holding(w, to, w.free + 1, w.angle, w.free + 1))
         }
-        8 => close(table, w.group, end, holding(w, place, 0, w.angle, w.free)),
+        8 => close(table, w.group, end, holding(w, to, 0, w.angle, w.free)),
         _ => Stepped::Off,
     }
 }
