@@ -3,6 +3,7 @@
 and those of the change requests."""
 import ctypes
 import pathlib
+import re
 import subprocess
 import sys
 import tempfile
@@ -31,6 +32,12 @@ def refused(name, call, number, place):
         got = (fault.number, fault.place)
     same(name, got, (number, place))
 
+
+# what is exported: the functions of the header and no other, so that no step between crates can be called from outside
+declared = sorted(set(re.findall(r"\b(rfc733_\w+)\(", (root / "include" / "rfc733.h").read_text())))
+for library, dynamic in (("librfc733.so", ["-D"]), ("librfc733.a", [])):
+    exported = subprocess.run(["nm", *dynamic, "-g", "--defined-only", root / "target" / "lib" / library], capture_output=True, text=True)
+    same(f"{library}, what is exported", sorted(re.findall(r"^[0-9a-f]+ \w (\w+)$", exported.stdout, re.MULTILINE)), declared)
 
 for read in (rfc733.addresses, rfc733.addresses_by_table):
     by = read.__name__

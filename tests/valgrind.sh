@@ -5,7 +5,7 @@ set -u
 cd "$(dirname "$0")/.." || exit 2
 if ! command -v valgrind >/dev/null 2>&1; then
     echo "skipped: valgrind is not installed"
-    exit 0
+    exit 77 # not counted by the gate
 fi
 ./build-library >/dev/null 2>&1 || { echo "build-library failed"; exit 1; }
 

@@ -1,28 +1,26 @@
 -- Addresses without a list of their own: a mailbox, and one quoted-string alone. Assumes nothing.
 use mathlib.Core.Path.{_≡_, refl, sym, ap, _∙_}
 use mathlib.Core.Logic.{_⊎_, inl, inr}
-use mathlib.Core.Bool.{Bool, true, false, true≢false}
+use mathlib.Core.Bool.{true, false, true≢false}
 use mathlib.Core.List.{List, [], _∷_}
-use mathlib.Core.Option.{Option, none, some}
-use Prim.Native.Nat.{ℕ, suc, _+_, _*_, _-_, _≤_, _<_}
+use mathlib.Core.Option.{none}
+use Prim.Native.Nat.{ℕ, _+_, _*_, _-_}
 use native.Mathlib.Omega.{arith}
 use lib.ListN.{length}
 use lib.Seq.{sets}
-use Rattle.octets.specs.Numbers.{noListGoesOn, endsTooSoon}
+use Rattle.octets.specs.Numbers.{noListGoesOn}
 use Rattle.scanner.specs.declared.Next.{Next}
 use Rattle.scanner.specs.declared.Next.the-variants.{Found, Ended, Fault}
-use Rattle.grammar.specs.Language.{Refusal, unfit, unfinished, tooDeep, refused, number, positionOf}
-use Rattle.grammar.specs.Records.{recordBy, recordBytes, tableBytes}
-use Rattle.grammar.proofs.Trees.{Class, Atom, Quoted, At, LessThan, GreaterThan, Comma, Semicolon, Colon, Stray, Dot, Literal, Lexeme, Sym, of, Word, atomWord, quotedWord, Phrase, one, more, Address, mailbox, quoted, phraseThen, nodesThen, atomColon}
+use Rattle.grammar.specs.Language.{unfit, unfinished, refused, number}
+use Rattle.grammar.specs.Records.{recordBy, recordBytes}
+use Rattle.grammar.proofs.Trees.{Class, Atom, Quoted, At, LessThan, GreaterThan, Comma, Semicolon, Colon, Stray, Dot, Literal, Lexeme, Sym, of, atomWord, quotedWord, Phrase, one, more, mailbox, quoted, phraseThen}
 use Rattle.addresses.proofs.ClassCases.{BeginsNone}
-use Rattle.grammar.proofs.AddressMachine.{Here, inList, inTyped, phrase, firstAt, lone, levelsHere, fresh, run, judge, Spot}
-use Rattle.grammar.proofs.Complete.{begin, Clear, run-phrase, run-mailbox}
+use Rattle.grammar.specs.Executable.Machine733.{Here, phrase, firstAt, lone, levelsHere, run, judge}
+use Rattle.grammar.proofs.Complete.{begin, run-phrase, run-mailbox}
 use Rattle.grammar.proofs.Readers.{AddressEnds, endsAddress, at-unfit}
-use Rattle.grammar.proofs.TreeRecords.{phraseStart, phraseEnd, nodesEnd}
-use Rattle.addresses.specs.Steps.{endsAddressNext, refusedNext, loneQuoted, symbolsFrom, lexemeAt, symbolAt, symbolsAhead, Standing, Ahead, NodesEnd, Stops, NodesContext, NodesIs, AddressRead, AddressStops, AddressIs, Ready, Opened, Named, NoMark, followsPhrase, Lone}
+use Rattle.addresses.specs.Steps.{endsAddressNext, refusedNext, loneQuoted, symbolsFrom, lexemeAt, symbolsAhead, Ahead, NodesEnd, Stops, NodesContext, AddressRead, AddressStops, AddressIs, Opened, Named, NoMark, followsPhrase, Lone}
 use Rattle.addresses.specs.declared.Frame.{Frame}
 use Rattle.grammar.specs.declared.Span.{Span}
-use Rattle.addresses.specs.declared.Reading.the-variants.{Read, Refused}
 
 -- what ends an address, of what comes next
 pub ends-next : (classes text : List ℕ) (low : ℕ) (ahead : Next) → Ahead classes text low ahead → endsAddressNext ahead ≡ true → AddressEnds (symbolsAhead classes text ahead)

@@ -6,7 +6,8 @@ use native.Mathlib.Omega.{arith}
 use borrow.Author.Tests.{lt-ltb, le-ltb}
 use lib.ListN.{length, take}
 use lib.Seq.{sets, length-take-le}
-use Rattle.octets.specs.Numbers.{messageLimit, levelLimit, addressRecordSize}
+use Rattle.octets.specs.Numbers.{messageLimit, levelLimit, addressRecordSize, accepted as number-accepted, tooLittleRoom}
+use Rattle.octets.specs.Answers.{telling}
 use Rattle.octets.specs.Stored.{roomFor}
 use Rattle.octets.specs.declared.answers.Answer.{Answer}
 use Rattle.octets.specs.declared.answers.Answer.the-variants.{Accepted, Refused, NoRoom}
@@ -18,9 +19,11 @@ use Rattle.scanner.proofs.BodyChecks.{in-order, unless-none}
 use Rattle.grammar.specs.Grammar.{Row}
 use Rattle.grammar.specs.Language.{Verdict, accepted, refused}
 use Rattle.grammar.specs.Records.{count, records, tableBytes}
-use Rattle.grammar.proofs.AnyReader.{Reads, answer-accepts, answer-derives}
+use Rattle.grammar.specs.Executable.{Decides}
+use Rattle.grammar.proofs.AnyReader.{answer-accepts, answer-derives}
 use Rattle.addresses.specs.Editions.{Edition}
-use Rattle.addresses.specs.Outcome.{Outcome, refusal, derived, byVerdict, decided, symbolsIn, readIn, outcomeIn}
+use Rattle.octets.proofs.AnswerLaws.{answered}
+use Rattle.addresses.specs.Outcome.{Outcome, AnsweredBy, refusal, derived, byVerdict, decided, symbolsIn, readIn, outcomeIn}
 use Rattle.addresses.specs.Condition3.{IsListIn, Settled, Condition3In}
 use Rattle.addresses.specs.Whole.{IsListed, IsRefused, TwiceIs, TextIs}
 
@@ -58,45 +61,46 @@ module _ {N : Type 0} (edition : Edition N) (verdict : List (Symbol Class) → V
 
   -- what the text holds is the outcome
   pub text-outcome : {table after : List ℕ} {r : Answer} → TextIs (λ xs. verdict (edition .taken xs)) (edition .classes) (take end message) start table after r
-      → (r ≡ outcomeIn edition verdict message start end table .answer) × (after ≡ outcomeIn edition verdict message start end table .table)
+      → AnsweredBy (outcomeIn edition verdict message start end table) r after
   text-outcome {table} x =
       let text = take end message in
       let z = verdict (symbolsIn edition message start end) in
       let e : unlessFault (refusal table) (scanBy (edition .classes) text start) (decided (length text) table z) ≡ outcomeIn edition verdict message start end table =
       ap (λ (n : ℕ). unlessFault (refusal table) (scanBy (edition .classes) text start) (decided n table z)) (length-take-le end message inside) ∙ sym (in-order (refusal table) message start end _ short ordered inside) in
-      (x .answer-is ∙ ap (λ (o : Outcome). o .answer) e, x .table-is ∙ ap (λ (o : Outcome). o .table) e)
+      answered (x .answer-is ∙ ap (λ (o : Outcome). o .answer) e) (x .table-is ∙ ap (λ (o : Outcome). o .table) e)
 
 -- ---- condition 3
 
-module _ {N : Type 0} (edition : Edition N) (least : ℕ) (answer : ℕ → List (Symbol Class) → Verdict Class (Row Class N)) (reads : Reads (edition .grammar) (edition .list) least answer) (below : least ≤ levelLimit) where
+module _ {N : Type 0} (edition : Edition N) (least : ℕ) (answer : ℕ → List (Symbol Class) → Verdict Class (Row Class N)) (decides : Decides (edition .grammar) (edition .list) least answer) (below : least ≤ levelLimit) where
   module _ (symbols : List (Symbol Class)) (end : ℕ) (table : List ℕ) where
     by-verdict : (v : Verdict Class (Row Class N)) → answer levelLimit symbols ≡ v → Settled edition symbols end table (decided end table v .answer) (decided end table v .table)
     by-verdict (accepted k) e =
         record {
-          with-room = λ k′ d h. let q = same k′ d in (rw (le-ltb (roomFor addressRecordSize table) (count k) (rw q h)) (ap (λ z. Accepted (count z)) q), rw (le-ltb (roomFor addressRecordSize table) (count k) (rw q h)) (ap (λ z. sets table 0 (tableBytes (records z))) q));
-          without-room = λ k′ d h. let q = same k′ d in (rw (lt-ltb (roomFor addressRecordSize table) (count k) (rw q h)) (ap (λ z. NoRoom (count z)) q), rw (lt-ltb (roomFor addressRecordSize table) (count k) (rw q h)));
-          no-list = λ f. let d = answer-derives (edition .grammar) (edition .list) least answer reads levelLimit below {xs = symbols} e in absurd (f k (record { derived = d .0; within = d .1 }));
+          one = λ j j′ d d′. decides .one j j′ symbols d d′;
+          with-room = λ k′ d h. let q = same k′ d in (rw (le-ltb (roomFor addressRecordSize table) (count k) (rw q h)) (ap (λ z. telling number-accepted 0 (count z)) q), rw (le-ltb (roomFor addressRecordSize table) (count k) (rw q h)) (ap (λ z. sets table 0 (tableBytes (records z))) q));
+          without-room = λ k′ d h. let q = same k′ d in (rw (lt-ltb (roomFor addressRecordSize table) (count k) (rw q h)) (ap (λ z. telling tooLittleRoom 0 (count z)) q), rw (lt-ltb (roomFor addressRecordSize table) (count k) (rw q h)));
+          no-list = λ f. let d = answer-derives (edition .grammar) (edition .list) least answer decides levelLimit below {xs = symbols} e in absurd (f k (record { derived = d .0; within = d .1 }));
         }
       where
         same : (k′ : Row Class N) → IsListIn edition symbols k′ → k ≡ k′
-        same k′ d = let f : accepted k ≡ accepted k′ = sym e ∙ answer-accepts (edition .grammar) (edition .list) least answer reads levelLimit below (d .derived) (d .within) in cc
+        same k′ d = let f : accepted k ≡ accepted k′ = sym e ∙ answer-accepts (edition .grammar) (edition .list) least answer decides levelLimit below (d .derived) (d .within) in cc
     by-verdict (refused why rest) e =
         record {
+          one = λ j j′ d d′. decides .one j j′ symbols d d′;
           with-room = λ k d h. absurd (never k d);
           without-room = λ k d h. absurd (never k d);
-          no-list = λ f. (record { why = why; rest = rest; right = rw e at (reads .right levelLimit below symbols); answer = refl }, refl);
+          no-list = λ f. (record { why = why; rest = rest; right = rw e at (decides .right levelLimit below symbols); tells = refl }, refl);
         }
       where
         never : (k : Row Class N) → IsListIn edition symbols k → ⊥
         never k d =
-            let f : refused why rest ≡ accepted k = sym e ∙ answer-accepts (edition .grammar) (edition .list) least answer reads levelLimit below (d .derived) (d .within) in
+            let f : refused why rest ≡ accepted k = sym e ∙ answer-accepts (edition .grammar) (edition .list) least answer decides levelLimit below (d .derived) (d .within) in
             let z : _≡_ {A = ℕ} 0 1 = cc in
             omega arith
 
   -- what the outcome says, condition 3 says
   pub settles : (message : List ℕ) (start end : ℕ) (table : List ℕ) (r : Answer) (after : List ℕ)
-      → r ≡ outcomeIn edition (answer levelLimit) message start end table .answer → after ≡ outcomeIn edition (answer levelLimit) message start end table .table
-      → Condition3In edition message start end table r after
-  settles message start end table r after e f h k l n =
-      rw (e, f, verdict-decides edition (answer levelLimit) message start end h k l n (refusal table) (derived table))
+      → AnsweredBy (outcomeIn edition (answer levelLimit) message start end table) r after → Condition3In edition message start end table r after
+  settles message start end table r after a h k l n =
+      rw (a .answer-is, a .bytes-are, verdict-decides edition (answer levelLimit) message start end h k l n (refusal table) (derived table))
       (by-verdict (symbolsIn edition message start end) end table (answer levelLimit (symbolsIn edition message start end)) refl)

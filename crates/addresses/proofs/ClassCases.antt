@@ -7,7 +7,8 @@ use lib.Dec.{T, lit<}
 use mir.Val.{hasKey}
 use types.Run.{OneOf, miss}
 use denote.Enum.Declared.{tagOf}
-use Rattle.octets.proofs.Tables.{every, at}
+use Rattle.octets.proofs.Tables.{at}
+use Rattle.octets.specs.Tests.{every}
 use Rattle.scanner.proofs.Class as class-declared
 use Rattle.scanner.proofs.Next as next-declared
 use Rattle.scanner.specs.declared.Next.{Next}

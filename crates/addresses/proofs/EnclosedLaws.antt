@@ -1,33 +1,31 @@
 -- Addresses that hold a list or an address: angle lists, groups and typed addresses. Assumes nothing.
 use mathlib.Core.Path.{_≡_, refl, sym, ap, _∙_}
-use mathlib.Core.Bool.{Bool, true, false, true≢false}
-use mathlib.Core.List.{List, [], _∷_, _++_}
+use mathlib.Core.Bool.{true, false, true≢false}
+use mathlib.Core.List.{List, [], _∷_}
 use mathlib.Core.Option.{Option, none, some}
 use Prim.Native.Nat.{ℕ, suc, _+_, _*_, _-_, _≤_, _<_}
 use native.Mathlib.Omega.{arith}
 use lib.ListN.{length}
 use lib.Seq.{sets}
-use Rattle.octets.specs.Numbers.{noListGoesOn, endsTooSoon, tooManyLevels}
+use Rattle.octets.specs.Numbers.{tooManyLevels}
 use Rattle.octets.specs.Text.{part}
 use Rattle.scanner.specs.declared.Next.{Next}
 use Rattle.scanner.specs.declared.Next.the-variants.{Found, Ended, Fault}
-use Rattle.grammar.specs.Language.{Refusal, unfit, unfinished, tooDeep, refused, number, positionOf}
+use Rattle.grammar.specs.Language.{unfit, unfinished, tooDeep, refused, number}
 use Rattle.grammar.specs.Records.{AddressRecord, recordBy, recordBytes, tableBytes}
 use Rattle.grammar.specs.Rfc733.{sameClass, kindNumber, typedKind}
 use Rattle.grammar.proofs.HouseRule.{same-class}
-use Rattle.grammar.proofs.Trees.{Class, Atom, Quoted, At, LessThan, GreaterThan, Comma, Semicolon, Colon, Stray, Dot, Literal, Lexeme, Sym, of, Phrase, AddressList, empty, idle, Address, angle, group, typed, nameThen, atomColon}
-use Rattle.grammar.proofs.AnyMachine.{stopped}
-use Rattle.grammar.proofs.AddressMachine.{Here, inTyped, Level, inAngle, inGroup, list, want, asList, close, levelsHere, levelsAt, nameless, fresh, run, judge}
+use Rattle.grammar.proofs.Trees.{Class, Atom, Quoted, At, LessThan, GreaterThan, Comma, Semicolon, Colon, Stray, Dot, Literal, Lexeme, Sym, of, Phrase, AddressList, empty, idle, angle, group, typed, nameThen, atomColon}
+use Rattle.grammar.specs.Executable.Machine733.{Here, inTyped, inAngle, inGroup, list, want, levelsHere, levelsAt, nameless, fresh, run, judge}
 use Rattle.grammar.proofs.Complete.{begin, doneAddress, doneList, Clear, complete-doneList, run-angle, run-group}
-use Rattle.grammar.proofs.Readers.{AddressEnds, ListEnds, endsAddress, deep-angle, deep-group, closed-unfit, clear-colon, run-typed}
-use Rattle.grammar.proofs.TreeRecords.{nameStart, nameEnd, addressEnd, addressRecord, insideRecords, addressRecords, listRecords}
+use Rattle.grammar.proofs.Readers.{ListEnds, endsAddress, deep-angle, deep-group, closed-unfit, clear-colon, run-typed}
+use Rattle.grammar.proofs.TreeRecords.{nameStart, nameEnd, addressEnd, addressRecords, listRecords}
 use Rattle.grammar.proofs.RecordLaws.{stored-around}
-use Rattle.addresses.specs.Steps.{endsAddressNext, refusedNext, opening, closing, enclosureKind, levelIn, enclosed, House, symbolsFrom, lexemeAt, symbolAt, symbolsAhead, Faultless, Standing, Ahead, Stops, AddressRead, AddressStops, AddressIs, Ready, Opening, Opened, ListRead, ListStops, inner, TypedFollows, ColonFirst, TypedFirst}
+use Rattle.addresses.specs.Steps.{endsAddressNext, refusedNext, opening, closing, enclosureKind, levelIn, enclosed, House, symbolsFrom, lexemeAt, symbolAt, symbolsAhead, Standing, AddressRead, AddressStops, AddressIs, Opening, Opened, ListRead, ListStops, inner, TypedFirst}
 use Rattle.addresses.specs.declared.Frame.{Frame}
 use Rattle.grammar.specs.declared.Span.{Span}
 use Rattle.addresses.specs.declared.Enclosure.{Enclosure}
 use Rattle.addresses.specs.declared.Enclosure.the-variants.{Angle, Group}
-use Rattle.addresses.specs.declared.Reading.the-variants.{Read, Refused}
 use types.Run.{OneOf, miss}
 use denote.Enum.Declared.{tagOf}
 use Rattle.scanner.proofs.Next as next-declared

@@ -1,6 +1,6 @@
 -- What is answered for any message and positions, in any edition and whatever is written of a list: a refusal, or what is written of its one
 -- derivation. Assumes nothing.
-use mathlib.Core.Path.{_≡_, refl, ap, _∙_}
+use mathlib.Core.Path.{_≡_, refl, sym, ap, _∙_}
 use mathlib.Core.List.{List}
 use Prim.Native.Nat.{ℕ, _≤_}
 use native.Mathlib.Omega.{arith}
@@ -11,12 +11,13 @@ use Rattle.scanner.specs.Symbols.{Symbol}
 use Rattle.scanner.specs.Scanning.{scanBy, scan}
 use Rattle.scanner.specs.Answers.{faultOf, bodyScanned}
 use Rattle.scanner.specs.declared.Class.{Class}
-use Rattle.scanner.proofs.BodyChecks.{in-order, unless-refused, CleanBy, refused-body, clean-body, body-case-by, when-refused-by, Clean, body-case}
-use Rattle.grammar.specs.Grammar.{Row}
-use Rattle.grammar.specs.Language.{Refusal, Verdict, accepted, refused, number, positionOf}
+use Rattle.scanner.proofs.BodyChecks.{in-order, unless-refused, CleanBy, refused-body, clean-body, body-case-by, when-refused-by, Clean, body-case, when-refused}
+use Rattle.grammar.specs.Grammar.{Row, Derived, levels}
+use Rattle.grammar.specs.Language.{Refusal, Verdict, accepted, refused, number, positionOf, Right}
 use Rattle.grammar.specs.Rfc733.{Derivation}
-use Rattle.grammar.proofs.AnyReader.{Reads, answer-accepts, answer-derives}
-use Rattle.grammar.proofs.Condition3.{answer, reads}
+use Rattle.grammar.specs.Executable.{Decides}
+use Rattle.grammar.proofs.AnyReader.{answer-accepts, answer-derives}
+use Rattle.grammar.proofs.Condition3.{answer, decides}
 use Rattle.addresses.specs.Editions.{Edition, edition733}
 use Rattle.addresses.specs.Outcome.{byVerdict, symbolsIn, readIn, bodySymbols, readWithin, bodyRead}
 use Rattle.addresses.specs.Condition3.{IsListIn, IsList}
@@ -45,7 +46,7 @@ pub data JudgedIn {N : Type 0} (edition : Edition N) (verdict : List (Symbol Cla
 pub list-body-in : {N : Type 0} (edition : Edition N) {message : List ℕ} {start end : ℕ} {k : Row Class N} → CleanBy (edition .classes) message start end → IsListIn edition (symbolsIn edition message start end) k → ListBodyIn edition message start end k
 list-body-in edition x l = record { short = x .short; ordered = x .ordered; inside = x .inside; faultless = x .faultless; list = l }
 
-module _ {N : Type 0} (edition : Edition N) (least : ℕ) (answerOf : ℕ → List (Symbol Class) → Verdict Class (Row Class N)) (right : Reads (edition .grammar) (edition .list) least answerOf) (below : least ≤ levelLimit) where
+module _ {N : Type 0} (edition : Edition N) (least : ℕ) (answerOf : ℕ → List (Symbol Class) → Verdict Class (Row Class N)) (right : Decides (edition .grammar) (edition .list) least answerOf) (below : least ≤ levelLimit) where
   -- of a list it is answered what is to be answered of its derivation
   pub listed-read-in : {message : List ℕ} {start end : ℕ} {k : Row Class N} → ListBodyIn edition message start end k
       → {A : Type 0} (refuse : ℕ → ℕ → A) (derive : Row Class N → A) → readIn edition (answerOf levelLimit) refuse derive message start end ≡ derive k
@@ -68,6 +69,30 @@ module _ {N : Type 0} (edition : Edition N) (least : ℕ) (answerOf : ℕ → Li
           | refused-body n p e ↦ refusedAt n p (λ A refuse derive. when-refused-by (edition .classes) message start end refuse _ e)
           | clean-body x ↦ by-verdict x _ refl
         ]
+
+-- a body that is refused as condition 3 has it, whatever is answered of it
+pub record RightlyRead {N : Type 0} (edition : Edition N) (verdict : List (Symbol Class) → Verdict Class (Row Class N)) (message : List ℕ) (start end : ℕ) : Type 1 where
+  pub why : Refusal
+  pub rest : List (Symbol Class)
+  pub right : Right (Derived (edition .grammar) (edition .list)) levels levelLimit (symbolsIn edition message start end) (refused why rest)
+  pub reads : RefusedIn edition verdict message start end (number why) (positionOf end rest)
+
+module _ {N : Type 0} (edition : Edition N) (least : ℕ) (answerOf : ℕ → List (Symbol Class) → Verdict Class (Row Class N)) (right : Decides (edition .grammar) (edition .list) least answerOf) (below : least ≤ levelLimit) (message : List ℕ) (start end : ℕ) (x : CleanBy (edition .classes) message start end) (none : (k : Row Class N) → IsListIn edition (symbolsIn edition message start end) k → ⊥) where
+  unlisted-by : (v : Verdict Class (Row Class N)) → answerOf levelLimit (symbolsIn edition message start end) ≡ v → RightlyRead edition (answerOf levelLimit) message start end
+  unlisted-by (accepted k) e =
+      let d = answer-derives (edition .grammar) (edition .list) least answerOf right levelLimit below {xs = symbolsIn edition message start end} e in
+      absurd (none k (record { derived = d .0; within = d .1 }))
+  unlisted-by (refused why rest) e =
+      record {
+        why = why;
+        rest = rest;
+        right = rw e at (right .right levelLimit below (symbolsIn edition message start end));
+        reads = λ A refuse derive. verdict-decides edition (answerOf levelLimit) message start end (x .short) (x .ordered) (x .inside) (x .faultless) refuse derive ∙ ap (byVerdict refuse derive end) e;
+      }
+
+  -- a clean body that is no list
+  pub unlisted-in : RightlyRead edition (answerOf levelLimit) message start end
+  unlisted-in = unlisted-by _ refl
 
 -- ---- in RFC 733
 
@@ -95,7 +120,7 @@ module _ (message : List ℕ) (start end : ℕ) (short : length message ≤ mess
   refused-read f e A refuse derive = decided-read levelLimit f e refuse derive
 
 pub listed-read : {message : List ℕ} {start end : ℕ} {k : Derivation} → ListBody message start end k → {A : Type 0} (refuse : ℕ → ℕ → A) (derive : Derivation → A) → bodyRead refuse derive message start end ≡ derive k
-listed-read b refuse derive = listed-read-in edition733 0 answer reads (omega arith) b refuse derive
+listed-read b refuse derive = listed-read-in edition733 0 answer decides (omega arith) b refuse derive
 
 -- a refusal is no acceptance
 never : {n p m : ℕ} → Refused n p ≡ Accepted m → ⊥
@@ -106,11 +131,20 @@ module _ (message : List ℕ) (start end : ℕ) where
   list-body x l = list-body-in edition733 x l
 
   pub judged : Judged message start end
-  judged = judged-in edition733 0 answer reads (omega arith) message start end
+  judged = judged-in edition733 0 answer decides (omega arith) message start end
 
   -- a body that passes the checks and scans without fault
   pub scanned-body : bodyScanned message start end ≡ Accepted 0 → {k : Derivation} → IsList (bodySymbols message start end) k → ListBody message start end k
   scanned-body e l = elim (body-case message start end) [ refused-body n p f ↦ absurd (never (f ∙ e)) | clean-body x ↦ list-body x l ]
+
+  -- .. that is no list
+  pub scanned-unlisted : bodyScanned message start end ≡ Accepted 0 → ((k : Derivation) → IsList (bodySymbols message start end) k → ⊥) → RightlyRead edition733 (answer levelLimit) message start end
+  scanned-unlisted e n =
+      elim (body-case message start end) [ refused-body m p f ↦ absurd (never (f ∙ e)) | clean-body x ↦ unlisted-in edition733 0 answer decides (omega arith) message start end x n ]
+
+  -- a body that fails the checks, or has a fault
+  pub unscanned : {n p : ℕ} → bodyScanned message start end ≡ Refused n p → RefusedBody message start end n p
+  unscanned e A refuse derive = when-refused message start end refuse _ (sym e)
 
   pub list-scanned : {k : Derivation} → ListBody message start end k → bodyScanned message start end ≡ Accepted 0
   list-scanned b = in-order Refused message start end _ (b .short) (b .ordered) (b .inside) ∙ b .faultless

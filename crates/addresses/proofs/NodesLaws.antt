@@ -7,14 +7,14 @@ use native.Mathlib.Omega.{arith}
 use lib.ListN.{length}
 use Rattle.octets.specs.Numbers.{noListGoesOn, endsTooSoon}
 use Rattle.scanner.specs.declared.Next.{Next}
-use Rattle.scanner.specs.declared.Next.the-variants.{Found, Ended, Fault}
-use Rattle.grammar.specs.Language.{Refusal, unfit, unfinished, refused, number, positionOf}
+use Rattle.scanner.specs.declared.Next.the-variants.{Found}
+use Rattle.grammar.specs.Language.{unfit, unfinished, refused}
 use Rattle.grammar.proofs.Trees.{Class, Atom, Quoted, At, LessThan, GreaterThan, Comma, Semicolon, Colon, Stray, Dot, Literal, Lexeme, Sym, of, Word, Phrase, Nodes, first, next, wordSymbol, nodesThen}
-use Rattle.grammar.proofs.AddressMachine.{Here, State, firstAt, nextAt, node, run, judge}
+use Rattle.grammar.specs.Executable.Machine733.{Here, State, firstAt, nextAt, node, run, judge}
 use Rattle.grammar.proofs.Complete.{run-word}
-use Rattle.grammar.proofs.Readers.{AddressEnds, endsAddress}
+use Rattle.grammar.proofs.Readers.{AddressEnds}
 use Rattle.grammar.proofs.TreeRecords.{wordLexeme, nodesEnd}
-use Rattle.addresses.specs.Steps.{isWord, symbolsFrom, lexemeAt, symbolAt, symbolsAhead, Faultless, Standing, Ahead, NodesEnd, Stops, NodesContext, NodesIs}
+use Rattle.addresses.specs.Steps.{isWord, symbolsFrom, lexemeAt, symbolAt, symbolsAhead, Faultless, Standing, NodesEnd, Stops, NodesContext}
 use Rattle.addresses.proofs.NextLaws.{NextIs}
 use Rattle.addresses.proofs.PhraseLaws.{wordOf, word-symbol, word-lexeme}
 

@@ -10,19 +10,20 @@ use lib.Seq.{sets}
 use Rattle.octets.specs.Classes.{classTable}
 use Rattle.octets.specs.Numbers.{messageLimit, levelLimit, noListGoesOn}
 use Rattle.octets.specs.declared.answers.Answer.{Answer}
+use Rattle.octets.proofs.AnswerLaws.{answered}
 use Rattle.scanner.specs.declared.Next.{Next}
 use Rattle.scanner.specs.declared.Next.the-variants.{Found}
 use Rattle.grammar.specs.Language.{unfit, accepted, refused}
 use Rattle.grammar.specs.Records.{count, tableBytes}
-use Rattle.grammar.proofs.Condition3.{asRows, answer, reads}
+use Rattle.grammar.proofs.Condition3.{asRows, answer, decides}
 use Rattle.grammar.proofs.Rows.{asRow}
 use Rattle.grammar.proofs.Trees.{Class, Atom, Quoted, At, LessThan, GreaterThan, Comma, Semicolon, Colon, Stray, Dot, Literal, Lexeme, Sym, of, AddressList}
-use Rattle.grammar.proofs.AddressMachine.{top, run, judge}
+use Rattle.grammar.specs.Executable.Machine733.{top, run, judge}
 use Rattle.grammar.proofs.Complete.{doneList, complete-doneList}
 use Rattle.grammar.proofs.Readers.{ListEnds}
 use Rattle.grammar.proofs.TreeRecords.{tree-records, tree-count}
 use Rattle.addresses.specs.Editions.{edition733}
-use Rattle.addresses.specs.Outcome.{Outcome, outcome}
+use Rattle.addresses.specs.Outcome.{Outcome, AnsweredBy, outcome}
 use Rattle.addresses.specs.Condition3.{Condition3}
 use Rattle.addresses.specs.Steps.{symbolsFrom, symbolsAhead, lexemeAt, ListRead, ListStops}
 use Rattle.addresses.specs.Whole.{IsListed, IsRefused, TextIs}
@@ -82,23 +83,20 @@ module _ (classes text : List ℕ) where
 -- ---- condition 3
 
 -- what the outcome says, condition 3 says
-pub settles : (message : List ℕ) (start end : ℕ) (table : List ℕ) (r : Answer) (after : List ℕ) → r ≡ outcome message start end table .answer → after ≡ outcome message start end table .table
-    → Condition3 message start end table r after
-settles message start end table r after e f = any.settles edition733 0 answer reads (omega arith) message start end table r after e f
+pub settles : (message : List ℕ) (start end : ℕ) (table : List ℕ) (r : Answer) (after : List ℕ) → AnsweredBy (outcome message start end table) r after → Condition3 message start end table r after
+settles message start end table r after a = any.settles edition733 0 answer decides (omega arith) message start end table r after a
 
 -- the two promises of the entry point
 abbrev pub Promised : List ℕ → ℕ → ℕ → List ℕ → Answer → List ℕ → Type 0
-Promised message start end table r after =
-    ((r ≡ outcome message start end table .answer) × (after ≡ outcome message start end table .table)) × Condition3 message start end table r after
+Promised message start end table r after = AnsweredBy (outcome message start end table) r after × Condition3 message start end table r after
 
 pub promised : (message : List ℕ) (start end : ℕ) (table : List ℕ) (o : Outcome) → outcome message start end table ≡ o → Promised message start end table (o .answer) (o .table)
 promised message start end table o e =
-    let p : o .answer ≡ outcome message start end table .answer = ap (λ (z : Outcome). z .answer) (sym e) in
-    let q : o .table ≡ outcome message start end table .table = ap (λ (z : Outcome). z .table) (sym e) in
-    ((p, q), settles message start end table (o .answer) (o .table) p q)
+    let a : AnsweredBy (outcome message start end table) (o .answer) (o .table) = answered (ap (λ (z : Outcome). z .answer) (sym e)) (ap (λ (z : Outcome). z .table) (sym e)) in
+    (a, settles message start end table (o .answer) (o .table) a)
 
 pub text-promised : (message : List ℕ) (start end : ℕ) (table after : List ℕ) (r : Answer) → length message ≤ messageLimit → start ≤ end → end ≤ length message
     → TextIs (answer levelLimit) classTable (take end message) start table after r → Promised message start end table r after
 text-promised message start end table after r h k l x =
     let o = any.text-outcome edition733 (answer levelLimit) message start end h k l x in
-    (o, settles message start end table r after (o .0) (o .1))
+    (o, settles message start end table r after o)

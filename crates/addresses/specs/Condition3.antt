@@ -4,10 +4,11 @@ use mathlib.Core.Path.{_≡_}
 use mathlib.Core.List.{List}
 use lib.ListN.{length, take}
 use lib.Seq.{sets}
-use Rattle.octets.specs.Numbers.{messageLimit, levelLimit, addressRecordSize}
+use Rattle.octets.specs.Numbers.{messageLimit, levelLimit, addressRecordSize, accepted, tooLittleRoom}
+use Rattle.octets.specs.Answers.{telling, told}
 use Rattle.octets.specs.Stored.{roomFor}
 use Rattle.octets.specs.declared.answers.Answer.{Answer}
-use Rattle.octets.specs.declared.answers.Answer.the-variants.{Accepted, Refused, NoRoom}
+use Rattle.octets.specs.declared.answers.Answer.the-variants.{Accepted}
 use Rattle.scanner.specs.Scanning.{scanBy}
 use Rattle.scanner.specs.Answers.{faultOf}
 use Rattle.scanner.specs.Symbols.{Symbol}
@@ -30,14 +31,16 @@ module _ {N : Type 0} (edition : Edition N) where
     pub why : Refusal
     pub rest : List (Symbol Class)
     pub right : Right (Derived (edition .grammar) (edition .list)) levels levelLimit symbols (refused why rest)
-    pub answer : r ≡ Refused (number why) (positionOf end rest)
+    pub tells : told r ≡ telling (number why) (positionOf end rest) 0
 
   -- what condition 3 says of the symbols of a body with this end, a lent table, the answer and the table afterwards
   pub record Settled (symbols : List (Symbol Class)) (end : ℕ) (table : List ℕ) (r : Answer) (after : List ℕ) : Type 0 where
+    -- exactly one derivation: two derivations of these symbols are equal, whatever their levels
+    pub one : (k k′ : Row Class N) → Derived (edition .grammar) (edition .list) k symbols → Derived (edition .grammar) (edition .list) k′ symbols → k ≡ k′
     -- a list, with room: accepted, with the count and the records of its one derivation, byte for byte, and nothing else changed
-    pub with-room : (k : Row Class N) → IsListIn symbols k → count k ≤ roomFor addressRecordSize table → (r ≡ Accepted (count k)) × (after ≡ sets table 0 (tableBytes (records k)))
+    pub with-room : (k : Row Class N) → IsListIn symbols k → count k ≤ roomFor addressRecordSize table → (told r ≡ telling accepted 0 (count k)) × (after ≡ sets table 0 (tableBytes (records k)))
     -- a list, without room: 11 with the number of its addresses
-    pub without-room : (k : Row Class N) → IsListIn symbols k → roomFor addressRecordSize table < count k → (r ≡ NoRoom (count k)) × (after ≡ table)
+    pub without-room : (k : Row Class N) → IsListIn symbols k → roomFor addressRecordSize table < count k → (told r ≡ telling tooLittleRoom 0 (count k)) × (after ≡ table)
     -- no list: refused, whatever the room
     pub no-list : ((k : Row Class N) → IsListIn symbols k → ⊥) → RightlyRefused symbols end r × (after ≡ table)
 

@@ -1,11 +1,12 @@
 -- What the address reader answers and leaves in the lent table, in document 01's order of checks: 1, 13, the faults of scanning, 8, 9 or 10, then 11.
--- The verdict is that of the machine which the crate `grammar` proves right; `Condition3` says the same without it.
+-- The verdict is that of the executable layer, the only right one by `Decides`; `Condition3` says the same over the grammar alone.
 use Prim.Native.Nat.{ℕ}
 use mathlib.Core.List.{List}
 use lib.Dec.{ltb}
 use lib.ListN.{take}
 use lib.Seq.{sets}
 use Rattle.octets.specs.Choice.{pick}
+use Rattle.octets.specs.Answers.{Answered}
 use Rattle.octets.specs.Numbers.{levelLimit, addressRecordSize}
 use Rattle.octets.specs.Stored.{roomFor}
 use Rattle.octets.specs.declared.answers.Answer.{Answer}
@@ -18,13 +19,17 @@ use Rattle.grammar.specs.Grammar.{Row}
 use Rattle.grammar.specs.Language.{Verdict, accepted, refused, number, positionOf}
 use Rattle.grammar.specs.Records.{count, records, tableBytes}
 use Rattle.grammar.specs.Rfc733.{Derivation}
-use Rattle.grammar.proofs.Condition3.{answer}
+use Rattle.grammar.specs.Executable.Machine733.{answer}
 use Rattle.addresses.specs.Editions.{Edition, edition733}
 
 -- an answer, and the lent bytes afterwards
 pub record Outcome : Type 0 where
   pub answer : Answer
   pub table : List ℕ
+
+-- an answer and the lent bytes afterwards are those of an outcome
+abbrev pub AnsweredBy : Outcome → Answer → List ℕ → Type 0
+AnsweredBy o r after = Answered (o .answer) (o .table) r after
 
 -- a refusal leaves the lent bytes as they were
 abbrev pub refusal : List ℕ → ℕ → ℕ → Outcome

@@ -3,20 +3,20 @@ use mathlib.Core.Path.{_≡_}
 use mathlib.Core.Bool.{Bool, true, false}
 use mathlib.Core.List.{List, [], _∷_}
 use mathlib.Core.Option.{Option, none, some}
-use Prim.Native.Nat.{ℕ, suc, _+_, _*_, _-_, _≤_, _<_}
+use Prim.Native.Nat.{ℕ, _+_, _*_, _-_, _≤_, _<_}
 use lib.ListN.{length}
 use lib.Seq.{sets}
-use Rattle.octets.specs.Numbers.{messageLimit, levelLimit, noListGoesOn, endsTooSoon}
+use Rattle.octets.specs.Numbers.{messageLimit, noListGoesOn, endsTooSoon}
 use Rattle.octets.specs.declared.answers.Answer.the-variants.{Accepted}
 use Rattle.scanner.specs.Scanning.{scanBy, symbolsOf}
 use Rattle.scanner.specs.Answers.{faultOf}
 use Rattle.scanner.specs.declared.Next.{Next}
 use Rattle.scanner.specs.declared.Next.the-variants.{Found, Ended, Fault}
-use Rattle.scanner.proofs.Meanings.{meaningAt}
+use Rattle.scanner.specs.Meanings.{meaningAt}
 use Rattle.grammar.specs.Language.{Refusal, refused, number, positionOf}
-use Rattle.grammar.specs.Records.{AddressRecord, tableBytes}
-use Rattle.grammar.proofs.Trees.{Class, Atom, Quoted, At, LessThan, GreaterThan, Comma, Semicolon, Colon, Stray, Dot, Literal, Lexeme, Sym, of, Word, atomWord, quotedWord, Phrase, one, more, Nodes, Place, empty, AddressList, idle, Address, mailbox, angle, group, phraseThen, nameThen, nodesThen, atomColon}
-use Rattle.grammar.proofs.AddressMachine.{Here, Level, inAngle, inGroup, list, firstAt, levelsHere, levelsAt, nameless, fresh, run, judge}
+use Rattle.grammar.specs.Records.{tableBytes}
+use Rattle.grammar.proofs.Trees.{Class, Atom, Quoted, At, LessThan, GreaterThan, Comma, Semicolon, Colon, Stray, Dot, Literal, Lexeme, Sym, of, atomWord, quotedWord, Phrase, one, more, Nodes, empty, AddressList, idle, Address, angle, group, phraseThen, nameThen, nodesThen, atomColon}
+use Rattle.grammar.specs.Executable.Machine733.{Here, Level, inAngle, inGroup, list, firstAt, levelsHere, levelsAt, nameless, fresh, run, judge}
 use Rattle.grammar.proofs.Complete.{begin, doneAddress, doneList, Clear}
 use Rattle.grammar.proofs.Readers.{AddressEnds, ListEnds, endsAddress}
 use Rattle.grammar.proofs.TreeRecords.{phraseStart, phraseEnd, nodesEnd, nameStart, nameEnd, addressEnd, addressCount, addressRecords, listCount, listRecords}

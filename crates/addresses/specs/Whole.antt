@@ -14,7 +14,7 @@ use Rattle.scanner.specs.declared.Class.{Class}
 use Rattle.grammar.specs.Grammar.{Row}
 use Rattle.grammar.specs.Language.{Refusal, Verdict, accepted, refused, number, positionOf}
 use Rattle.grammar.specs.Records.{count, records, tableBytes}
-use Rattle.grammar.proofs.Condition3.{answer}
+use Rattle.grammar.specs.Executable.Machine733.{answer}
 use Rattle.addresses.specs.Outcome.{refusal, byVerdict, decided}
 use Rattle.addresses.specs.Steps.{symbolsFrom, Faultless}
 use Rattle.grammar.specs.declared.Whole.{Whole}

@@ -1,6 +1,7 @@
 // The address reader.
 //
-// The list reader and the address reader call each other; each call goes down one level, so that at most 64 are open.
+// The list reader and the address reader call each other, what is left of the text and the levels left falling.
+// Two of the calls go down one level, read_enclosed's of the list reader and read_typed's of the address reader; the others keep the level. So at most 64 are open.
 ghost use mathlib.Core.Path.{_≡_};
 ghost use Prim.Native.Nat.{_+_, _*_, _-_, _≤_, _<_};
 ghost use lib.ListN.{length};
@@ -8,10 +9,10 @@ ghost use lib.Seq.{sets};
 ghost use Rattle.octets.specs.Text.{part};
 ghost use Rattle.octets.specs.Numbers.{messageLimit, levelLimit};
 ghost use Rattle.grammar.specs.Records.{recordBy, recordBytes};
-ghost use Rattle.grammar.proofs.Condition3.{answer};
+ghost use Rattle.grammar.specs.Executable.Machine733.{answer};
 ghost use Rattle.addresses.specs.Steps.{isWord, isQuoted, endsAddressNext, refusedNext, closing, enclosureKind, Faultless, Standing, Reached, WordsIs, NodesIs, TypedAtomIs, Opened, MailboxIs, Lone, LoneIs, CloseIs, Entered, ListIs, BeginsAddress, AddressAt, NamedFirst, EnclosedIs, ColonFirst, TypedFirst};
 ghost use Rattle.addresses.specs.Whole.{Body, WholeIs, endsWithin, TwiceIs, TextIs};
-ghost use Rattle.addresses.specs.Outcome.{outcome};
+ghost use Rattle.addresses.specs.Outcome.{AnsweredBy, outcome};
 ghost use Rattle.addresses.specs.Within.{listWithin};
 ghost use Rattle.addresses.specs.Condition3.{Condition3};
 ghost use Rattle.grammar.specs.Rfc733.{sameClass};
@@ -442,7 +443,7 @@ fn read_enclosed(
 {
     let levels = frame.levels;
     if levels == 0 {
-        return Reading::Refused(TOO_MANY_LEVELS, start);
+        return Reading::Refused(TOO_MANY_LEVELS, start); // at its opening mark
     }
     let below = frame.number + 1;
     let inner = Frame {
@@ -510,7 +511,7 @@ fn read_typed(
 {
     let levels = frame.levels;
     if levels == 0 {
-        return Reading::Refused(TOO_MANY_LEVELS, start);
+        return Reading::Refused(TOO_MANY_LEVELS, start); // at its first ":"
     }
     let ahead = scanner::next_by(classes, text, behind);
     let Next::Found(class, first, last) = ahead else {
@@ -589,7 +590,7 @@ fn read_text(classes: &[u8; 256], text: &[u8], table: &mut [u8], at: usize) -> A
 
 // Read the address list in the body of a message from start up to end, and write its records into the table.
 pub fn read_addresses(message: &[u8], start: usize, end: usize, table: &mut [u8]) -> Answer
-    ensures outcome { λ r. ⌜ (r ≡ outcome (now (message .entry)) start end (now (table .entry)) .answer) × (now (table .exit) ≡ outcome (now (message .entry)) start end (now (table .entry)) .table) ⌝ }
+    ensures outcome { λ r. ⌜ AnsweredBy (outcome (now (message .entry)) start end (now (table .entry))) r (now (table .exit)) ⌝ }
     ensures condition3 { λ r. ⌜ Condition3 (now (message .entry)) start end (now (table .entry)) r (now (table .exit)) ⌝ }
 {
     if MESSAGE_LIMIT < message.len() {

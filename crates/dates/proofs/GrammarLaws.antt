@@ -15,7 +15,7 @@ use Rattle.octets.specs.Octets.{plusByte, commaByte, minusByte, colonByte}
 use Rattle.dates.specs.Names.{dayNames, monthNames, zoneNames, zoneMinutes, place, ahead, behind}
 use Rattle.dates.specs.Parts.{Part}
 use Rattle.dates.specs.Grammar.{num, offsetOf, Digits, Name, DayNameIs, day-name, no-day-name, DashIs, dash, no-dash, DayIs, one-digit, two-digits, MonthIs, month, YearIs, short-year, full-year, HourIs, four, six, two-two, two-four, four-two, two-two-two, ZoneIs, zone-name, dashed-name, east, west, DateIs, date}
-use Rattle.dates.specs.Form.{firstKey, firstBytes, after, done, digitsOf, named, Hour, noHour, hour, secondFrom, secondAfter, minuteFrom, minuteAfter, hourFrom, hourOf, Zoned, noZone, zoned, zoneFrom, zoneNamed, signedFrom, zoneOf, ended, zoneAfter, hourAfter, pastDash, yearFrom, yearAfter, monthFrom, monthAfter, dayFrom, dayAfter, readingFrom, readingOf}
+use Rattle.dates.specs.Form.{firstKey, firstBytes, after, done, digitsOf, named, Hour, noHour, hour, secondFrom, secondAfter, minuteFrom, minuteAfter, hourFrom, hourOf, Zoned, noZone, zoned, zoneFrom, zoneNamed, signedFrom, zoneOf, ended, zoneAfter, hourAfter, pastDash, yearFrom, yearAfter, monthFrom, monthAfter, dayFrom, dayAfter, readingFrom, readingOf, ReadsRight}
 use Rattle.dates.specs.declared.form.Offset.{Offset}
 use Rattle.dates.specs.declared.form.Offset.the-variants.{Minutes}
 use Rattle.dates.specs.declared.form.Written.{Written}
@@ -94,7 +94,7 @@ read-day-name (day-name n e) x = rw (n .run, n .called, lt-ltb _ _ (n .known), e
 read-day-name no-day-name x = day-starts x
 
 -- a derivation is read as its date
-pub complete : {l : List Part} {w : Written} → DateIs l w → readingOf l ≡ Right w
+complete : {l : List Part} {w : Written} → DateIs l w → readingOf l ≡ Right w
 complete (date {name = name} {d = d} {m = m} n x f g k y h z) =
     read-day-name n x ∙ read-day name x ∙ ap (λ (l : List Part). monthAfter name d l) (read-dash f (month-starts g)) ∙ read-month name d g
     ∙ ap (λ (l : List Part). yearAfter name d m l) (read-dash k (year-starts y)) ∙ read-year name d m y ∙ read-end name d m h z
@@ -272,12 +272,23 @@ reading-ok (p ∷ r) =
     (day-ok (p ∷ r) 7 (p ∷ r) no-day-name)
 
 -- what is read as a date is derived
-pub sound : (l : List Part) (w : Written) → readingOf l ≡ Right w → DateIs l w
+sound : (l : List Part) (w : Written) → readingOf l ≡ Right w → DateIs l w
 sound l w e = subst (λ (x : Reading). ReadingOk l x) e (reading-ok l)
 
 -- where nothing is read nothing is derived
-pub refused : (l : List Part) → readingOf l ≡ Wrong → (w : Written) → DateIs l w → ⊥
+refused : (l : List Part) → readingOf l ≡ Wrong → (w : Written) → DateIs l w → ⊥
 refused l e w x = let c : readingOf l ≡ Right w = complete x in let z : _≡_ {A = ℕ} 0 1 = cc in omega arith
+
+-- where nothing is derived nothing is read
+not-read : (l : List Part) → ((w : Written) → DateIs l w → ⊥) → readingOf l ≡ Wrong
+not-read l n = go (readingOf l) (λ w e. n w (sound l w e))
+  where
+    go : (r : Reading) → ((w : Written) → r ≡ Right w → ⊥) → r ≡ Wrong
+    go Wrong n = refl
+    go (Right w) n = absurd (n w refl)
+
+pub reads-right : ReadsRight
+reads-right l = record { derived = sound l; read = λ w x. complete x; underived = refused l; unread = not-read l }
 
 -- parts write one date
 pub unique : (l : List Part) (w v : Written) → DateIs l w → DateIs l v → w ≡ v

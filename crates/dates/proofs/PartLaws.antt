@@ -19,7 +19,7 @@ use Rattle.scanner.specs.Scanning.{Scanned, ended, faultAt, scanBy}
 use Rattle.scanner.specs.declared.Class.{Class}
 use Rattle.scanner.specs.declared.Class.the-variants.{Atom, Quoted, At, LessThan, GreaterThan, Comma, Semicolon, Colon, Stray, Dot, Literal}
 use Rattle.scanner.proofs.Class.{the-type}
-use Rattle.scanner.proofs.Meanings.{meaningAt}
+use Rattle.scanner.specs.Meanings.{meaningAt}
 use Rattle.scanner.proofs.Unfolding.{SymbolAt}
 use Rattle.dates.specs.Parts.{Part, otherPart, noPart, isMark, isRun, keyOf, before, runs, partsOf, parts}
 use Rattle.dates.specs.Form.{firstKey, firstBytes, after}

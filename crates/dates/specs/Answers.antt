@@ -1,24 +1,16 @@
--- The moment that a date says, and the answer for a body: 1, 13, the first fault of scanning, then 12, then 14.
+-- The moment that a date says, and document 01's number, position, count and value of each answer.
 use Prim.Native.Nat.{ℕ, _+_, _*_}
 use mathlib.Core.Bool.{Bool}
-use mathlib.Core.List.{List}
 use lib.Dec.{eqb, leb}
 use lib.IntN.{ℤ, pos, _-ℤ_, _*ℤ_}
-use lib.ListN.{length, take}
+use lib.ListN.{length}
 use Rattle.octets.specs.Choice.{pick, both, either}
-use Rattle.octets.specs.Classes.{classTable}
-use Rattle.octets.specs.Numbers.{accepted, dateForm, dateImpossible}
-use Rattle.scanner.specs.Scanning.{Scanned, scan}
-use Rattle.scanner.specs.Answers.{bodyChecked, unlessFault}
+use Rattle.octets.specs.Numbers.{accepted}
 use Rattle.dates.specs.Names.{dayNames}
-use Rattle.dates.specs.Parts.{parts}
-use Rattle.dates.specs.Form.{readingOf}
 use Rattle.dates.specs.Calendar.{monthLength, dayNumber, weekday}
 use Rattle.dates.specs.declared.form.Offset.{Offset}
 use Rattle.dates.specs.declared.form.Offset.the-variants.{Minutes, OutOfRange}
 use Rattle.dates.specs.declared.form.Written.{Written}
-use Rattle.dates.specs.declared.form.Reading.{Reading}
-use Rattle.dates.specs.declared.form.Reading.the-variants.{Wrong, Right}
 use Rattle.dates.specs.declared.moment.Moment.{Moment}
 use Rattle.dates.specs.declared.moment.Moment.the-variants.{Impossible, At}
 use Rattle.dates.specs.declared.DateAnswer.{DateAnswer}
@@ -59,23 +51,6 @@ momentOf w =
     (pick (timeExists (w .hour) (w .minute) (w .second))
     (pick (nameTrue (w .name) (daysOf w)) (inZone (localSeconds w) (w .zone)) Impossible) Impossible) Impossible
 
-abbrev pub momentAnswer : ℕ → Moment → DateAnswer
-momentAnswer start Impossible = Refused dateImpossible start
-momentAnswer start (At value) = Accepted value
-
--- 12, then 14; law `date-by-grammar` says it by the grammar alone
-abbrev pub readingAnswer : ℕ → Reading → DateAnswer
-readingAnswer start Wrong = Refused dateForm start
-readingAnswer start (Right w) = momentAnswer start (momentOf w)
-
--- the answer for what a body scans to
-abbrev pub scannedAnswer : List ℕ → ℕ → Scanned → DateAnswer
-scannedAnswer classes start scanned = unlessFault Refused scanned (readingAnswer start (readingOf (parts classes scanned)))
-
--- the answer for the body of a message from `start` up to `end`
-unfoldable pub dateAnswer : List ℕ → ℕ → ℕ → DateAnswer
-dateAnswer message start end = bodyChecked Refused message start end (scannedAnswer classTable start (scan (take end message) start))
-
 -- document 01's number, position, count and value of each answer
 abbrev pub numberOf : DateAnswer → ℕ
 numberOf (Accepted value) = accepted
@@ -91,3 +66,13 @@ countOf a = 0
 abbrev pub valueOf : DateAnswer → ℤ
 valueOf (Accepted value) = value
 valueOf (Refused number position) = pos 0
+
+-- what an answer tells: all four
+pub record Told : Type 0 where
+  pub number : ℕ
+  pub position : ℕ
+  pub count : ℕ
+  pub value : ℤ
+
+abbrev pub told : DateAnswer → Told
+told a = record { number = numberOf a; position = positionOf a; count = countOf a; value = valueOf a }

@@ -1,4 +1,6 @@
--- A reader of the grammar, over the parts from left to right. Nothing here needs to be believed: law `date-by-grammar` of `AnswerLaws` says by the grammar alone what is answered.
+-- The executable layer: a reader of the grammar, over the parts from left to right.
+-- Nothing here needs to be believed: `ReadsRight` says that what it reads is the one right reading; what is answered `ByGrammar` says by the grammar alone.
+use mathlib.Core.Path.{_≡_}
 use Prim.Native.Nat.{ℕ, _+_, _/_, _%_}
 use mathlib.Core.Bool.{Bool, true, false}
 use mathlib.Core.List.{List, [], _∷_}
@@ -10,9 +12,10 @@ use Rattle.octets.specs.Classes.{letter, digit}
 use Rattle.octets.specs.Octets.{plusByte, commaByte, minusByte, colonByte}
 use Rattle.dates.specs.Names.{dayNames, monthNames, zoneNames, zoneMinutes, place, ahead, behind}
 use Rattle.dates.specs.Parts.{Part, noPart}
-use Rattle.dates.specs.Grammar.{number, offsetOf}
+use Rattle.dates.specs.Grammar.{number, offsetOf, DateIs}
 use Rattle.dates.specs.declared.form.Offset.{Offset}
 use Rattle.dates.specs.declared.form.Offset.the-variants.{Minutes}
+use Rattle.dates.specs.declared.form.Written.{Written}
 use Rattle.dates.specs.declared.form.Reading.{Reading}
 use Rattle.dates.specs.declared.form.Reading.the-variants.{Wrong, Right}
 
@@ -143,3 +146,17 @@ readingFrom l n rest =
 
 unfoldable pub readingOf : List Part → Reading
 readingOf l = readingFrom l (named dayNames l) (after l)
+
+-- ---- what it reads is the one right reading
+
+pub record RightReading (l : List Part) (r : Reading) : Type 0 where
+  -- a date exactly if the grammar derives it
+  pub derived : (w : Written) → r ≡ Right w → DateIs l w
+  pub read : (w : Written) → DateIs l w → r ≡ Right w
+  -- wrong exactly if the grammar derives none
+  pub underived : r ≡ Wrong → (w : Written) → DateIs l w → ⊥
+  pub unread : ((w : Written) → DateIs l w → ⊥) → r ≡ Wrong
+
+-- whatever the parts are
+abbrev pub ReadsRight : Type 0
+ReadsRight = (l : List Part) → RightReading l (readingOf l)

@@ -3,6 +3,8 @@ pub mod Names
 pub mod Parts
 pub mod Grammar
 pub mod Calendar
-pub mod Form
 pub mod Answers
+pub mod ByGrammar
+pub mod Form
+pub mod Outcome
 pub mod Steps

@@ -1,6 +1,8 @@
 // Reading dates.
 ghost use mathlib.Core.Path.{_≡_};
-ghost use Rattle.dates.specs.Answers.{dateAnswer, numberOf, positionOf, countOf, valueOf};
+ghost use Rattle.dates.specs.Answers.{numberOf, positionOf, countOf, valueOf, told};
+ghost use Rattle.dates.specs.ByGrammar.{ByGrammar};
+ghost use Rattle.dates.specs.Outcome.{dateAnswer};
 use crate::form::Reading;
 use crate::moment::Moment;
 use octets::answers::Answer;
@@ -68,7 +70,8 @@ pub fn value(answer: DateAnswer) -> i64
 
 // The date in the body of a message from start up to end.
 pub fn read_date(message: &[u8], start: usize, end: usize) -> DateAnswer
-    ensures { λ r. ⌜ r ≡ dateAnswer (now (message .entry)) start end ⌝ }
+    ensures outcome { λ r. ⌜ (told r ≡ told (dateAnswer (now (message .entry)) start end)) × (r ≡ dateAnswer (now (message .entry)) start end) ⌝ }
+    ensures by_grammar { λ r. ⌜ ByGrammar (now (message .entry)) start end r ⌝ }
 {
     if MESSAGE_LIMIT < message.len() {
         return DateAnswer::Refused(MESSAGE_TOO_LONG, MESSAGE_LIMIT);

@@ -13,7 +13,7 @@ use Rattle.scanner.specs.declared.Class.{Class}
 use Rattle.grammar.specs.Grammar.{Row}
 use Rattle.grammar.specs.Language.{Verdict}
 use Rattle.grammar.specs.Rfc733.{Notion}
-use Rattle.grammar.proofs.AnyReader.{Reads}
+use Rattle.grammar.specs.Executable.{Decides}
 use Rattle.grammar.proofs.Positions.{ReadBack}
 use Rattle.grammar.proofs.Condition3 as rules733
 use Rattle.grammar.proofs.Machine822.{read}
@@ -44,7 +44,7 @@ unchanged-733 refuse derive message start end = by (ltb messageLimit (length mes
 
 module _ (edition : ℕ) (message : List ℕ) (start end : ℕ) where
   -- an edition with rules
-  by-rules : {N : Type 0} (ed : Edition N) (least : ℕ) (answerOf : ℕ → List (Symbol Class) → Verdict Class (Row Class N)) → Reads (ed .grammar) (ed .list) least answerOf → least ≤ levelLimit → TakesInPlace ed
+  by-rules : {N : Type 0} (ed : Edition N) (least : ℕ) (answerOf : ℕ → List (Symbol Class) → Verdict Class (Row Class N)) → Decides (ed .grammar) (ed .list) least answerOf → least ≤ levelLimit → TakesInPlace ed
       → AnsweredBy edition message start end (λ A refuse derive. readIn ed (answerOf levelLimit) refuse (derive N) message start end) → JudgedOf edition message start end
   by-rules {N} ed least answerOf right below takes same =
       elim (judged-in ed least answerOf right below message start end) [
@@ -54,8 +54,8 @@ module _ (edition : ℕ) (message : List ℕ) (start end : ℕ) where
 
   by-tests : (a b c : Bool) → ltb messageLimit (length message) ≡ a → eqb edition 733 ≡ b → eqb edition 822 ≡ c → JudgedOf edition message start end
   by-tests true b c e f g = refusedAt messageTooLong messageLimit (λ A refuse derive. rw e)
-  by-tests false true c e f g = by-rules edition733 0 rules733.answer rules733.reads (omega arith) takes-733 (λ A refuse derive. rw (e, f))
-  by-tests false false true e f g = by-rules edition822 2 read rules822.reads (omega arith) takes-822 (λ A refuse derive. rw (e, f, g))
+  by-tests false true c e f g = by-rules edition733 0 rules733.answer rules733.decides (omega arith) takes-733 (λ A refuse derive. rw (e, f))
+  by-tests false false true e f g = by-rules edition822 2 read rules822.decides (omega arith) takes-822 (λ A refuse derive. rw (e, f, g))
   by-tests false false false e f g = refusedAt editionUnknown 0 (λ A refuse derive. rw (e, f, g))
 
   pub judged-of : JudgedOf edition message start end

@@ -10,7 +10,7 @@ use Rattle.octets.specs.Choice.{pick, either}
 use Rattle.octets.specs.Numbers.{messageLimit, levelLimit, messageTooLong, bodyOutOfOrder, tooManyLevels, addressRecordSize}
 use Rattle.octets.specs.Stored.{roomFor}
 use Rattle.octets.specs.declared.answers.Answer.{Answer}
-use Rattle.octets.specs.declared.answers.Answer.the-variants.{Refused}
+use Rattle.octets.specs.Answers.{numberOf}
 use Rattle.scanner.specs.Scanning.{Scanned, ended, next, faultAt, outside, scanBy}
 use Rattle.scanner.specs.Symbols.{Symbol}
 use Rattle.scanner.specs.Answers.{unlessFault}
@@ -22,23 +22,19 @@ use Rattle.grammar.specs.Language.{unfit, unfinished, tooDeep, Verdict, accepte
 use Rattle.grammar.specs.Rfc822.{Notion}
 use Rattle.grammar.specs.Records.{count}
 use Rattle.grammar.proofs.Machine822.{read}
-use Rattle.grammar.proofs.Condition822.{reads, never-ten}
+use Rattle.grammar.proofs.Condition822.{decides, never-ten}
 use Rattle.addresses.specs.Editions.{edition822}
 use Rattle.addresses.specs.Outcome.{Outcome, refusal, derived, decided, symbolsIn}
 use Rattle.editions.specs.Outcome.{outcome822}
 
 -- this answer is no refusal with 10
 abbrev Shallow : Answer → Type 0
-Shallow r = (position : ℕ) → r ≡ Refused tooManyLevels position → ⊥
-
--- a refusal with another number
-other : (n p : ℕ) → (n ≡ tooManyLevels → ⊥) → Shallow (Refused n p)
-other n p h position e = h (let q : n ≡ tooManyLevels = cc in q)
+Shallow r = numberOf r ≡ tooManyLevels → ⊥
 
 -- the checks of a body, and the faults of scanning, have other numbers
 checked : (table : List ℕ) (a b : Bool) (o : Outcome) → Shallow (o .answer) → Shallow (pick a (refusal table messageTooLong messageLimit) (pick b (refusal table bodyOutOfOrder 0) o) .answer)
-checked table true b o s = other messageTooLong messageLimit (λ e. absurd (omega (arith, e)))
-checked table false true o s = other bodyOutOfOrder 0 (λ e. absurd (omega (arith, e)))
+checked table true b o s = λ e. absurd (omega (arith, e))
+checked table false true o s = λ e. absurd (omega (arith, e))
 checked table false false o s = s
 
 no-fault : (n : ℕ) → isFault n ≡ true → n ≡ tooManyLevels → ⊥
@@ -48,21 +44,21 @@ scanned : (table : List ℕ) (s : Scanned) (o : Outcome) → Numbered s → Shal
 unfolding unlessFault
 scanned table ended o n h = h
 scanned table (next x rest) o n h = scanned table rest o n h
-scanned table (faultAt number p) o n h = other number p (no-fault number n)
+scanned table (faultAt number p) o n h = no-fault number n
 
 -- a list is accepted, or there is too little room for it
 listed : (table : List ℕ) (k : Row Class Notion) (t : Bool) → ltb (roomFor addressRecordSize table) (count k) ≡ t → Shallow (derived table k .answer)
-listed table k true e = rw e (λ position q. let z : _≡_ {A = ℕ} 0 1 = cc in omega arith)
-listed table k false e = rw e (λ position q. let z : _≡_ {A = ℕ} 0 1 = cc in omega arith)
+listed table k true e = rw e (λ q. absurd (omega (arith, q)))
+listed table k false e = rw e (λ q. absurd (omega (arith, q)))
 
 -- the verdict is never that of too many levels
 judged : (end : ℕ) (table : List ℕ) (xs : List (Symbol Class)) (v : Verdict Class (Row Class Notion)) → read levelLimit xs ≡ v → Shallow (decided end table v .answer)
 judged end table xs (accepted k) e = listed table k _ refl
-judged end table xs (refused unfit rest) e = other _ _ (λ q. absurd (omega (arith, q)))
-judged end table xs (refused unfinished rest) e = other _ _ (λ q. absurd (omega (arith, q)))
-judged end table xs (refused tooDeep rest) e = absurd (never-ten levelLimit (omega arith) xs rest (rw e at (reads .right levelLimit (omega arith) xs)))
+judged end table xs (refused unfit rest) e = λ q. absurd (omega (arith, q))
+judged end table xs (refused unfinished rest) e = λ q. absurd (omega (arith, q))
+judged end table xs (refused tooDeep rest) e = absurd (never-ten levelLimit (omega arith) xs rest (rw e at (decides .right levelLimit (omega arith) xs)))
 
-pub shallow : (message : List ℕ) (start end : ℕ) (table : List ℕ) (position : ℕ) → outcome822 message start end table .answer ≡ Refused tooManyLevels position → ⊥
+pub shallow : (message : List ℕ) (start end : ℕ) (table : List ℕ) → numberOf (outcome822 message start end table .answer) ≡ tooManyLevels → ⊥
 shallow message start end table =
     let symbols = symbolsIn edition822 message start end in
     let scan = scanBy (edition822 .classes) (take end message) start in

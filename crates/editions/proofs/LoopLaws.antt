@@ -17,7 +17,7 @@ use Rattle.grammar.specs.Records.{AddressRecord, tableBytes}
 use Rattle.grammar.proofs.Records.{length-records}
 use Rattle.grammar.proofs.Trees.{Class, Atom, Quoted, At, LessThan, GreaterThan, Comma, Semicolon, Colon, Stray, Dot, Literal, Sym, of}
 use Rattle.grammar.proofs.Machine822.{start}
-use Rattle.grammar.proofs.Condition822.{reads}
+use Rattle.grammar.proofs.Condition822.{decides}
 use Rattle.addresses.specs.Editions.{classIn822, takenIn822}
 use Rattle.addresses.specs.Steps.{symbolsFrom, lexemeAt, Faultless}
 use Rattle.addresses.specs.Whole.{IsListed, IsRefused}
@@ -96,7 +96,7 @@ module _ (classes text : List ℕ) where
   pub end-unfinished : {at p : ℕ} {lent table : List ℕ} {w : Walk} → Come at lent table p w → symbolsFrom classes text p ≡ [] → both (endsAt (w .place)) (noGroup (w .group)) ≡ false → IsRefused verdict822 classes text at endsTooSoon (length text)
   end-unfinished {at} {w = w} c e d =
       let (rest, v) = loop-unfinished levelLimit 0 0 (words at) (walkedOf w (c .rs)) (at-end c e) d in
-      let q : rest ≡ [] = (rw v at (reads .right levelLimit (omega arith) (words at))) .0 in
+      let q : rest ≡ [] = (rw v at (decides .right levelLimit (omega arith) (words at))) .0 in
       record { why = unfinished; rest = rest; verdict-is = v; number-is = refl; place-is = rw q }
 
 -- ---- the table keeps its length

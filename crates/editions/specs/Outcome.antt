@@ -6,21 +6,21 @@ use mathlib.Core.List.{List}
 use lib.Dec.{eqb, ltb}
 use lib.ListN.{length}
 use Rattle.octets.specs.Choice.{pick}
+use Rattle.octets.specs.Answers.{numberOf}
 use Rattle.octets.specs.Numbers.{messageLimit, levelLimit, messageTooLong, tooManyLevels, editionUnknown}
 use Rattle.octets.specs.declared.answers.Answer.{Answer}
-use Rattle.octets.specs.declared.answers.Answer.the-variants.{Refused}
 use Rattle.scanner.specs.Symbols.{Symbol}
 use Rattle.scanner.specs.declared.Class.{Class}
 use Rattle.grammar.specs.Grammar.{Row}
 use Rattle.grammar.specs.Language.{Verdict}
 use Rattle.grammar.specs.Rfc733 as rules733
 use Rattle.grammar.specs.Rfc822.{Notion}
-use Rattle.grammar.proofs.Machine822.{read}
+use Rattle.grammar.specs.Executable.Machine822.{read}
 use Rattle.addresses.specs.Editions.{edition733, takenIn822, edition822}
 use Rattle.addresses.specs.Outcome.{Outcome, refusal, derived, readIn, bodyRead}
 use Rattle.addresses.specs.Condition3.{Condition3In}
 
--- the verdict on the scanner's symbols is that of the machine of RFC 822, which the crate `grammar` proves right
+-- the verdict on the scanner's symbols is that of the executable layer for RFC 822, the only right one by `Decides`
 abbrev pub verdict822 : List (Symbol Class) → Verdict Class (Row Class Notion)
 verdict822 xs = read levelLimit (takenIn822 xs)
 
@@ -50,4 +50,4 @@ pub record Condition3Of (edition : ℕ) (message : List ℕ) (start end : ℕ) (
 
 -- a list of RFC 822 has at most 2 levels: 10 is never answered there
 abbrev pub NeverTooDeep : ℕ → Answer → Type 0
-NeverTooDeep edition r = edition ≡ 822 → (position : ℕ) → r ≡ Refused tooManyLevels position → ⊥
+NeverTooDeep edition r = edition ≡ 822 → numberOf r ≡ tooManyLevels → ⊥

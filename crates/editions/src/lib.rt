@@ -12,6 +12,7 @@ ghost use Rattle.grammar.specs.Rfc733.{classNumber};
 ghost use Rattle.grammar.specs.Records.{recordBytes};
 ghost use Rattle.addresses.specs.Editions.{classIn822};
 ghost use Rattle.addresses.specs.Whole.{Body, WholeIs, TwiceIs, TextIs};
+ghost use Rattle.addresses.specs.Outcome.{AnsweredBy};
 ghost use Rattle.editions.specs.Outcome.{verdict822, outcome822, outcomeOf, Condition3Of, NeverTooDeep};
 ghost use Rattle.editions.specs.Places.{placeCount, columns, nextPlace, placeTable, effectOf, endsAt, noGroup, oneIf, parentOf};
 ghost use Rattle.editions.specs.Walks.{effectFrom, Fine, newBy, walkBy, CloseIs, StepIs};
@@ -343,7 +344,7 @@ fn read_text(
 // Read the address list of RFC 822 in the body of a message within its limit.
 fn read_822(message: &[u8], start: usize, end: usize, table: &mut [u8]) -> Answer
     requires { ⌜ length (now message) ≤ messageLimit ⌝ }
-    ensures { λ r. ⌜ (r ≡ outcome822 (now (message .entry)) start end (now (table .entry)) .answer) × (now (table .exit) ≡ outcome822 (now (message .entry)) start end (now (table .entry)) .table) ⌝ }
+    ensures { λ r. ⌜ AnsweredBy (outcome822 (now (message .entry)) start end (now (table .entry))) r (now (table .exit)) ⌝ }
 {
     if end < start {
         return Answer::Refused(BODY_OUT_OF_ORDER, 0);
@@ -365,7 +366,7 @@ pub fn read_addresses(
     edition: usize,
     table: &mut [u8],
 ) -> Answer
-    ensures outcome { λ r. ⌜ (r ≡ outcomeOf edition (now (message .entry)) start end (now (table .entry)) .answer) × (now (table .exit) ≡ outcomeOf edition (now (message .entry)) start end (now (table .entry)) .table) ⌝ }
+    ensures outcome { λ r. ⌜ AnsweredBy (outcomeOf edition (now (message .entry)) start end (now (table .entry))) r (now (table .exit)) ⌝ }
     ensures condition3 { λ r. ⌜ Condition3Of edition (now (message .entry)) start end (now (table .entry)) r (now (table .exit)) ⌝ }
     ensures levels { λ r. ⌜ NeverTooDeep edition r ⌝ }
 {

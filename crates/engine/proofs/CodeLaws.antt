@@ -10,7 +10,7 @@ use Rattle.octets.specs.Numbers.{addressRecordSize}
 use Rattle.grammar.specs.Records.{recordBy, recordBytes}
 use Rattle.grammar.specs.Rfc733.{kindNumber, typedKind}
 use Rattle.grammar.proofs.Trees.{Lexeme, AddressList, Address, typed}
-use Rattle.grammar.proofs.AddressMachine.{Here, inList, inTyped, Level, top, inAngle, inGroup, Spot, State, close, levelsHere}
+use Rattle.grammar.specs.Executable.Machine733.{Here, inList, inTyped, Level, top, inAngle, inGroup, Spot, State, close, levelsHere}
 use Rattle.grammar.proofs.TreeRecords.{nameStart, nameEnd}
 use Rattle.engine.specs.Stands.{placeOf, numberHere, parentHere, Entry, Stands}
 use Rattle.engine.specs.Turns.{OpenHere, LevelAt, SomeLevel, Closing, Closed, kindIf, endIf, loneKind, Ended, AtClose, GoesTo}

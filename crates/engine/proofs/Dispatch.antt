@@ -9,7 +9,7 @@ use Rattle.octets.specs.Numbers.{messageLimit, levelLimit, noListGoesOn, endsTo
 use Rattle.grammar.specs.Language.{unfit}
 use Rattle.grammar.proofs.AnyMachine.{go}
 use Rattle.grammar.proofs.Trees.{Class, Lexeme, Phrase, AddressList, Address}
-use Rattle.grammar.proofs.AddressMachine.{Here, Level, top, inAngle, inGroup, State, list, phrase, want, close, enter, levelsAt, stepOn, finish, whole, start}
+use Rattle.grammar.specs.Executable.Machine733.{Here, Level, top, inAngle, inGroup, State, list, phrase, want, close, enter, levelsAt, stepOn, finish, whole, start}
 use Rattle.grammar.proofs.TreeRecords.{listCount}
 use Rattle.engine.specs.Actions.{modeNumber, modeRoom, Act, refuses, begins, adds, passes, opens, opensNamed, turnsTyped, endsAtComma, closes, endsAndCloses, finishes, endsAndFinishes, actNumber, Action, entry, rowOf, actionOf}
 use Rattle.engine.specs.Stands.{modeOf, parentAt, storedList, Stands}

@@ -11,14 +11,14 @@ use Rattle.scanner.specs.Scanning.{scanBy}
 use Rattle.scanner.specs.Answers.{nextOf}
 use Rattle.scanner.specs.declared.Next.{Next}
 use Rattle.scanner.specs.declared.Next.the-variants.{Found}
-use Rattle.scanner.proofs.Meanings.{meaningAt}
+use Rattle.scanner.specs.Meanings.{meaningAt}
 use Rattle.grammar.specs.Language.{unfinished}
 use Rattle.grammar.specs.Records.{tableBytes}
 use Rattle.grammar.specs.Rfc733.{classNumber}
 use Rattle.grammar.proofs.AnyMachine.{ended, stopped, atEnd, standsBy}
 use Rattle.grammar.proofs.Trees.{Class, Atom}
-use Rattle.grammar.proofs.AddressMachine.{State, stepOn, step, run, judge}
-use Rattle.grammar.proofs.AddressMachine as machine
+use Rattle.grammar.specs.Executable.Machine733.{State, stepOn, step, run, judge}
+use Rattle.grammar.specs.Executable.Machine733 as machine
 use Rattle.grammar.proofs.Condition3.{asRows, answer}
 use Rattle.grammar.proofs.Rows.{asRow}
 use Rattle.grammar.proofs.TreeRecords.{tree-records, tree-count}

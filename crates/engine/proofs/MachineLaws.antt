@@ -6,7 +6,7 @@ use native.Mathlib.Omega.{arith}
 use Rattle.grammar.specs.Language.{unfit}
 use Rattle.grammar.proofs.AnyMachine.{go, stop}
 use Rattle.grammar.proofs.Trees.{Class, Atom, Quoted, At, LessThan, GreaterThan, Comma, Semicolon, Colon, Stray, Dot, Literal, Lexeme, Word, atomWord, quotedWord, Phrase, one, more, Nodes, first, next, Place, empty, comma, AddressList, idle, full, Address, mailbox, quoted}
-use Rattle.grammar.proofs.AddressMachine.{Here, inList, inTyped, Level, top, inAngle, inGroup, State, list, phrase, firstAt, nextAt, node, want, close, enter, Began, fresh, phraseColon, stepOn, finish, wholeOf}
+use Rattle.grammar.specs.Executable.Machine733.{Here, inList, inTyped, Level, top, inAngle, inGroup, State, list, phrase, firstAt, nextAt, node, want, close, enter, Began, fresh, phraseColon, stepOn, finish, wholeOf}
 use Rattle.grammar.proofs.Complete.{begin}
 use Rattle.engine.specs.Actions.{Mode, atPlace, wanting, atWords, behindAddress, Act, refuses, begins, adds, passes, opens, opensNamed, turnsTyped, endsAtComma, closes, endsAndCloses, finishes, endsAndFinishes, Action, _then_, placeRow, wordsRow, rowOf, onClass, actionOf}
 use Rattle.engine.specs.Stands.{placeMode, atomMode, modeOf}

@@ -5,5 +5,5 @@ use Rattle.engine.specs.Same.{BothReadersSame}
 
 pub both-readers : BothReadersSame
 both-readers message start end table r r′ after after′ p q =
-    let e : r ≡ r′ = p .answer ∙ sym (q .answer) in
-    record { number = ap numberOf e; position = ap positionOf e; count = ap countOf e; bytes = p .bytes ∙ sym (q .bytes) }
+    let e : r ≡ r′ = p .answer-is ∙ sym (q .answer-is) in
+    record { number = ap numberOf e; position = ap positionOf e; count = ap countOf e; bytes = p .bytes-are ∙ sym (q .bytes-are) }

@@ -5,12 +5,11 @@ use mathlib.Core.Path.{_≡_}
 use mathlib.Core.List.{List}
 use Rattle.octets.specs.Answers.{numberOf, positionOf, countOf}
 use Rattle.octets.specs.declared.answers.Answer.{Answer}
-use Rattle.addresses.specs.Outcome.{outcome}
+use Rattle.addresses.specs.Outcome.{AnsweredBy, outcome}
 
 -- what a reader answers and the table afterwards, as both readers promise it in their clause `outcome`
-pub record Promised (message : List ℕ) (start end : ℕ) (table : List ℕ) (r : Answer) (after : List ℕ) : Type 0 where
-  pub answer : r ≡ outcome message start end table .answer
-  pub bytes : after ≡ outcome message start end table .table
+abbrev pub Promised : List ℕ → ℕ → ℕ → List ℕ → Answer → List ℕ → Type 0
+Promised message start end table r after = AnsweredBy (outcome message start end table) r after
 
 -- the same number, position, count and table bytes
 pub record Same (r r′ : Answer) (after after′ : List ℕ) : Type 0 where

@@ -19,7 +19,7 @@ use Rattle.grammar.specs.Rfc733.{kindNumber, mailbox, angleList, group, quoted}
 use Rattle.grammar.proofs.AnyMachine.{Step, go, stop}
 use Rattle.grammar.proofs.Trees.{Lexeme, Phrase, one, atomWord, quotedWord, Nodes, empty, AddressList, idle, Address}
 use Rattle.grammar.proofs.Trees as trees
-use Rattle.grammar.proofs.AddressMachine.{Here, inList, Level, inAngle, inGroup, State, list, phrase, node, want, Spot, close, enter, endAngle, endGroup, levelsHere, levelsAt, stepOn, finish}
+use Rattle.grammar.specs.Executable.Machine733.{Here, inList, Level, inAngle, inGroup, State, list, phrase, node, want, Spot, close, enter, endAngle, endGroup, levelsHere, levelsAt, stepOn, finish}
 use Rattle.grammar.proofs.TreeRecords.{listCount, listRecords, addressEnd, nameStart, nameEnd}
 use Rattle.engine.specs.Actions.{modeNumber, behindAddress, wanting, atQuoted, refuses, opens, turnsTyped, actNumber, modeRoom, entry, rowOf, actionOf}
 use Rattle.engine.specs.Stands.{modeOf, stackSize, numberHere, parentAt, parentHere, Entry, HoldsHere, HoldsLevel, storedHere, storedList, storedAddress, Stands}

@@ -7,10 +7,10 @@ ghost use Prim.Native.Nat.{_+_, _*_, _≤_, _<_};
 ghost use lib.ListN.{length, getD, set};
 ghost use Rattle.octets.specs.Numbers.{messageLimit, levelLimit};
 ghost use Rattle.grammar.specs.Rfc733.{classNumber};
-ghost use Rattle.grammar.proofs.Condition3.{answer};
+ghost use Rattle.grammar.specs.Executable.Machine733.{answer};
 ghost use Rattle.addresses.specs.Whole.{Body, WholeIs, TwiceIs, TextIs};
 ghost use Rattle.addresses.specs.Steps.{symbolsFrom};
-ghost use Rattle.addresses.specs.Outcome.{outcome};
+ghost use Rattle.addresses.specs.Outcome.{AnsweredBy, outcome};
 ghost use Rattle.addresses.specs.Condition3.{Condition3};
 ghost use Rattle.expected.specs.Things.{sumOf};
 ghost use Rattle.expected.specs.Named.{named, expectedIn};
@@ -560,7 +560,7 @@ fn read_text(
 
 // Read the address list in the body of a message from start up to end, and write its records into the table.
 pub fn read_addresses(message: &[u8], start: usize, end: usize, table: &mut [u8]) -> Answer
-    ensures outcome { λ r. ⌜ (r ≡ outcome (now (message .entry)) start end (now (table .entry)) .answer) × (now (table .exit) ≡ outcome (now (message .entry)) start end (now (table .entry)) .table) ⌝ }
+    ensures outcome { λ r. ⌜ AnsweredBy (outcome (now (message .entry)) start end (now (table .entry))) r (now (table .exit)) ⌝ }
     ensures condition3 { λ r. ⌜ Condition3 (now (message .entry)) start end (now (table .entry)) r (now (table .exit)) ⌝ }
 {
     if MESSAGE_LIMIT < message.len() {

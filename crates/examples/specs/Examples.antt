@@ -9,7 +9,7 @@ use Rattle.octets.specs.Numbers.{noListGoesOn, endsTooSoon}
 use Rattle.octets.specs.declared.answers.Answer.{Answer}
 use Rattle.octets.specs.declared.answers.Answer.the-variants.{Accepted, Refused}
 use Rattle.addresses.specs.Outcome.{outcome}
-use Rattle.dates.specs.Answers.{dateAnswer}
+use Rattle.dates.specs.Outcome.{dateAnswer}
 use Rattle.dates.specs.declared.DateAnswer.the-variants as date
 
 -- so many bytes of a lent table that nobody wrote to

@@ -15,7 +15,7 @@ use Rattle.scanner.specs.declared.Class.{Class}
 use Rattle.scanner.specs.declared.Class.the-variants.{Atom, Quoted, At, LessThan, GreaterThan, Comma, Semicolon, Colon, Stray, Dot, Literal}
 use Rattle.scanner.specs.declared.Next.{Next}
 use Rattle.scanner.specs.declared.Next.the-variants.{Found}
-use Rattle.scanner.proofs.Meanings.{meaningAt}
+use Rattle.scanner.specs.Meanings.{meaningAt}
 use Rattle.scanner.proofs.Unfolding.{SymbolAt, found}
 use Rattle.plain.specs.Walking.{symbolText, after, colonNext, walkText}
 use Rattle.plain.specs.Writing.{textLimit, isColon}

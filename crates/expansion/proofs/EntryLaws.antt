@@ -8,12 +8,13 @@ use lib.Seq.{sets}
 use Rattle.octets.specs.Classes.{classTable}
 use Rattle.octets.specs.Numbers.{openingLimit}
 use Rattle.octets.specs.declared.answers.Answer.the-variants.{Accepted, Refused, NoRoom}
+use Rattle.octets.proofs.AnswerLaws.{answered}
 use Rattle.octets.proofs.Parts.{no-front}
 use Rattle.octets.proofs.Writes.{too-long, fitting}
 use Rattle.grammar.specs.Rfc733.{Derivation}
 use Rattle.addresses.specs.Outcome as addresses
 use Rattle.addresses.specs.Outcome.{outcome}
-use Rattle.addresses.proofs.Judgements.{listed-read}
+use Rattle.addresses.proofs.Judgements.{RefusedBody, listed-read, scanned-unlisted, unscanned}
 use Rattle.addresses.proofs.Told.{SomeList, refused-told}
 use Rattle.plain.specs.Meaning.{meaning}
 use Rattle.plain.specs.PlainText.{addressesText}
@@ -22,7 +23,7 @@ use Rattle.plain.specs.Written.{written}
 use Rattle.plain.specs.declared.places.Place.the-variants.{Start}
 use Rattle.plain.proofs.PlainLaws.{accepted-list}
 use Rattle.expansion.specs.Expansion.{Expansion, stopped, reached, expansion}
-use Rattle.expansion.specs.Outcome.{Outcome, refusal, expanded, expandOutcome, Answered}
+use Rattle.expansion.specs.Outcome.{Outcome, refusal, expanded, expandOutcome, AnsweredBy}
 use Rattle.expansion.specs.Promises.{Promises}
 use Rattle.expansion.specs.Walk.{halted, wrote, walked}
 use Rattle.addresses.specs.Steps.{symbolsFrom}
@@ -54,13 +55,13 @@ module _ (classes store text : List ℕ) (start : ℕ) where
 
   module _ (lent front : List ℕ) (none : length front ≡ 0) where
     pub list-stopped : {n p u : ℕ} → walked store (symbolsFrom classes text start) ≡ halted n p u → ListExpanded classes store text start lent (front ++ lent) (record { answer = Refused n p; openings = u })
-    list-stopped e = rw e (record { answer-is = refl; openings-is = refl; text-is = no-front front lent none })
+    list-stopped e = rw e (record { answered = answered refl (no-front front lent none); openings-is = refl })
 
     module _ {out after : List ℕ} {r : Stage} (w : BodyWent classes store text start out after r) where
       pub list-too-long : length (front ++ lent) < r .written → ListExpanded classes store text start lent (front ++ lent) (record { answer = NoRoom (r .written); openings = r .openings })
       list-too-long h =
           let f = too-long (w .written-text) lent front (r .written) (w .count) none h in
-          rw (w .trail) (record { answer-is = f .0; openings-is = refl; text-is = f .1 })
+          rw (w .trail) (record { answered = answered (f .0) (f .1); openings-is = refl })
 
       -- the second walk writes the same
       again : (later : List ℕ) (r′ : Walked) → BodyWalked classes store text start (front ++ lent) later r′ → later ≡ sets (front ++ lent) 0 (w .written-text)
@@ -76,7 +77,7 @@ module _ (classes store text : List ℕ) (start : ℕ) where
           → ListExpanded classes store text start lent later (record { answer = Accepted (r .written); openings = r .openings })
       list-fitting h later r′ v =
           let f = fitting (w .written-text) lent front later (r .written) (r .written) (w .count) none h (w .count) (again later r′ v) in
-          rw (w .trail) (record { answer-is = f .0; openings-is = refl; text-is = f .1 })
+          rw (w .trail) (record { answered = answered (f .0) (f .1); openings-is = refl })
 
 -- ---- the promises
 
@@ -86,19 +87,30 @@ module _ (message : List ℕ) (start end : ℕ) (store lent : List ℕ) where
   accepted-outcome a = listed-read (accepted-list message start end a) (refusal lent 0) (λ k. expanded lent (expansion store k))
 
   abbrev pub Promised : Expanded → List ℕ → Type 0
-  Promised r after = Answered (expandOutcome message start end store lent) r after × Promises message start end store lent r after
+  Promised r after = AnsweredBy (expandOutcome message start end store lent) r after × Promises message start end store lent r after
 
-  promised : (r : Expanded) (after : List ℕ) → Answered (expandOutcome message start end store lent) r after → Promised r after
+  -- of a refused one
+  refused-with : {n p : ℕ} {r : Expanded} {after : List ℕ} → RefusedBody message start end n p → AnsweredBy (expandOutcome message start end store lent) r after → AnsweredBy (refusal lent 0 n p) r after
+  refused-with f e = rw (f Outcome (refusal lent 0) (λ k. expanded lent (expansion store k))) at e
+
+  promised : (r : Expanded) (after : List ℕ) → AnsweredBy (expandOutcome message start end store lent) r after → Promised r after
   promised r after e =
-      let expands : (k : Derivation) → AcceptedBody message start end k → Answered (expanded lent (expansion store k)) r after = λ k a. rw (accepted-outcome a) at e in (
+      let expands : (k : Derivation) → AcceptedBody message start end k → AnsweredBy (expanded lent (expansion store k)) r after = λ k a. rw (accepted-outcome a) at e in (
         e,
         record {
           expands = expands;
           promised = λ k a. expansion-promised store a;
           without-include = λ k a n.
-              let f : Answered (expanded lent (reached (meaning k) 0)) r after = rw (without-include store (a .derived) n) at (expands k a) in
+              let f : AnsweredBy (expanded lent (reached (meaning k) 0)) r after = rw (without-include store (a .derived) n) at (expands k a) in
               let p = listed-read (accepted-list message start end a) (addresses.refusal lent) (written lent) in
-              rw p (f .answer-is, f .text-is, f .openings-is);
+              rw p (f .answered, f .openings-is);
+          no-list = λ s n.
+              let w = scanned-unlisted message start end s (λ k d. n k (record { scans = s; derived = d .derived; within = d .within })) in
+              let f = refused-with (w .reads) e in
+              (record { why = w .why; rest = w .rest; right = w .right; tells = f .answered .told-is }, f .openings-is, f .answered .bytes-are);
+          unread = λ n p s.
+              let f = refused-with (unscanned message start end s) e in
+              (f .answered .told-is, f .openings-is, f .answered .bytes-are);
         },
       )
 
@@ -106,7 +118,7 @@ module _ (message : List ℕ) (start end : ℕ) (store lent : List ℕ) where
   pub refused-promised : (table : List ℕ) (n p : ℕ) → Refused n p ≡ outcome message start end table .answer → Promised (record { answer = Refused n p; openings = 0 }) lent
   refused-promised table n p e =
       promised (record { answer = Refused n p; openings = 0 }) lent
-      (rw (refused-told message start end table n p e Outcome (refusal lent 0) (λ k. expanded lent (expansion store k))) (record { answer-is = refl; openings-is = refl; text-is = refl }))
+      (rw (refused-told message start end table n p e Outcome (refusal lent 0) (λ k. expanded lent (expansion store k))) (record { answered = answered refl refl; openings-is = refl }))
 
   -- the reader does not refuse
   trail-outcome : (e : Expansion) → expanded lent e ≡ trailOutcome lent (onward e (λ m u. wrote (addressesText m []) u))

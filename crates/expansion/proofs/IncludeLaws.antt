@@ -14,7 +14,7 @@ use Rattle.scanner.specs.Answers.{nextOf}
 use Rattle.scanner.specs.declared.Class.{Class}
 use Rattle.scanner.specs.declared.Class.the-variants.{Atom, Colon}
 use Rattle.scanner.specs.declared.Next.{Next}
-use Rattle.scanner.proofs.Meanings.{meaningAt}
+use Rattle.scanner.specs.Meanings.{meaningAt}
 use Rattle.scanner.proofs.Unfolding.{SymbolAt}
 use Rattle.grammar.specs.Grammar.{begins}
 use Rattle.grammar.specs.Rfc733.{sameClass}

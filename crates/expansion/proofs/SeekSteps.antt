@@ -8,7 +8,7 @@ use Rattle.scanner.specs.Answers.{nextOf}
 use Rattle.scanner.specs.declared.Class.{Class}
 use Rattle.scanner.specs.declared.Class.the-variants.{Atom, Quoted, At, LessThan, GreaterThan, Comma, Semicolon, Colon, Stray, Dot, Literal}
 use Rattle.scanner.specs.declared.Next.{Next}
-use Rattle.scanner.proofs.Meanings.{meaningAt}
+use Rattle.scanner.specs.Meanings.{meaningAt}
 use Rattle.scanner.proofs.Unfolding.{SymbolAt}
 use Rattle.plain.proofs.WalkSteps.{NoneComes}
 use mathlib.Core.Bool.{Bool, true, false}

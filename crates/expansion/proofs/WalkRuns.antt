@@ -10,13 +10,13 @@ use Rattle.octets.specs.Choice.{pick}
 use Rattle.octets.specs.Classes.{classTable}
 use Rattle.octets.specs.Numbers.{messageLimit, levelLimit, openingLimit, storeRecordSize, leadsNowhere}
 use Rattle.octets.proofs.Writes.{wrote-both}
-use Rattle.scanner.specs.Scanning.{scan, scanBy, symbolsOf, symbol}
+use Rattle.scanner.specs.Scanning.{scan, scanBy, symbolsOf}
 use Rattle.scanner.specs.Answers.{nextOf}
 use Rattle.scanner.specs.declared.Class.{Class}
 use Rattle.scanner.specs.declared.Class.the-variants.{Atom, Quoted, At, LessThan, GreaterThan, Comma, Semicolon, Colon, Stray, Dot, Literal}
 use Rattle.scanner.specs.declared.Next.{Next}
 use Rattle.scanner.specs.declared.Next.the-variants.{Found, Ended, Fault}
-use Rattle.scanner.proofs.Meanings.{meaningAt}
+use Rattle.scanner.specs.Meanings.{meaningAt}
 use Rattle.scanner.proofs.Unfolding.{SymbolAt, found}
 use Rattle.plain.specs.Walking.{symbolText, after, afterComma, colonNext}
 use Rattle.plain.specs.Writing.{isColon}

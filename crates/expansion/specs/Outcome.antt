@@ -2,6 +2,7 @@
 use Prim.Native.Nat.{ℕ}
 use mathlib.Core.Path.{_≡_}
 use mathlib.Core.List.{List, []}
+use Rattle.octets.specs.Answers.{Answered}
 use Rattle.octets.specs.Fitting.{fittingAnswer, fittingText}
 use Rattle.octets.specs.declared.answers.Answer.{Answer}
 use Rattle.octets.specs.declared.answers.Answer.the-variants.{Refused}
@@ -34,7 +35,6 @@ abbrev pub expandOutcome : List ℕ → ℕ → ℕ → List ℕ → List ℕ �
 expandOutcome message start end store lent = bodyRead (refusal lent 0) (λ k. expanded lent (expansion store k)) message start end
 
 -- an answer and a lent text afterwards are those of an outcome
-pub record Answered (o : Outcome) (r : Expanded) (after : List ℕ) : Type 0 where
-  pub answer-is : r .answer ≡ o .answer
+pub record AnsweredBy (o : Outcome) (r : Expanded) (after : List ℕ) : Type 0 where
+  pub answered : Answered (o .answer) (o .text) (r .answer) after
   pub openings-is : r .openings ≡ o .openings
-  pub text-is : after ≡ o .text

@@ -5,13 +5,20 @@ use mathlib.Core.Bool.{false}
 use mathlib.Core.List.{List, []}
 use lib.Dec.{eqb}
 use lib.ListN.{length}
+use Rattle.octets.specs.Answers.{telling, told}
 use Rattle.octets.specs.Numbers.{messageLimit, openingLimit}
+use Rattle.octets.specs.declared.answers.Answer.the-variants.{Accepted, Refused}
+use Rattle.scanner.specs.Answers.{bodyScanned}
 use Rattle.grammar.specs.Rfc733.{Derivation, kindNumber, include}
+use Rattle.addresses.specs.Editions.{edition733}
+use Rattle.addresses.specs.Outcome as addresses
+use Rattle.addresses.specs.Outcome.{bodySymbols}
+use Rattle.addresses.specs.Condition3.{RightlyRefused}
 use Rattle.plain.specs.Meaning.{Addresses, noAddress, andAddress, Address, address, meaning}
 use Rattle.plain.specs.PlainText.{addressesText, plainText}
 use Rattle.plain.specs.RoundTrip.{AcceptedBody}
 use Rattle.plain.specs.Written.{plainOutcome}
-use Rattle.expansion.specs.Outcome.{expanded, Answered}
+use Rattle.expansion.specs.Outcome.{expanded, AnsweredBy}
 use Rattle.expansion.specs.declared.Expanded.{Expanded}
 use Rattle.expansion.specs.Expansion.{Expansion, stopped, reached, expansion}
 
@@ -44,9 +51,14 @@ Promised (reached m openings) = ExpandedWell m openings
 -- of an answer and a lent text afterwards, over the grammar and apart from any reader
 pub record Promises (message : List ℕ) (start end : ℕ) (store lent : List ℕ) (r : Expanded) (after : List ℕ) : Type 0 where
   -- of an accepted body its expansion is answered
-  pub expands : (k : Derivation) → AcceptedBody message start end k → Answered (expanded lent (expansion store k)) r after
+  pub expands : (k : Derivation) → AcceptedBody message start end k → AnsweredBy (expanded lent (expansion store k)) r after
   -- what is promised of that expansion
   pub promised : (k : Derivation) → AcceptedBody message start end k → Promised (expansion store k)
   -- a body without Include gives what plain writing gives, with no opening
   pub without-include : (k : Derivation) → AcceptedBody message start end k → NoInclude (meaning k)
-      → (r .answer ≡ plainOutcome message start end lent .answer) × (after ≡ plainOutcome message start end lent .table) × (r .openings ≡ 0)
+      → addresses.AnsweredBy (plainOutcome message start end lent) (r .answer) after × (r .openings ≡ 0)
+  -- a body that scans without fault and is no list is refused with 8, 9 or 10, as condition 3 has it, with no opening, and the lent text is unchanged
+  pub no-list : bodyScanned message start end ≡ Accepted 0 → ((k : Derivation) → AcceptedBody message start end k → ⊥)
+      → RightlyRefused edition733 (bodySymbols message start end) end (r .answer) × (r .openings ≡ 0) × (after ≡ lent)
+  -- any other is refused with the number and position of the check or of the fault
+  pub unread : (number position : ℕ) → bodyScanned message start end ≡ Refused number position → (told (r .answer) ≡ telling number position 0) × (r .openings ≡ 0) × (after ≡ lent)

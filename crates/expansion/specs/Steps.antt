@@ -15,7 +15,7 @@ use Rattle.octets.specs.Choice.{pick}
 use Rattle.expansion.specs.Store.{orElse, listIn}
 use Rattle.plain.specs.declared.places.Place.{Place}
 use Rattle.octets.specs.Writing.{Wrote}
-use Rattle.scanner.proofs.Meanings.{meaningAt}
+use Rattle.scanner.specs.Meanings.{meaningAt}
 use Rattle.plain.specs.Walking.{walkText, symbolText, after, afterComma}
 use Rattle.plain.specs.declared.places.Place.the-variants.{Start}
 use Rattle.expansion.specs.Walk.{Sym, untilEnd, ends, innerAfter, levelsAfter, includeNext, includeHere, behindOne, inTyped, sought, Trail, halted, wrote, before, writing, walk, walkWithin, walked, Phase, nothing, words, nodes, onlyFrom, namedBy}
@@ -36,7 +36,7 @@ use Rattle.expansion.specs.declared.Around.{Around}
 use Rattle.expansion.specs.declared.Around.the-variants.{Body, Inside}
 use Rattle.expansion.specs.declared.Stage.{Stage}
 use Rattle.expansion.specs.declared.Expanded.{Expanded}
-use Rattle.expansion.specs.Outcome.{Outcome, refusal, fitted, Answered}
+use Rattle.expansion.specs.Outcome.{Outcome, refusal, fitted, AnsweredBy}
 use Rattle.expansion.specs.declared.Opening.{Opening}
 use Rattle.expansion.specs.declared.Opening.the-variants.{Opens, Faulty}
 use Rattle.expansion.specs.declared.Walked.{Walked}
@@ -313,4 +313,4 @@ module _ (classes store text : List ℕ) (start : ℕ) where
 
   -- a list is expanded
   abbrev pub ListExpanded : List ℕ → List ℕ → Expanded → Type 0
-  ListExpanded out after′ r = Answered (trailOutcome out (walked store (symbolsFrom classes text start))) r after′
+  ListExpanded out after′ r = AnsweredBy (trailOutcome out (walked store (symbolsFrom classes text start))) r after′

@@ -19,7 +19,7 @@ ghost use Rattle.expansion.specs.Store.{withoutZeros, nameIn, lowest as 
 ghost use Rattle.expansion.specs.Walk.{ends, opens as opensAddress, isTyping, heldBy, nothing, withWord, notWords, only, firstOf, sought, withList, withTyped, withoutOne, withoutTyped, innerAfter};
 ghost use Rattle.addresses.specs.Steps.{symbolsFrom};
 ghost use Rattle.expansion.specs.Steps.{asRecord, asHeld, sortOf, Follows, LevelsAfter, skipTo, addressFrom, asPhase, OnlyIs, turnOf, namedIf, IncludeWordIs, IncludeIs, InTypedIs, OpenedIs, placeOf, levelsAround, joinedStage, openedStage, WriteOnIs, faultIn, OpeningIs, RecordReady, RecordWalked, WalkReady, TextWalked, BodyReady, BodyWalked, ListExpanded};
-ghost use Rattle.expansion.specs.Outcome.{Answered, expandOutcome};
+ghost use Rattle.expansion.specs.Outcome.{AnsweredBy, expandOutcome};
 ghost use Rattle.expansion.specs.Promises.{Promises};
 use octets::answers::Answer;
 use octets::classes::CLASSES;
@@ -909,7 +909,7 @@ fn expand_list(
 
 // Write plainly the address list in the body of a message from start up to end, with the lists of a store in place of its Includes.
 pub fn expand(message: &[u8], start: usize, end: usize, store: &[u8], text: &mut [u8]) -> Expanded
-    ensures outcome { λ r. ⌜ Answered (expandOutcome (now (message .entry)) start end (now (store .entry)) (now (text .entry))) r (now (text .exit)) ⌝ }
+    ensures outcome { λ r. ⌜ AnsweredBy (expandOutcome (now (message .entry)) start end (now (store .entry)) (now (text .entry))) r (now (text .exit)) ⌝ }
     ensures promises { λ r. ⌜ Promises (now (message .entry)) start end (now (store .entry)) (now (text .entry)) r (now (text .exit)) ⌝ }
 {
     match addresses::read_addresses(message, start, end, &mut text[..0]) {

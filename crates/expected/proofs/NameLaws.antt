@@ -12,13 +12,13 @@ use Rattle.grammar.specs.Rfc733.{Derivation, DerivedList, RightWithin}
 use Rattle.grammar.proofs.Trees.{Class, Atom, Quoted, At, LessThan, GreaterThan, Comma, Semicolon, Colon, Sym, of, AddressList, listLevels, DerivedTree}
 use Rattle.grammar.proofs.AnyMachine.{Step, go, stop, standsBy}
 use Rattle.grammar.proofs.AnyMachine as any-machine
-use Rattle.grammar.proofs.AddressMachine.{State, step, run, read, judge, finish, start}
+use Rattle.grammar.specs.Executable.Machine733.{State, step, run, read, judge, finish, start}
 use Rattle.grammar.proofs.Steps.{machine}
 use Rattle.grammar.proofs.Rows.{asRow, row-levels, row-derived, tree-derived}
 use Rattle.grammar.proofs.Condition3.{asRows, answer-only, goes-on-row, goes-on-tree}
 use Rattle.expected.specs.Things.{Thing, word, at, atSign, lessThan, greaterThan, comma, semicolon, colon, bodyEnd, IsOf, GoesOnWith, Could, goesOn, ends, ExactlyWhereRefused, ExactlyAtTheEnd, Alike, sameClass, bothWords, AlikeGoOn}
 use Rattle.expected.specs.Things as things
-use Rattle.expected.specs.Named.{goes, isSome, anywhere, takes, namedAt, named}
+use Rattle.expected.specs.Named.{NamesExactly, goes, isSome, anywhere, takes, namedAt, named}
 use Rattle.expected.proofs.ClassAlone.{word-same, step-any}
 
 -- ---- a symbol that a state takes is one with which a list goes on
@@ -146,6 +146,9 @@ names-at-end limit xs k d v =
     let f = any-machine.stood-at-end DerivedTree listLevels step finish start machine limit l xs t (omega (arith, row-levels l)) in
     let s = standsBy step limit start xs in
     record { only = named-could limit xs s f; all = could-named limit xs s f }
+
+pub names-exactly : NamesExactly
+names-exactly = record { where-refused = names-right; at-the-end = names-at-end }
 
 -- ---- an atom and a quoted-string, "at" and "@"
 

@@ -1,5 +1,5 @@
--- What is named, as a function: the machine which the crate `grammar` proves right says it of the state in which it stands.
--- Nothing here needs to be believed: `Things` says the same without it.
+-- The executable layer: what is named, as a function; the machine of the grammar says it of the state in which it stands.
+-- Nothing here needs to be believed: `NamesExactly` says what is named, over the grammar alone.
 use Prim.Native.Nat.{ℕ}
 use mathlib.Core.Bool.{Bool, true, false}
 use mathlib.Core.List.{List, []}
@@ -12,10 +12,10 @@ use Rattle.scanner.specs.Scanning.{scan, symbolsOf}
 use Rattle.scanner.specs.Answers.{bodyChecked, unlessFault}
 use Rattle.scanner.specs.declared.Class.{Class}
 use Rattle.scanner.specs.declared.Class.the-variants.{Atom, Quoted, At, LessThan, GreaterThan, Comma, Semicolon, Colon}
-use Rattle.grammar.proofs.AnyMachine.{Step, go, stop, standsBy}
-use Rattle.grammar.proofs.AddressMachine.{State, stepOn, step, finish}
-use Rattle.grammar.proofs.AddressMachine as machine
-use Rattle.expected.specs.Things.{Thing, word, at, atSign, lessThan, greaterThan, comma, semicolon, colon, bodyEnd, sumOf}
+use Rattle.grammar.specs.Executable.Machines.{Step, go, stop, standsBy}
+use Rattle.grammar.specs.Executable.Machine733.{State, stepOn, step, finish}
+use Rattle.grammar.specs.Executable.Machine733 as machine
+use Rattle.expected.specs.Things.{ExactlyWhereRefused, ExactlyAtTheEnd, Thing, word, at, atSign, lessThan, greaterThan, comma, semicolon, colon, bodyEnd, sumOf}
 
 -- a step goes on
 abbrev pub goes : {S : Type 0} → Step S → Bool
@@ -50,6 +50,11 @@ namedAt limit s bodyEnd = isSome (finish s)
 -- what is named for these symbols: the machine stands before the refused one, or at the end
 abbrev pub named : ℕ → List (Symbol Class) → Thing → Bool
 named limit symbols = namedAt limit (standsBy step limit machine.start symbols)
+
+-- a thing is named exactly if it could stand there: where symbols are rightly refused, and at the end of a list
+pub record NamesExactly : Type 0 where
+  pub where-refused : (limit : ℕ) (symbols : List (Symbol Class)) → ExactlyWhereRefused limit symbols (named limit symbols)
+  pub at-the-end : (limit : ℕ) (symbols : List (Symbol Class)) → ExactlyAtTheEnd limit symbols (named limit symbols)
 
 -- the sum for the body of a message from `start` up to `end`: what could stand where reading stops; 0 where it is not read
 abbrev pub expectedIn : List ℕ → ℕ → ℕ → ℕ

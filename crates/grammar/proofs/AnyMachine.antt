@@ -9,43 +9,7 @@ use mathlib.Core.Option.{Option, none, some}
 use Rattle.scanner.specs.Symbols.{Symbol}
 use Rattle.grammar.specs.Language.{AtMost, MoreThan, upTo, GoesOn, FirstRefused, Refusal, unfit, unfinished, tooDeep, Verdict, accepted, refused, Right}
 use Rattle.grammar.proofs.OnlyRight.{goes-on-at, refused-whole}
-
--- a step goes on to a state, or stops
-pub data Step (S : Type 0) : Type 0 where
-  go : S → Step S
-  stop : Refusal → Step S
-
--- a run comes to a state at the end, or stops before these symbols
-pub data Result (C S : Type 0) : Type 0 where
-  ended : S → Result C S
-  stopped : Refusal → List (Symbol C) → Result C S
-
-abbrev pub after : {C S : Type 0} → Step S → (S → Result C S) → List (Symbol C) → Result C S
-after (go s) run xs = run s
-after (stop why) run xs = stopped why xs
-
--- `step` takes the number of levels, a state and a symbol
-abbrev pub runBy : {C S : Type 0} → (ℕ → S → Symbol C → Step S) → ℕ → S → List (Symbol C) → Result C S
-runBy step n s [] = ended s
-runBy step n s (x ∷ xs) = after (step n s x) (λ s′. runBy step n s′ xs) (x ∷ xs)
-
-abbrev pub atEnd : {C T : Type 0} → Option T → Verdict C T
-atEnd none = refused unfinished []
-atEnd (some t) = accepted t
-
--- `finish` gives the derivation, if a state is the end of one
-abbrev pub verdictBy : {C S T : Type 0} → (S → Option T) → Result C S → Verdict C T
-verdictBy finish (ended s) = atEnd (finish s)
-verdictBy finish (stopped why xs) = refused why xs
-
--- the state in which a run stops, or ends
-abbrev pub standsAfter : {S : Type 0} → Step S → (S → S) → S → S
-standsAfter (go s) more here = more s
-standsAfter (stop why) more here = here
-
-abbrev pub standsBy : {C S : Type 0} → (ℕ → S → Symbol C → Step S) → ℕ → S → List (Symbol C) → S
-standsBy step n s [] = s
-standsBy step n s (x ∷ xs) = standsAfter (step n s x) (λ s′. standsBy step n s′ xs) s
+pub use Rattle.grammar.specs.Executable.Machines.{Step, Result, after, runBy, atEnd, verdictBy, standsAfter, standsBy, go, stop, ended, stopped}
 
 -- more levels change nothing but the refusal of a level
 abbrev pub Steady : {S : Type 0} → ℕ → (ℕ → Step S) → Step S → Type 0

@@ -8,27 +8,9 @@ use mathlib.Core.Option.{Option, none, some}
 use Rattle.octets.specs.Choice.{pick}
 use Rattle.scanner.specs.Symbols.{Lexeme, Symbol}
 use Rattle.grammar.specs.Language.{AtMost, MoreThan, GoesOn, FirstRefused, unfit, unfinished, tooDeep, Verdict, accepted, refused, Right}
-use Rattle.grammar.proofs.AnyMachine.{Step, go, stop, Result, ended, stopped, after, runBy, atEnd, verdictBy, Steady, Machine}
+use Rattle.grammar.proofs.AnyMachine.{Result, ended, stopped, after, runBy, atEnd, verdictBy, Steady, Machine}
 use Rattle.grammar.proofs.Pieces.{mark}
-
-pub record Arrow (C S : Type 0) : Type 0 where
-  pub class : C
-  pub to : Lexeme → S
-
-abbrev pub on : {C S : Type 0} → C → (Lexeme → S) → Arrow C S
-on c f = record { class = c; to = f }
-
--- where the first arrow of the symbol's class leads
-abbrev pub look : {C S : Type 0} → (C → C → Bool) → List (Arrow C S) → Symbol C → Option S
-look same [] x = none
-look same (a ∷ arrows) x = pick (same (a .class) (x .class)) (some (a .to (x .lexeme))) (look same arrows x)
-
-abbrev pub taken : {S : Type 0} → Option S → Step S
-taken none = stop unfit
-taken (some s) = go s
-
-abbrev pub stepBy : {C S : Type 0} → (C → C → Bool) → (S → List (Arrow C S)) → ℕ → S → Symbol C → Step S
-stepBy same arrows n s x = taken (look same (arrows s) x)
+pub use Rattle.grammar.specs.Executable.Machines.{Arrow, on, look, taken, stepBy}
 
 taken-steady : {S : Type 0} (n : ℕ) (o : Option S) → Steady n (λ m. taken o) (taken o)
 taken-steady n none = λ m. refl

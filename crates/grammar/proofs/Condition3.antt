@@ -10,23 +10,14 @@ use Rattle.grammar.specs.Grammar.{levels}
 use Rattle.grammar.specs.Language.{GoesOn, FirstRefused, unfit, unfinished, tooDeep, Verdict, accepted, refused, Right}
 use Rattle.grammar.specs.Rfc733.{list, rfc733, Derivation, DerivedList, RightWithin}
 use Rattle.grammar.proofs.AnyReader as any-reader
-use Rattle.grammar.proofs.AnyReader.{Reads}
+use Rattle.grammar.specs.Executable.{Decides733}
 use Rattle.grammar.proofs.AnyMachine as any-machine
 use Rattle.grammar.proofs.AnyMachine.{Step, go, stop, Result, after, atEnd, not-too-deep}
 use Rattle.grammar.proofs.Trees.{Lexeme, Sym, of, atomWord, quotedWord, AddressList, listLevels, DerivedTree}
-use Rattle.grammar.proofs.AddressMachine.{State, complete, onWord, onAt, onComma, onGreaterThan, onSemicolon, stepOn, step, run, read, judge, finish, start}
+use Rattle.grammar.specs.Executable.Machine733.{State, complete, onWord, onAt, onComma, onGreaterThan, onSemicolon, stepOn, step, run, read, judge, finish, start}
 use Rattle.grammar.proofs.Steps.{machine}
 use Rattle.grammar.proofs.Rows.{asRow, row-levels, row-derived, tree-derived}
-
--- ---- the executable answer
-
-abbrev pub asRows : Verdict Class AddressList → Verdict Class Derivation
-asRows (accepted l) = accepted (asRow l)
-asRows (refused why rest) = refused why rest
-
--- the machine's verdict on these symbols, with at most `limit` levels
-abbrev pub answer : ℕ → List Sym → Verdict Class Derivation
-answer limit xs = asRows (read limit xs)
+pub use Rattle.grammar.specs.Executable.Machine733.{asRows, answer}
 
 -- ---- what is right of trees is right of derivations
 
@@ -88,24 +79,20 @@ one-derivation {k} {k′} {xs} d e =
     p ∙ ap asRow (one-tree d′ e′) ∙ sym p′
 
 -- what is proved of this edition
-pub reads : Reads rfc733 list 0 answer
-reads = record { right = λ limit h xs. answer-right limit xs; one = λ k k′ xs d e. one-derivation d e }
+pub decides : Decides733
+decides = any-reader.decides-by rfc733 list 0 answer (λ limit h xs. answer-right limit xs) (λ k k′ xs d e. one-derivation d e)
 
--- a right verdict is the only right one
-pub only-verdict : (limit : ℕ) (xs : List Sym) (v w : Verdict Class Derivation) → RightWithin limit xs v → RightWithin limit xs w → v ≡ w
-only-verdict limit xs = any-reader.only-verdict rfc733 list 0 answer reads limit xs
-
--- .. and it is the answer
+-- a right verdict is the answer
 pub answer-only : (limit : ℕ) (xs : List Sym) (v : Verdict Class Derivation) → RightWithin limit xs v → v ≡ answer limit xs
-answer-only limit xs v r = any-reader.answer-only rfc733 list 0 answer reads limit (omega arith) xs v r
+answer-only limit xs v r = decides .only limit (omega arith) xs v r
 
 -- a derivation of at most `limit` levels is accepted as itself
 pub answer-accepts : (limit : ℕ) {k : Derivation} {xs : List Sym} → DerivedList k xs → levels k ≤ limit → answer limit xs ≡ accepted k
-answer-accepts limit d v = any-reader.answer-accepts rfc733 list 0 answer reads limit (omega arith) d v
+answer-accepts limit d v = any-reader.answer-accepts rfc733 list 0 answer decides limit (omega arith) d v
 
 -- .. and only that is accepted
 pub answer-derives : (limit : ℕ) {k : Derivation} {xs : List Sym} → answer limit xs ≡ accepted k → DerivedList k xs × (levels k ≤ limit)
-answer-derives limit {k} {xs} e = any-reader.answer-derives rfc733 list 0 answer reads limit (omega arith) {xs = xs} e
+answer-derives limit {k} {xs} e = any-reader.answer-derives rfc733 list 0 answer decides limit (omega arith) {xs = xs} e
 
 -- ---- the place of 10
 

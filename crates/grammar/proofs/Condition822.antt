@@ -10,7 +10,8 @@ use Rattle.grammar.proofs.AnyMachine as any-machine
 use Rattle.grammar.proofs.Arrows as arrows
 use Rattle.grammar.proofs.Ranks as ranks
 use Rattle.grammar.proofs.Ranks.{ranked}
-use Rattle.grammar.proofs.AnyReader.{Reads}
+use Rattle.grammar.specs.Executable.{Decides822}
+use Rattle.grammar.proofs.AnyReader.{decides-by}
 use Rattle.grammar.proofs.Trees822.{Class, Sym, DerivedList}
 use Rattle.grammar.proofs.Machine822.{step, finish, start, read}
 use Rattle.grammar.proofs.Complete822.{machine}
@@ -56,12 +57,12 @@ all-ranked word = refl
 pub two-levels : (k : Row Class Notion) (xs : List Sym) → DerivedList k xs → levels k ≤ 2
 two-levels k xs d = ranks.bounded rank rfc822 all-ranked d
 
-pub reads : Reads rfc822 list 2 read
-reads =
-    record {
-      right = λ limit h xs. arrows.right-bounded DerivedList levels 2 limit h two-levels xs (read limit xs) (any-machine.right DerivedList (λ k. 0) step finish start machine limit xs);
-      one = any-machine.unique DerivedList (λ k. 0) step finish start machine;
-    }
+-- what is proved of this edition
+pub decides : Decides822
+decides =
+    decides-by rfc822 list 2 read
+    (λ limit h xs. arrows.right-bounded DerivedList levels 2 limit h two-levels xs (read limit xs) (any-machine.right DerivedList (λ k. 0) step finish start machine limit xs))
+    (any-machine.unique DerivedList (λ k. 0) step finish start machine)
 
 -- 10 never occurs
 pub never-ten : (limit : ℕ) → 2 ≤ limit → (xs rest : List Sym) → Right DerivedList levels limit xs (refused tooDeep rest) → ⊥

@@ -3,7 +3,6 @@ pub mod OnlyRight
 pub mod AnyMachine
 pub mod Trees
 pub mod HouseRule
-pub mod AddressMachine
 pub mod Complete
 pub mod Sound
 pub mod Steps

@@ -5,23 +5,12 @@ use mathlib.Core.Path.{_≡_, refl, ap, ap₂, _∙_}
 use mathlib.Core.List.{List, [], _∷_, List·Memᴰ, List·Memᴰ·head as here, List·Memᴰ·tail as there}
 use lib.ListN.{length, getD}
 use Rattle.scanner.specs.Symbols.{Lexeme, Symbol}
-use Rattle.grammar.specs.Grammar.{Item, symbol, part, Rule, Grammar, Row, nil, leaf, branch, yield, Allowed, Fits, done, take, apply, Derived}
+use Rattle.grammar.specs.Grammar.{Item, symbol, part, Rule, Grammar, Row, nil, leaf, yield, Allowed, Fits, done, take, apply, Derived}
+pub use Rattle.grammar.specs.Executable.Trees822.{Piece, piece, put}
 
 -- the symbol of a class with a lexeme
 abbrev pub mark : {C : Type 0} → C → Lexeme → Symbol C
 mark c t = record { class = c; lexeme = t }
-
--- a rule, and the row of its parts
-pub record Piece (C N : Type 0) : Type 0 where
-  pub rule : Rule C N
-  pub parts : Row C N
-
-abbrev pub piece : {C N : Type 0} → Rule C N → Row C N → Piece C N
-piece r p = record { rule = r; parts = p }
-
--- a piece before a row
-abbrev pub put : {C N : Type 0} → Piece C N → Row C N → Row C N
-put p k = branch (p .rule) (p .parts) k
 
 pub member : {R : Type 0} (rs : List R) (i : ℕ) (r : R) → i < length rs → List·Memᴰ (getD rs i r) rs
 member [] i r h = absurd (omega arith)

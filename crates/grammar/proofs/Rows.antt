@@ -1,4 +1,4 @@
--- The trees of `Trees` are the derivations of the grammar `rfc733`. Assumes nothing.
+-- The trees of RFC 733 are the derivations of the grammar `rfc733`. Assumes nothing.
 use Prim.Native.Nat.{ℕ, zero, suc, max, _<_}
 use native.Mathlib.Omega.{arith}
 use mathlib.Core.Path.{_≡_, refl, sym, ap, ap₂, _∙_}
@@ -8,46 +8,8 @@ use mathlib.Core.Option.{none, some}
 use lib.ListN.{length, getD}
 use Rattle.grammar.specs.Grammar.{Item, symbol, part, Rule, nil, leaf, branch, yieldThen, yield, levels, begins, Allowed, Fits, done, take, apply}
 use Rattle.grammar.specs.Rfc733.{sameClass, plain, rulesOf, Notion, list, place, address, phrase, atNodes, node, word, rfc733, Derivation, DerivedList}
-use Rattle.grammar.proofs.Trees.{Class, Atom, Quoted, At, LessThan, GreaterThan, Comma, Semicolon, Colon, Lexeme, Sym, of, Word, atomWord, quotedWord, Phrase, one, more, Nodes, first, next, Place, empty, comma, AddressList, idle, full, Address, mailbox, angle, group, quoted, typed, wordSymbol, phraseThen, nodesThen, placeThen, listThen, addressThen, placeLevels, listLevels, addressLevels, placeLawful, listLawful, addressLawful, DerivedTree}
-
--- the i-th rule of a notion
-abbrev pub ruleOf : Notion → ℕ → Rule Class Notion
-ruleOf A i = getD (rulesOf A) i (plain [])
-
--- ---- a tree as a row of the grammar, before the row `k`
-
-abbrev pub wordRow : Word → Derivation → Derivation
-wordRow (atomWord t) k = branch (ruleOf word 0) (leaf (of Atom t) nil) k
-wordRow (quotedWord t) k = branch (ruleOf word 1) (leaf (of Quoted t) nil) k
-
-abbrev pub phraseRow : Phrase → Derivation → Derivation
-phraseRow (one w) k = branch (ruleOf phrase 0) (wordRow w nil) k
-phraseRow (more p w) k = branch (ruleOf phrase 1) (phraseRow p (wordRow w nil)) k
-
-abbrev pub nodeRow : Word → Derivation → Derivation
-nodeRow w k = branch (ruleOf node 0) (wordRow w nil) k
-
-abbrev pub nodesRow : Nodes → Derivation → Derivation
-nodesRow (first t w) k = branch (ruleOf atNodes 0) (leaf (of At t) (nodeRow w nil)) k
-nodesRow (next m t w) k = branch (ruleOf atNodes 1) (nodesRow m (leaf (of At t) (nodeRow w nil))) k
-
-abbrev mutual
-  pub placeRow : Place → Derivation → Derivation
-  placeRow empty k = branch (ruleOf place 0) nil k
-  placeRow (comma l t) k = branch (ruleOf place 1) (listRow l (leaf (of Comma t) nil)) k
-
-  pub listRow : AddressList → Derivation → Derivation
-  listRow (idle r) k = branch (ruleOf list 1) (placeRow r nil) k
-  listRow (full r a) k = branch (ruleOf list 0) (placeRow r (addressRow a nil)) k
-
-  pub addressRow : Address → Derivation → Derivation
-  addressRow (mailbox p m) k = branch (ruleOf address 0) (phraseRow p (nodesRow m nil)) k
-  addressRow (angle none t l u) k = branch (ruleOf address 2) (leaf (of LessThan t) (listRow l (leaf (of GreaterThan u) nil))) k
-  addressRow (angle (some p) t l u) k = branch (ruleOf address 1) (phraseRow p (leaf (of LessThan t) (listRow l (leaf (of GreaterThan u) nil)))) k
-  addressRow (group none t l u) k = branch (ruleOf address 4) (leaf (of Colon t) (listRow l (leaf (of Semicolon u) nil))) k
-  addressRow (group (some p) t l u) k = branch (ruleOf address 3) (phraseRow p (leaf (of Colon t) (listRow l (leaf (of Semicolon u) nil)))) k
-  addressRow (quoted t) k = branch (ruleOf address 5) (leaf (of Quoted t) nil) k
-  addressRow (typed t a u b) k = branch (ruleOf address 6) (leaf (of Colon t) (leaf (of Atom a) (leaf (of Colon u) (addressRow b nil)))) k
+use Rattle.grammar.proofs.Trees.{Class, Atom, At, LessThan, GreaterThan, Comma, Semicolon, Colon, Lexeme, Sym, of, Word, atomWord, quotedWord, Phrase, one, more, Nodes, first, next, Place, empty, comma, AddressList, idle, full, Address, mailbox, angle, group, quoted, typed, wordSymbol, phraseThen, nodesThen, placeThen, listThen, addressThen, placeLevels, listLevels, addressLevels, placeLawful, listLawful, addressLawful, DerivedTree}
+pub use Rattle.grammar.specs.Executable.Trees733.{ruleOf, wordRow, phraseRow, nodeRow, nodesRow, placeRow, listRow, addressRow, asRow}
 
 -- ---- the same symbols
 
@@ -265,10 +227,6 @@ parts (take {x = x} {row = k} e d) = (x .lexeme, k, ap (λ c. leaf (of c (x .lex
 parts (apply {A = A} {rule = r} {parts = p} {row = k} m d v d′) = let (x, o, f) = tree A r p m (parts d) v in (x, k, o, f k, parts d′)
 
 -- ---- the two kinds of derivation
-
--- a tree as a derivation ..
-abbrev pub asRow : AddressList → Derivation
-asRow l = listRow l nil
 
 pub row-levels : (l : AddressList) → levels (asRow l) ≡ listLevels l
 row-levels l = omega (arith, list-levels l nil)

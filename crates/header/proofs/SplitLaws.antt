@@ -8,6 +8,8 @@ use lib.ListN.{length}
 use lib.Seq.{sets, length-sets}
 use Rattle.octets.specs.Numbers.{messageLimit, fieldRecordSize, messageTooLong}
 use Rattle.octets.specs.Stored.{roomFor}
+use Rattle.octets.specs.Answers.{Answered}
+use Rattle.octets.proofs.AnswerLaws.{answered}
 use Rattle.octets.specs.declared.answers.Answer.{Answer}
 use Rattle.octets.specs.declared.answers.Answer.the-variants.{Accepted, Refused, NoRoom}
 use Rattle.header.specs.Fields.{fieldOf, Header, ended, fault, lineStart, headerAt, headerOf}
@@ -61,11 +63,11 @@ module _ {message : List ℕ} {room : ℕ} {lent table : List ℕ} {at count : �
 
 -- the answer of splitting, and the table afterwards
 abbrev pub Split : List ℕ → List ℕ → Answer → List ℕ → Type 0
-Split message table r after = (r ≡ splitAnswer message table) × (after ≡ splitTable message table)
+Split message table r after = Answered (splitAnswer message table) (splitTable message table) r after
 
 module _ (message table : List ℕ) where
   settled : (r : Answer) → splitAnswer message table ≡ r → Split message table r (tableAfter r message table)
-  settled r e = (sym e, rw e)
+  settled r e = answered (sym e) (rw e)
 
   pub too-long : messageLimit < length message → Split message table (Refused messageTooLong messageLimit) table
   unfolding answerFor
@@ -78,15 +80,15 @@ module _ (message table : List ℕ) where
 
     pub refused : {n p : ℕ} {after : List ℕ} → after ≡ table → Refused n p ≡ answerIn (roomFor fieldRecordSize table) 0 (headerOf message)
         → Split message table (Refused n p) after
-    refused {n} {p} same e = let (r, t) = settled (Refused n p) (within-limit e) in (r, same ∙ t)
+    refused {n} {p} same e = let s = settled (Refused n p) (within-limit e) in answered (s .answer-is) (same ∙ s .bytes-are)
 
     pub no-room : {n : ℕ} {after : List ℕ} → after ≡ table → NoRoom n ≡ answerIn (roomFor fieldRecordSize table) 0 (headerOf message)
         → Split message table (NoRoom n) after
-    no-room {n} same e = let (r, t) = settled (NoRoom n) (within-limit e) in (r, same ∙ t)
+    no-room {n} same e = let s = settled (NoRoom n) (within-limit e) in answered (s .answer-is) (same ∙ s .bytes-are)
 
     -- accepted by the first run, and stored by the second
     pub accepted : {n : ℕ} {before after : List ℕ} {r : Answer} → before ≡ table
         → Accepted n ≡ answerIn (roomFor fieldRecordSize table) 0 (headerOf message) → Done message (roomFor fieldRecordSize table) before r after → Split message table r after
     accepted {n} same e done =
-        let (a, t) = settled (Accepted n) (within-limit e) in
-        (done .0 ∙ sym e ∙ a, done .1 ∙ rw same t)
+        let s = settled (Accepted n) (within-limit e) in
+        answered (done .0 ∙ sym e ∙ s .answer-is) (done .1 ∙ rw same (s .bytes-are))

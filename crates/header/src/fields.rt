@@ -6,6 +6,7 @@ ghost use lib.Seq.{sets};
 ghost use Rattle.octets.specs.Classes.{isWhite};
 ghost use Rattle.octets.specs.Numbers.{messageLimit, fieldRecordSize};
 ghost use Rattle.header.specs.Fields.{nameHolds, nameStartsWith, crlf, endsBody, lineStart, inName, inBody, fieldOf, headerAt, headerOf};
+ghost use Rattle.octets.specs.Answers.{Answered};
 ghost use Rattle.header.specs.Split.{recordOf, recordsOf, answerIn, splitAnswer, splitTable};
 ghost use Rattle.header.specs.Steps.{firstOf, GoesOn};
 use octets::answers::Answer;
@@ -238,7 +239,7 @@ fn store_fields(message: &[u8], room: usize, table: &mut [u8]) -> Answer
 
 // Split a message into its fields, and store their records in the table.
 pub fn split(message: &[u8], table: &mut [u8]) -> Answer
-    ensures { λ r. ⌜ (r ≡ splitAnswer (now (message .entry)) (now (table .entry))) × (now (table .exit) ≡ splitTable (now (message .entry)) (now (table .entry))) ⌝ }
+    ensures outcome { λ r. ⌜ Answered (splitAnswer (now (message .entry)) (now (table .entry))) (splitTable (now (message .entry)) (now (table .entry))) r (now (table .exit)) ⌝ }
 {
     if MESSAGE_LIMIT < message.len() {
         return Answer::Refused(MESSAGE_TOO_LONG, MESSAGE_LIMIT);

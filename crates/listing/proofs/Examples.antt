@@ -19,7 +19,8 @@ use Rattle.dates.specs.Parts.{isMark, isRun, keyOf, runs, parts}
 use Rattle.dates.specs.Grammar.{number, offsetOf}
 use Rattle.dates.specs.Calendar.{leap, monthLength, daysBeforeMonth, daysOfYears, dayNumber}
 use Rattle.dates.specs.Form.{firstKey, firstBytes, after, done, digitsOf as digitsPart, named, secondAfter, minuteAfter, hourOf, zoneNamed, zoneOf, hourAfter, pastDash, yearAfter, monthAfter, dayAfter, readingOf}
-use Rattle.dates.specs.Answers.{dayExists, timeExists, nameTrue, momentOf, dateAnswer}
+use Rattle.dates.specs.Answers.{dayExists, timeExists, nameTrue, momentOf}
+use Rattle.dates.specs.Outcome.{dateAnswer}
 use Rattle.listing.specs.Lines.{digitsOf, signed, spaced}
 use Rattle.listing.specs.Listing.{each, fieldText, listing}
 

@@ -18,7 +18,7 @@ use Rattle.grammar.specs.Grammar.{Row}
 use Rattle.grammar.specs.Records.{count, records}
 use Rattle.addresses.specs.Outcome.{Outcome, refusal}
 use Rattle.editions.specs.Outcome.{readOf}
-use Rattle.dates.specs.Answers.{dateAnswer}
+use Rattle.dates.specs.Outcome.{dateAnswer}
 use Rattle.dates.specs.declared.DateAnswer.{DateAnswer}
 use Rattle.dates.specs.declared.DateAnswer.the-variants as date
 use Rattle.listing.specs.Lines.{fieldLine, addressLine, dateLine, refusedLine}

@@ -14,7 +14,7 @@ ghost use Rattle.header.specs.Names.{knownOf};
 ghost use Rattle.listing.specs.Lines.{decimal, signed as signedText, addressLine, refusedLine};
 ghost use Rattle.listing.specs.Listing.{each, addressBody, dateText, body as bodyText, fieldText, headerText, listing};
 ghost use Rattle.listing.specs.Putting.{lineLimit, bodyLimit, fieldLimit, listingLimit, tabulate, number as numberText, four, fieldIn, Named, AllNamed, Fits};
-ghost use Rattle.dates.specs.Answers.{dateAnswer};
+ghost use Rattle.dates.specs.Outcome.{dateAnswer};
 use dates::DateAnswer;
 use dates::read_date;
 use editions::read_addresses;

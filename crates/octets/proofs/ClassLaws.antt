@@ -1,22 +1,15 @@
--- The class table has the class of each byte. Assumes nothing.
-use mathlib.Core.Path.{_≡_, refl}
-use mathlib.Core.Bool.{Bool}
-use mathlib.Core.List.{List}
+-- The rule of the classes by byte range, carried from the test over the whole of a table to each entry. Assumes nothing.
+use native.Mathlib.Omega.{arith}
 use Prim.Native.Nat.{ℕ, _<_}
+use mathlib.Core.Path.{_≡_}
+use mathlib.Core.List.{List}
 use lib.Dec.{T, eqb, eqb→eq}
 use lib.ListN.{length, getD}
-use Rattle.octets.specs.Classes.{classOf, classTable}
-use Rattle.octets.proofs.Tables.{every, at}
+use Rattle.octets.specs.Tests.{every}
+use Rattle.octets.specs.Classes.{classOf, isClassOf, byRange}
+use Rattle.octets.proofs.Tables.{both-left, both-right, at}
 
--- an entry is the class of the byte at whose place it stands
-abbrev pub right : ℕ → ℕ → Bool
-right b class = eqb class (classOf b)
-
--- the rule of any table that passes the test
-pub rule-of : (table : List ℕ) → T (every right 0 table) → (b : ℕ) → b < length table → getD table b 0 ≡ classOf b
-rule-of table t b h = eqb→eq (getD table b 0) (classOf b) (at right table 0 t b h)
-
--- the rule of the class table
-pub rule : (b : ℕ) → b < 256 → getD classTable b 0 ≡ classOf b
-unfolding classTable classOf
-rule b h = rule-of classTable tt b h
+pub entry : (table : List ℕ) → T (byRange table) → (b : ℕ) → b < 256 → getD table b 0 ≡ classOf b
+entry table t b h =
+    let n : length table ≡ 256 = eqb→eq (length table) 256 (both-left (eqb (length table) 256) (every isClassOf 0 table) t) in
+    eqb→eq (getD table b 0) (classOf b) (at isClassOf table 0 (both-right (eqb (length table) 256) (every isClassOf 0 table) t) b (omega arith))

@@ -1,5 +1,6 @@
 -- Laws that several crates cite.
 pub mod ChoiceLaws
+pub mod AnswerLaws
 pub mod Tables
 pub mod ClassLaws
 pub mod LetterLaws

@@ -7,6 +7,7 @@ use native.Mathlib.Nat.{add-zero, zero-add, add-suc, suc-add, le-of-suc-le-suc, 
 use lib.Dec.{T}
 use lib.ListN.{length, getD}
 use Rattle.octets.specs.Choice.{both}
+use Rattle.octets.specs.Tests.{every}
 
 pub is-true : (t : Bool) → T t → t ≡ true
 is-true true h = refl
@@ -21,18 +22,13 @@ both-right true b t = t
 both-right false b t = absurd t
 
 module _ {A : Type 0} (test : ℕ → A → Bool) where
-  -- the test holds of each entry and its place, places counted from i
-  abbrev pub every : ℕ → List A → Bool
-  every i [] = true
-  every i (x ∷ xs) = both (test i x) (every (suc i) xs)
-
-  from : (xs : List A) (d : A) (i : ℕ) → T (every i xs) → (k : ℕ) → k < length xs → T (test (i + k) (getD xs k d))
+  from : (xs : List A) (d : A) (i : ℕ) → T (every test i xs) → (k : ℕ) → k < length xs → T (test (i + k) (getD xs k d))
   from [] d i t k h = absurd (not-suc-le-zero h)
-  from (x ∷ xs) d i t zero h = subst (λ (m : ℕ). T (test m x)) (sym (add-zero i)) (both-left (test i x) (every (suc i) xs) t)
+  from (x ∷ xs) d i t zero h = subst (λ (m : ℕ). T (test m x)) (sym (add-zero i)) (both-left (test i x) (every test (suc i) xs) t)
   from (x ∷ xs) d i t (suc k) h =
       subst (λ (m : ℕ). T (test m (getD xs k d))) (suc-add i k ∙ sym (add-suc i k))
-      (from xs d (suc i) (both-right (test i x) (every (suc i) xs) t) k (le-of-suc-le-suc h))
+      (from xs d (suc i) (both-right (test i x) (every test (suc i) xs) t) k (le-of-suc-le-suc h))
 
   -- a test that holds over the whole table holds at each entry
-  pub at : (xs : List A) (d : A) → T (every 0 xs) → (k : ℕ) → k < length xs → T (test k (getD xs k d))
+  pub at : (xs : List A) (d : A) → T (every test 0 xs) → (k : ℕ) → k < length xs → T (test k (getD xs k d))
   at xs d t k h = subst (λ (m : ℕ). T (test m (getD xs k d))) (zero-add k) (from xs d 0 t k h)

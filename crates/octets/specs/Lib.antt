@@ -1,5 +1,6 @@
 -- What document 01 says of single bytes, of numbers stored in bytes, and of an answer.
 pub mod Choice
+pub mod Tests
 pub mod Text
 pub mod Octets
 pub mod Numbers

@@ -1,7 +1,8 @@
 // The class of each of the 256 byte values, in one table.
 ghost use mathlib.Core.Path.{_≡_};
+ghost use lib.Dec.{T};
 ghost use lib.ListN.{getD};
-ghost use Rattle.octets.specs.Classes.{classOf};
+ghost use Rattle.octets.specs.Classes.{classOf, byRange};
 
 pub const WHITE: u8 = 0;
 
@@ -301,11 +302,20 @@ pub const CLASSES: [u8; 256] = [
     15,
 ];
 
+// The class of a byte, in a table whose rule was tested over the whole.
+fn entry(classes: &[u8; 256], b: u8) -> u8
+    requires { ⌜ T (byRange (now classes)) ⌝ }
+    ensures { λ r. ⌜ r ≡ classOf b ⌝ }
+{
+    classes[b as usize]
+}
+
 // The class of a byte.
 pub fn class(b: u8) -> u8
     ensures { λ r. ⌜ r ≡ classOf b ⌝ }
 {
-    CLASSES[b as usize]
+    let classes = &CLASSES;
+    entry(classes, b)
 }
 
 // The class of a byte in a table that is handed on.

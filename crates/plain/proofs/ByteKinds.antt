@@ -11,7 +11,8 @@ use lib.ListN.{getD, List·getD-eq-default}
 use mir.Val.{hasKey}
 use Rattle.octets.specs.Choice.{pick, either}
 use Rattle.octets.specs.Classes.{classOf, classTable, white, control, letter, openParenthesis, closeParenthesis, lessThan, greaterThan, atSign, comma, semicolon, colon, backslash, quote, above127, dot, openBracket, closeBracket}
-use Rattle.octets.proofs.Tables.{is-true, every, at}
+use Rattle.octets.proofs.Tables.{is-true, at}
+use Rattle.octets.specs.Tests.{every}
 use Rattle.scanner.specs.Kinds.{kindOfClass, kindOf}
 use Rattle.scanner.proofs.MoveLaws.{tag}
 use Rattle.plain.specs.PlainText.{needsBackslash}

@@ -14,7 +14,8 @@ use Rattle.octets.specs.Letters.{lower, same, sameBytes}
 use Rattle.octets.specs.Numbers.{messageLimit, levelLimit}
 use Rattle.octets.specs.Text.{bytes}
 use Rattle.octets.specs.declared.answers.Answer.the-variants.{Accepted, Refused}
-use Rattle.octets.proofs.Tables.{is-true, every, at, both-left, both-right}
+use Rattle.octets.proofs.Tables.{is-true, at, both-left, both-right}
+use Rattle.octets.specs.Tests.{every}
 use Rattle.octets.proofs.LetterLaws.{same-bytes}
 use Rattle.scanner.specs.Kinds.{kindOf}
 use Rattle.scanner.specs.Characters.{charactersFrom}

@@ -4,12 +4,14 @@ use mathlib.Core.List.{List}
 use Prim.Native.Nat.{ℕ}
 use lib.ListN.{take}
 use Rattle.octets.specs.Classes.{classTable}
+use Rattle.octets.specs.Answers.{told}
+use Rattle.octets.proofs.AnswerLaws.{answered}
 use Rattle.octets.specs.Fitting.{fittingAnswer, fittingText}
 use Rattle.octets.specs.declared.answers.Answer.{Answer}
 use Rattle.octets.specs.declared.answers.Answer.the-variants.{Refused}
 use Rattle.grammar.specs.Rfc733.{Derivation}
-use Rattle.addresses.specs.Outcome.{Outcome, refusal, outcome}
-use Rattle.addresses.proofs.Judgements.{ListBody, listed-read, scanned-body, list-scanned}
+use Rattle.addresses.specs.Outcome.{Outcome, AnsweredBy, refusal, outcome}
+use Rattle.addresses.proofs.Judgements.{ListBody, listed-read, scanned-body, scanned-unlisted, unscanned, list-scanned}
 use Rattle.addresses.proofs.Told.{SomeList, refused-told}
 use Rattle.plain.specs.PlainText.{plainText}
 use Rattle.plain.specs.Walking.{writtenText}
@@ -28,17 +30,23 @@ module _ (message : List ℕ) (start end : ℕ) where
 
   module _ (lent : List ℕ) where
     abbrev pub Promised : Answer → List ℕ → Type 0
-    Promised r after =
-        ((r ≡ plainOutcome message start end lent .answer) × (after ≡ plainOutcome message start end lent .table)) × Condition2 message start end lent r after
+    Promised r after = AnsweredBy (plainOutcome message start end lent) r after × Condition2 message start end lent r after
 
     promised : (o : Outcome) → plainOutcome message start end lent ≡ o → Promised (o .answer) (o .table)
     promised o e =
         let p : o .answer ≡ plainOutcome message start end lent .answer = ap (λ (z : Outcome). z .answer) (sym e) in
         let q : o .table ≡ plainOutcome message start end lent .table = ap (λ (z : Outcome). z .table) (sym e) in (
-          (p, q),
+          answered p q,
           record {
-            writes = λ k a. let f = listed-read (accepted-list a) (refusal lent) (written lent) in (p ∙ ap (λ (z : Outcome). z .answer) f, q ∙ ap (λ (z : Outcome). z .table) f);
+            writes = λ k a. let f = listed-read (accepted-list a) (refusal lent) (written lent) in (ap told (p ∙ ap (λ (z : Outcome). z .answer) f), q ∙ ap (λ (z : Outcome). z .table) f);
             round-trip = λ k a h. round-trip a h;
+            no-list = λ s n.
+                let w = scanned-unlisted message start end s (λ k d. n k (record { scans = s; derived = d .derived; within = d .within })) in
+                let f = w .reads Outcome (refusal lent) (written lent) in
+                (record { why = w .why; rest = w .rest; right = w .right; tells = ap told (p ∙ ap (λ (z : Outcome). z .answer) f) }, q ∙ ap (λ (z : Outcome). z .table) f);
+            unread = λ n m s.
+                let f = unscanned message start end s Outcome (refusal lent) (written lent) in
+                (ap told (p ∙ ap (λ (z : Outcome). z .answer) f), q ∙ ap (λ (z : Outcome). z .table) f);
           },
         )
 

@@ -12,7 +12,7 @@ use Rattle.octets.specs.Classes.{white, control, openParenthesis, closeParenthe
 use Rattle.scanner.specs.Kinds.{kindOfClass, kindOf}
 use Rattle.scanner.specs.Characters.{Character, character, foldAt, charactersAt}
 use Rattle.scanner.proofs.CharacterLaws.{no-character, plain-at, fold-at, fold-within}
-use Rattle.scanner.proofs.Meanings.{Walk, inside, taking, datum, walked, dataFrom}
+use Rattle.scanner.specs.Meanings.{Walk, inside, taking, datum, walked, dataFrom}
 use Rattle.plain.specs.Writing.{roleOf}
 use Rattle.plain.specs.declared.Role.{Role}
 use Rattle.plain.specs.declared.Role.the-variants.{Datum, Takes, Closes}

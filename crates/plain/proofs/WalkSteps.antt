@@ -19,7 +19,7 @@ use Rattle.scanner.specs.declared.Class.{Class}
 use Rattle.scanner.specs.declared.Class.the-variants.{Atom, Quoted, At, LessThan, GreaterThan, Comma, Semicolon, Colon, Stray, Dot, Literal}
 use Rattle.scanner.specs.declared.Next.{Next}
 use Rattle.scanner.specs.declared.Next.the-variants.{Found, Ended, Fault}
-use Rattle.scanner.proofs.Meanings.{meaningAt}
+use Rattle.scanner.specs.Meanings.{meaningAt}
 use Rattle.scanner.proofs.Unfolding.{SymbolAt, Unfolded, no-symbol, a-symbol, a-fault, unfolded, found}
 use Rattle.plain.specs.Walking.{gapText, symbolText, after, colonNext, walkText, textFrom, writtenText}
 use Rattle.plain.specs.Writing.{textLimit, isColon}

@@ -12,9 +12,10 @@ ghost use Rattle.octets.specs.Fitting.{fittingAnswer, fittingText};
 ghost use Rattle.octets.specs.Text.{part};
 ghost use Rattle.octets.specs.Writing.{countLimit, Wrote};
 ghost use Rattle.scanner.specs.Characters.{foldAt};
-ghost use Rattle.scanner.proofs.Meanings.{dataAt, meaningAt};
+ghost use Rattle.scanner.specs.Meanings.{dataAt, meaningAt};
 ghost use Rattle.plain.specs.PlainText.{needsBackslash, backslashText, dataText, quotedText};
 ghost use Rattle.plain.specs.Walking.{gapText, symbolText, writtenText};
+ghost use Rattle.addresses.specs.Outcome.{AnsweredBy};
 ghost use Rattle.plain.specs.Written.{plainOutcome, Condition2};
 ghost use Rattle.plain.specs.Writing.{textLimit, roleOf, isColon, canWrite, symbolIf};
 use octets::answers::Answer;
@@ -316,7 +317,7 @@ fn write_fitting(classes: &[u8; 256], text: &[u8], start: usize, out: &mut [u8])
 
 // Write plainly the address list in the body of a message from start up to end.
 pub fn write_plain(message: &[u8], start: usize, end: usize, text: &mut [u8]) -> Answer
-    ensures outcome { λ r. ⌜ (r ≡ plainOutcome (now (message .entry)) start end (now (text .entry)) .answer) × (now (text .exit) ≡ plainOutcome (now (message .entry)) start end (now (text .entry)) .table) ⌝ }
+    ensures outcome { λ r. ⌜ AnsweredBy (plainOutcome (now (message .entry)) start end (now (text .entry))) r (now (text .exit)) ⌝ }
     ensures condition2 { λ r. ⌜ Condition2 (now (message .entry)) start end (now (text .entry)) r (now (text .exit)) ⌝ }
 {
     match addresses::read_addresses(message, start, end, &mut text[..0]) {

@@ -32,7 +32,7 @@ pub enum Gap {
 }
 
 // What stands before a word or "<"; colon: the word is an atom and ":" comes next.
-pub fn gap_before(place: Place, colon: bool) -> Gap
+pub(crate) fn gap_before(place: Place, colon: bool) -> Gap
     ensures { λ r. ⌜ r ≡ gapBefore place colon ⌝ }
 {
     match place {
@@ -59,7 +59,7 @@ pub fn gap_before(place: Place, colon: bool) -> Gap
 }
 
 // What stands before ":".
-pub fn gap_before_colon(place: Place) -> Gap
+pub(crate) fn gap_before_colon(place: Place) -> Gap
     ensures { λ r. ⌜ r ≡ gapBeforeColon place ⌝ }
 {
     match place {
@@ -98,7 +98,7 @@ pub fn after_atom(place: Place, colon: bool) -> Place
 }
 
 // The place behind ":".
-pub fn after_colon(place: Place) -> Place
+pub(crate) fn after_colon(place: Place) -> Place
     ensures { λ r. ⌜ r ≡ afterColon place ⌝ }
 {
     match place {

@@ -40,7 +40,7 @@ pub fn line(label: &[u8], given: Answer) {
 }
 
 // So many numbers of two bytes from a place of a table on.
-pub fn numbers(table: &[u8], at: usize, many: usize) {
+fn numbers(table: &[u8], at: usize, many: usize) {
     let mut i: usize = 0;
     let mut p = at;
     while i < many {

@@ -29,7 +29,7 @@ use Rattle.scanner.specs.declared.Kind.the-variants.{White, Control, Ret
 use Rattle.scanner.specs.declared.Category.{Category}
 use Rattle.scanner.specs.declared.Category.the-variants as category
 use Rattle.scanner.proofs.Class.{the-type}
-use Rattle.scanner.proofs.Meanings.{meaningAt}
+use Rattle.scanner.specs.Meanings.{meaningAt}
 use Rattle.scanner.proofs.Gap as gap-declared
 use Rattle.scanner.proofs.MoveLaws.{tag, Text, Taken, taken, comment-text, closed-inner}
 use Rattle.scanner.proofs.Unfolding.{SymbolAt}

@@ -1,15 +1,15 @@
 -- The symbols of a text lie in it, ascend and do not overlap. Assumes nothing.
-use mathlib.Core.Path.{_≡_, refl, sym, ap, _∙_}
+use mathlib.Core.Path.{_≡_, refl}
 use mathlib.Core.List.{List, [], _∷_}
 use Prim.Native.Nat.{ℕ, zero, suc, _+_, _≤_, _<_}
 use native.Mathlib.Omega.{arith}
 use lib.ListN.{length}
 use Rattle.scanner.specs.Symbols.{Symbol}
-use Rattle.scanner.specs.Scanning.{Scanned, symbolsOf, symbol, scanBy}
+use Rattle.scanner.specs.Scanning.{symbolsOf, symbol, scanBy}
 use Rattle.scanner.specs.declared.Class.{Class}
 use Rattle.scanner.specs.declared.Class.the-variants.{Quoted}
-use Rattle.scanner.proofs.Meanings.{meaningAt}
-use Rattle.scanner.proofs.Unfolding.{SymbolAt, Unfolded, no-symbol, a-symbol, a-fault, unfolded}
+use Rattle.scanner.specs.Meanings.{meaningAt}
+use Rattle.scanner.proofs.Unfolding.{Unfolded, no-symbol, a-symbol, a-fault, unfolded}
 
 -- symbols from a position on, up to another, each with the meaning of its place; a quoted-string has its two quotes
 pub data Placed (classes text : List ℕ) (end : ℕ) : ℕ → List (Symbol Class) → Type 0 where

@@ -14,10 +14,9 @@ use Rattle.octets.specs.Choice.{pick}
 use Rattle.octets.specs.Classes.{white, control, openParenthesis, closeParenthesis, lessThan, greaterThan, atSign, comma, semicolon, colon, backslash, quote, above127, dot, openBracket, closeBracket}
 use Rattle.octets.specs.Letters.{sameLetters}
 use Rattle.octets.specs.Text.{bytes, part}
-use Rattle.scanner.specs.Symbols.{Symbol}
 use Rattle.scanner.specs.Kinds.{kindOfClass, kindOf, characterKind}
 use Rattle.scanner.specs.Characters.{charactersAt}
-use Rattle.scanner.specs.Scanning.{Scanned, ended, next, faultAt, outside, inAtom, inQuoted, takingInQuoted, inLiteral, takingInLiteral, inComment, takingInComment, go, halt, symbol, atom, atomClass, atEnd, scanFrom, scanBy}
+use Rattle.scanner.specs.Scanning.{ended, next, faultAt, outside, inQuoted, takingInQuoted, inLiteral, takingInLiteral, inComment, takingInComment, go, halt, symbol, atomClass, scanFrom, scanBy}
 use Rattle.scanner.specs.Answers.{nextOf, unlessFault, faultOf}
 use Rattle.scanner.specs.Steps.{FirstCharacter, AtomEnds, CommentEnds}
 use Rattle.scanner.specs.declared.Class.{Class}
@@ -26,8 +25,9 @@ use Rattle.scanner.specs.declared.Next.the-variants.{Found, Ended, Fault
 use Rattle.scanner.specs.declared.Kind.{Kind}
 use Rattle.scanner.specs.declared.Kind.the-variants.{White, Control, Return, Plain, Open, Close, Quote, Backslash, Mark, Above, OpenBracket, CloseBracket}
 use Rattle.scanner.proofs.CharacterLaws.{View, over, one, view}
-use Rattle.scanner.proofs.MoveLaws.{tag, part-one, NotPlain, Data, Text, Taken, at-end, moves, atom-on, atom-begins, atom-ends, atom-last, Quoting, quoted-moves, quoted-on, quoted-taking, quoted-taken, InLiteral, literal-moves, literal-on, literal-taking, literal-taken, Commenting, comment-moves, comment-on, comment-opens, comment-closes, comment-over, comment-taking, comment-taken, mark-next, stray-next, control-next}
-use Rattle.scanner.proofs.Meanings.{dataFrom, dataAt, meaningAt, data-on, data-backslash, data-taken, data-quote}
+use Rattle.scanner.proofs.MoveLaws.{tag, part-one, NotPlain, Data, Taken, at-end, moves, atom-on, atom-begins, atom-ends, atom-last, Quoting, quoted-moves, quoted-on, quoted-taking, quoted-taken, InLiteral, literal-moves, literal-on, literal-taking, literal-taken, Commenting, comment-moves, comment-on, comment-opens, comment-closes, comment-over, comment-taking, comment-taken, mark-next, stray-next, control-next}
+use Rattle.scanner.specs.Meanings.{dataAt, meaningAt}
+use Rattle.scanner.proofs.Meanings.{data-on, data-backslash, data-taken, data-quote}
 
 module _ (classes text : List ℕ) where
   -- ---- an atom ends

@@ -1,13 +1,13 @@
--- What the entry points answer, in document 01's order of checks: 1, 13, then the first fault of scanning.
+-- What the entry points answer, in document 01's order of checks: 1, 13, then the first fault of scanning; and what the next symbol tells.
 use Prim.Native.Nat.{ℕ}
 use mathlib.Core.List.{List}
+use mathlib.Core.Option.{Option, none, some}
 use lib.Dec.{ltb}
 use lib.ListN.{length, take}
 use Rattle.octets.specs.Choice.{pick, either}
-use Rattle.octets.specs.Numbers.{messageLimit, messageTooLong, bodyOutOfOrder}
+use Rattle.octets.specs.Numbers.{messageLimit, accepted, messageTooLong, bodyOutOfOrder}
 use Rattle.octets.specs.declared.answers.Answer.{Answer}
 use Rattle.octets.specs.declared.answers.Answer.the-variants.{Accepted, Refused}
-use Rattle.scanner.specs.Symbols.{Symbol}
 use Rattle.scanner.specs.Scanning.{Scanned, ended, next, faultAt, scan}
 use Rattle.scanner.specs.declared.Class.{Class}
 use Rattle.scanner.specs.declared.Next.{Next}
@@ -38,6 +38,23 @@ abbrev pub nextOf : Scanned → Next
 nextOf ended = Ended
 nextOf (next x rest) = Found (x .class) (x .lexeme .start) (x .lexeme .end)
 nextOf (faultAt number p) = Fault number p
+
+-- a symbol, by its class and its place
+pub record Placed : Type 0 where
+  pub class : Class
+  pub start : ℕ
+  pub end : ℕ
+
+-- what is told of it: the number and position of a fault, 0 and 0 without one; and the symbol, if there is one
+pub record NextTold : Type 0 where
+  pub number : ℕ
+  pub position : ℕ
+  pub symbol : Option Placed
+
+abbrev pub nextTold : Next → NextTold
+nextTold (Found class start end) = record { number = accepted; position = 0; symbol = some (record { class = class; start = start; end = end }) }
+nextTold Ended = record { number = accepted; position = 0; symbol = none }
+nextTold (Fault number position) = record { number = number; position = position; symbol = none }
 
 -- the next symbol at or after a position of a body that ends at `end`
 abbrev pub nextInBody : List ℕ → ℕ → ℕ → Next

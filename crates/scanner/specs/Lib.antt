@@ -7,3 +7,4 @@ pub mod Answers
 pub mod Categories
 pub mod Steps
 pub mod Gaps
+pub mod Meanings

@@ -8,7 +8,8 @@ ghost use lib.ListN.{length};
 ghost use Rattle.scanner.specs.Kinds.{kindOf};
 ghost use Rattle.scanner.specs.Characters.{foldAt, charactersAt};
 ghost use Rattle.scanner.specs.Scanning.{outside, inQuoted, inLiteral, atomClass, scanFrom, scanBy};
-ghost use Rattle.scanner.specs.Answers.{nextOf, nextInBody, faultOf, bodyScanned};
+ghost use Rattle.octets.specs.Answers.{told};
+ghost use Rattle.scanner.specs.Answers.{nextOf, nextTold, nextInBody, faultOf, bodyScanned};
 ghost use Rattle.scanner.specs.Categories.{ofSymbol, between, categoryOf, categoryAt};
 ghost use Rattle.scanner.specs.Steps.{StepIs, AtomEnds, CommentIs, FaultsFrom};
 ghost use Rattle.scanner.specs.Gaps.{gapDepth, GapCategoryIs, PassedIs, PassedLow, Faultless};
@@ -324,7 +325,7 @@ pub fn next_by(classes: &[u8; 256], text: &[u8], at: usize) -> Next
 
 // The next symbol at or after a position of a message's body that ends at end.
 pub fn next_symbol(message: &[u8], at: usize, end: usize) -> Next
-    ensures { λ r. ⌜ r ≡ nextInBody (now (message .entry)) at end ⌝ }
+    ensures outcome { λ r. ⌜ (nextTold r ≡ nextTold (nextInBody (now (message .entry)) at end)) × (r ≡ nextInBody (now (message .entry)) at end) ⌝ }
 {
     if MESSAGE_LIMIT < message.len() {
         return Next::Fault(MESSAGE_TOO_LONG, MESSAGE_LIMIT);
@@ -370,7 +371,7 @@ pub fn fault_by(classes: &[u8; 256], text: &[u8], at: usize) -> Answer
 
 // Scan the body of a message from start up to end: accepted, or the first fault.
 pub fn scan_body(message: &[u8], start: usize, end: usize) -> Answer
-    ensures { λ r. ⌜ r ≡ bodyScanned (now (message .entry)) start end ⌝ }
+    ensures outcome { λ r. ⌜ (told r ≡ told (bodyScanned (now (message .entry)) start end)) × (r ≡ bodyScanned (now (message .entry)) start end) ⌝ }
 {
     if MESSAGE_LIMIT < message.len() {
         return Answer::Refused(MESSAGE_TOO_LONG, MESSAGE_LIMIT);

@@ -33,7 +33,7 @@ use Rattle.expected.specs.Named.{named, expectedIn}
 use Rattle.expected.proofs.NameLaws.{before-refused, names-right}
 use Rattle.grammar.specs.Records.{noRecord}
 use Rattle.touch.specs.Around.{around, firstPlus, Climbs}
-use Rattle.touch.specs.Touched.{Outcome, unchanged, refusal, byteOf, ofList, decided, touched}
+use Rattle.touch.specs.Touched.{told, AnsweredBy, Outcome, unchanged, refusal, byteOf, ofList, decided, touched}
 use Rattle.touch.specs.ByGrammar.{NamedThere, ByGrammar}
 use Rattle.touch.specs.Climbing.{Holds, HeldList, ClimbIs, LastAroundIs}
 use Rattle.touch.specs.declared.Touched.{Touched}
@@ -81,7 +81,7 @@ module _ (message : List ℕ) (start end place : ℕ) (path : List ℕ) where
           right = right;
           splits = splits;
           named = named levelLimit symbols;
-          answer = e ∙ ap (λ (o : Outcome). o .answer) q ∙ ap (Expected (number why) (positionOf end rest)) (named-there x);
+          tells = ap told (e ∙ ap (λ (o : Outcome). o .answer) q ∙ ap (Expected (number why) (positionOf end rest)) (named-there x));
           exactly = names-right levelLimit symbols why before rest right splits;
         },
         f ∙ ap (λ (o : Outcome). o .path) q,
@@ -98,18 +98,18 @@ module _ (message : List ℕ) (start end place : ℕ) (path : List ℕ) where
       record {
         list = λ k d.
             let q = read x (answer-accepts levelLimit (d .derived) (d .within)) in
-            (e ∙ ap (λ (o : Outcome). o .answer) q, f ∙ ap (λ (o : Outcome). o .path) q);
+            (ap told (e ∙ ap (λ (o : Outcome). o .answer) q), f ∙ ap (λ (o : Outcome). o .path) q);
         no-list = λ n. no-list x e f n (answer levelLimit symbols) refl;
       }
 
   -- the two promises of the entry point
   abbrev pub Promised : Touched → List ℕ → Type 0
-  Promised r after = ((r ≡ whole .answer) × (after ≡ whole .path)) × ByGrammar message start end place path r after
+  Promised r after = AnsweredBy whole r after × ByGrammar message start end place path r after
 
   pub promised : (o : Outcome) → whole ≡ o → Promised (o .answer) (o .path)
   promised o e =
       let (p, q) = parts e in
-      ((p, q), by-grammar p q)
+      (record { told-is = ap told p; path-is = q; answer-is = p }, by-grammar p q)
 
   -- .. of a body that is refused with 8, 9 or 10
   pub promised-names : {n p names : ℕ} → whole ≡ unchanged path (Expected n p (expectedIn message start end)) → names ≡ expectedIn message start end → Promised (Expected n p names) path
@@ -119,7 +119,7 @@ module _ (message : List ℕ) (start end place : ℕ) (path : List ℕ) where
   pub promised-list : (k : Derivation) {r : Touched} {after : List ℕ} → whole ≡ ofList message start end place path k → (r ≡ ofList message start end place path k .answer) × (after ≡ ofList message start end place path k .path) → Promised r after
   promised-list k e (p, q) =
       let (a, b) = parts e in
-      ((p ∙ a, q ∙ b), by-grammar (p ∙ a) (q ∙ b))
+      (record { told-is = ap told (p ∙ a); path-is = q ∙ b; answer-is = p ∙ a }, by-grammar (p ∙ a) (q ∙ b))
 
   -- ---- what the reader answers
 
@@ -192,9 +192,9 @@ module _ (message : List ℕ) (start end place : ℕ) (path : List ℕ) where
     climbs = around-climbs (nested start end (h .body .list .derived) (in-body (h .body))) place
 
     -- .. and what is told of the byte
-    pub told : {is : Category} {last n : ℕ} {after : List ℕ} → is ≡ categoryAt message start end place → LastAroundIs table many place last → last ≤ many → ClimbIs table last 0 path after n
+    pub byte-told : {is : Category} {last n : ℕ} {after : List ℕ} → is ≡ categoryAt message start end place → LastAroundIs table many place last → last ≤ many → ClimbIs table last 0 path after n
         → start ≤ place → place < end → (Byte is n ≡ ofList message start end place path k .answer) × (after ≡ ofList message start end place path k .path)
-    told {last = last} {n = n} e l low f g m =
+    byte-told {last = last} {n = n} e l low f g m =
         let ns = around place (records k) in
         let c : Climbs (records k) last ns = rw (l (records k) (h .holds)) climbs in
         let (a, b) = f many (records k) ns (h .holds) low c in

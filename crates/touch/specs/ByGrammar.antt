@@ -15,9 +15,8 @@ use Rattle.grammar.specs.Rfc733.{Derivation, RightVerdict}
 use Rattle.addresses.specs.Outcome.{bodySymbols}
 use Rattle.addresses.specs.Condition3.{IsList}
 use Rattle.expected.specs.Things.{Thing, Exactly, sumOf}
-use Rattle.touch.specs.Touched.{ofList}
+use Rattle.touch.specs.Touched.{told, ofList}
 use Rattle.touch.specs.declared.Touched.{Touched}
-use Rattle.touch.specs.declared.Touched.the-variants.{Expected}
 
 -- refused with 8, 9 or 10 at the very place that condition 3 gives, behind the symbols `before`; and things are named, each of them
 -- exactly if some list of at most 64 levels goes on, or ends, with it there
@@ -28,13 +27,13 @@ pub record NamedThere (symbols : List (Symbol Class)) (end : ℕ) (r : Touched) 
   pub right : RightVerdict symbols (refused why rest)
   pub splits : symbols ≡ before ++ rest
   pub named : Thing → Bool
-  pub answer : r ≡ Expected (number why) (positionOf end rest) (sumOf named)
+  pub tells : told r ≡ record { number = number why; position = positionOf end rest; count = 0; category = 0; names = sumOf named }
   pub exactly : Exactly levelLimit before named
 
 -- what is said of the symbols of a body
 pub record Settled (message : List ℕ) (start end place : ℕ) (path : List ℕ) (symbols : List (Symbol Class)) (r : Touched) (after : List ℕ) : Type 0 where
   -- a list: the byte, its records and its path, from its one derivation
-  pub list : (k : Derivation) → IsList symbols k → (r ≡ ofList message start end place path k .answer) × (after ≡ ofList message start end place path k .path)
+  pub list : (k : Derivation) → IsList symbols k → (told r ≡ told (ofList message start end place path k .answer)) × (after ≡ ofList message start end place path k .path)
   -- no list: what could have stood at the refused place
   pub no-list : ((k : Derivation) → IsList symbols k → ⊥) → NamedThere symbols end r × (after ≡ path)
 

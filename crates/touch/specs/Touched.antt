@@ -1,7 +1,8 @@
 -- Document 02, CR 3: what the tool answers for a touched byte, in the order of its checks: 1, 13 of the body, the faults of
 -- scanning, 8, 9 or 10 with what could have stood there, 11 of its own table, 13 of the touched place.
--- The verdict is that of the machine which the crate `grammar` proves right; `ByGrammar` says the same without it.
+-- The verdict is that of the executable layer, the only right one by `Decides`; `ByGrammar` says the same over the grammar alone.
 use Prim.Native.Nat.{ℕ}
+use mathlib.Core.Path.{_≡_}
 use mathlib.Core.List.{List}
 use lib.Dec.{leb, ltb}
 use lib.ListN.{length, take}
@@ -18,7 +19,7 @@ use Rattle.grammar.specs.Language.{Verdict, refused, number}
 use Rattle.grammar.specs.Language as language
 use Rattle.grammar.specs.Records.{count, records}
 use Rattle.grammar.specs.Rfc733.{Derivation}
-use Rattle.grammar.proofs.Condition3.{answer}
+use Rattle.grammar.specs.Executable.Machine733.{answer}
 use Rattle.addresses.specs.Outcome.{bodySymbols}
 use Rattle.expected.specs.Named.{expectedIn}
 use Rattle.touch.specs.Around.{around}
@@ -71,11 +72,28 @@ namesOf (Expected number position names) = names
 namesOf (Refused number position) = 0
 namesOf (NoRoom needed) = 0
 
+-- what an answer tells
+pub record Told : Type 0 where
+  pub number : ℕ
+  pub position : ℕ
+  pub count : ℕ
+  pub category : ℕ
+  pub names : ℕ
+
+abbrev pub told : Touched → Told
+told r = record { number = numberOf r; position = positionOf r; count = countOf r; category = categoryOf r; names = namesOf r }
+
 -- ---- the answer, and the lent path afterwards
 
 pub record Outcome : Type 0 where
   pub answer : Touched
   pub path : List ℕ
+
+-- an answer and the lent path afterwards are those of an outcome: the same is told, every number is the same, and the enum's case is the same
+pub record AnsweredBy (o : Outcome) (r : Touched) (after : List ℕ) : Type 0 where
+  pub told-is : told r ≡ told (o .answer)
+  pub path-is : after ≡ o .path
+  pub answer-is : r ≡ o .answer
 
 -- any answer but that of a byte leaves the path as it was
 abbrev pub unchanged : List ℕ → Touched → Outcome

@@ -9,7 +9,7 @@ ghost use Rattle.octets.specs.Numbers.{tableRecords, addressRecordSize};
 ghost use Rattle.octets.specs.Writing.{countLimit};
 ghost use Rattle.grammar.specs.Records.{recordIn};
 ghost use Rattle.touch.specs.Around.{covers};
-ghost use Rattle.touch.specs.Touched.{numberOf, positionOf, countOf, categoryOf, namesOf, categoryNumber, touched};
+ghost use Rattle.touch.specs.Touched.{numberOf, positionOf, countOf, categoryOf, namesOf, categoryNumber, AnsweredBy, touched};
 ghost use Rattle.touch.specs.ByGrammar.{ByGrammar};
 ghost use Rattle.touch.specs.Climbing.{LastAroundIs, MayClimb, ClimbIs, SomeList, ListIs};
 use grammar::load_record;
@@ -194,7 +194,7 @@ fn touch_list(
 // Touch a place of the body of a message from start up to end: what the byte there is, and the numbers of the records around it at
 // the front of the path, from the last that covers it to the outermost; of a refused body, what could have stood there.
 pub fn touch(message: &[u8], start: usize, end: usize, place: usize, path: &mut [u64]) -> Touched
-    ensures outcome { λ r. ⌜ (r ≡ touched (now (message .entry)) start end place (now (path .entry)) .answer) × (now (path .exit) ≡ touched (now (message .entry)) start end place (now (path .entry)) .path) ⌝ }
+    ensures outcome { λ r. ⌜ AnsweredBy (touched (now (message .entry)) start end place (now (path .entry))) r (now (path .exit)) ⌝ }
     ensures by_grammar { λ r. ⌜ ByGrammar (now (message .entry)) start end place (now (path .entry)) r (now (path .exit)) ⌝ }
 {
     if let Answer::Refused(number, position) = scanner::scan_body(message, start, end) {

@@ -17,12 +17,12 @@ enum-told c = search needs
 
 -- the text passes the checks and has no fault
 passed : (c : tie.At-match-keys2) → (let a = c .before .before .before .args in Clean (a .text .now) 0 (length (a .text .now)))
-passed c = clean _ _ _ (c .before .scan-body .result) (c .before .scan-body .ensures) (c .match .keys2)
+passed c = clean _ _ _ (c .before .scan-body .result) (c .before .scan-body .ensures .1) (c .match .keys2)
 
 returns : tie.Need-returns
 returns c =
     let a = c .before .before .before .before .args in
-    sym (within-refused (a .levels) (a .text .now) (rw (c .enum-told .given .1) at (c .before .before .scan-body .ensures)))
+    sym (within-refused (a .levels) (a .text .now) (rw (c .enum-told .given .1) at (c .before .before .scan-body .ensures .1)))
 
 ends-within-requires : tie.Need-ends-within-requires
 unfolding classTable classOf

@@ -18,7 +18,7 @@ same-length-2 : tie.Need-same-length-2
 same-length-2 c = search needs
 
 returns : tie.Need-returns
-returns c = (c .before .before .before .before .before .read-addresses .ensures .0 .1, c .before .before .tell .ensures ∙ ap (told (c .before .before .before .before .before .before .before .before .before .before .before .args .array .now)) (c .before .before .before .before .before .read-addresses .ensures .0 .0))
+returns c = (c .before .before .before .before .before .read-addresses .ensures .0 .bytes-are, c .before .before .tell .ensures ∙ ap (told (c .before .before .before .before .before .before .before .before .before .before .before .args .array .now)) (c .before .before .before .before .before .read-addresses .ensures .0 .answer-is))
 
 pub rfc733-addresses-spec : {M : Type 1} → statement M
 rfc733-addresses-spec =

@@ -28,7 +28,7 @@ same-length : tie.Need-same-length
 same-length c = search needs
 
 returns : tie.Need-returns
-returns c = let e = c .before .before .before .before .before .before .before .before .read-date .ensures in (rw (c .before .before .before .before .before .before .number .ensures, c .before .before .before .before .before .position .ensures, c .before .before .before .before .count .ensures, e) at (c .before .before .before .put-three .ensures), let f : SFits w64 (c .value .result) = record { sfits = c .value .ok } in rw (toZ-ofZ f) (rw e at (c .value .ensures)))
+returns c = let e = c .before .before .before .before .before .before .before .before .read-date .ensures .0 .1 in (rw (c .before .before .before .before .before .before .number .ensures, c .before .before .before .before .before .position .ensures, c .before .before .before .before .count .ensures, e) at (c .before .before .before .put-three .ensures), let f : SFits w64 (c .value .result) = record { sfits = c .value .ok } in rw (toZ-ofZ f) (rw e at (c .value .ensures)))
 
 pub rfc733-date-spec : {M : Type 1} → statement M
 rfc733-date-spec =

@@ -20,7 +20,7 @@ same-length-2 c = search needs
 returns : tie.Need-returns
 returns c =
     let e = c .before .before .before .before .before .expand .ensures .0 in
-    (e .text-is, c .before .before .tell-expanded .ensures ∙ ap₂ (toldExpanded (c .before .before .before .before .before .before .before .before .before .before .before .before .args .array .now)) (e .answer-is) (e .openings-is))
+    (e .answered .bytes-are, c .before .before .tell-expanded .ensures ∙ ap₂ (toldExpanded (c .before .before .before .before .before .before .before .before .before .before .before .before .args .array .now)) (e .answered .answer-is) (e .openings-is))
 
 pub rfc733-expand-spec : {M : Type 1} → statement M
 rfc733-expand-spec =

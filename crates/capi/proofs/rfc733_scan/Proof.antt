@@ -15,7 +15,7 @@ same-length : tie.Need-same-length
 same-length c = search needs
 
 returns : tie.Need-returns
-returns c = c .before .before .tell .ensures ∙ ap (told (c .before .before .before .before .before .before .before .args .array .now)) (c .before .before .before .scan-body .ensures)
+returns c = c .before .before .tell .ensures ∙ ap (told (c .before .before .before .before .before .before .before .args .array .now)) (c .before .before .before .scan-body .ensures .1)
 
 pub rfc733-scan-spec : {M : Type 1} → statement M
 rfc733-scan-spec = tie.close (tie.spec scan-body-requires tell-requires same-length returns)

@@ -18,7 +18,7 @@ same-length-2 : tie.Need-same-length-2
 same-length-2 c = search needs
 
 returns : tie.Need-returns
-returns c = (c .before .before .before .before .before .touch .ensures .0 .1, c .before .before .tell-touched .ensures ∙ ap (toldTouched (c .before .before .before .before .before .before .before .before .before .before .before .args .array .now)) (c .before .before .before .before .before .touch .ensures .0 .0))
+returns c = (c .before .before .before .before .before .touch .ensures .0 .path-is, c .before .before .tell-touched .ensures ∙ ap (toldTouched (c .before .before .before .before .before .before .before .before .before .before .before .args .array .now)) (c .before .before .before .before .before .touch .ensures .0 .answer-is))
 
 pub rfc733-touch-spec : {M : Type 1} → statement M
 rfc733-touch-spec =

@@ -7,10 +7,11 @@ use Rattle.octets.specs.Classes.{classOf, classOf822, classTable822}
 use Rattle.scanner.proofs.BodyChecks.{out-of-order, past-the-end}
 use Rattle.grammar.proofs.Machine822.{read}
 use Rattle.addresses.specs.Editions.{edition822}
+use Rattle.octets.proofs.AnswerLaws.{answered}
 use Rattle.addresses.specs.Outcome.{refusal}
 use Rattle.addresses.proofs.AnyEdition.{text-outcome}
 use Rattle.editions.specs.Places.{placeTable}
-use Rattle.editions.proofs.EditionLaws.{are-equal}
+use Rattle.editions.proofs.EditionLaws.{by-equal}
 use borrow.Author.Needs.{needs}
 use Rattle.editions.proofs.read_822.Statement.{statement}
 use Rattle.editions.proofs.read_822.Tie as tie
@@ -18,12 +19,12 @@ use Rattle.editions.proofs.read_822.Tie as tie
 returns : tie.Need-returns
 returns c =
     let a = c .before .before .before .args in
-    are-equal {o = refusal (a .table .now) _ _} (refl, refl) (out-of-order (refusal (a .table .now)) (a .message .now) (a .start) (a .end) _ (c .before .before .before .pre) (omega arith))
+    by-equal {o = refusal (a .table .now) _ _} (answered refl refl) (out-of-order (refusal (a .table .now)) (a .message .now) (a .start) (a .end) _ (c .before .before .before .pre) (omega arith))
 
 returns-2 : tie.Need-returns-2
 returns-2 c =
     let a = c .before .before .before .before .args in
-    are-equal {o = refusal (a .table .now) _ _} (refl, refl) (past-the-end (refusal (a .table .now)) (a .message .now) (a .start) (a .end) _ (c .before .before .before .before .pre) (omega arith))
+    by-equal {o = refusal (a .table .now) _ _} (answered refl refl) (past-the-end (refusal (a .table .now)) (a .message .now) (a .start) (a .end) _ (c .before .before .before .before .pre) (omega arith))
 
 slice-aggregate-read-text : tie.Need-slice-aggregate-read-text
 slice-aggregate-read-text c = sym (length-take-le _ (c .before .before .before .before .before .before .before .args .message .now) (omega arith))

@@ -1,6 +1,7 @@
 -- `editions::read_addresses` meets its contract: number 1, then 21, then what the reader of the edition answers. Assumes nothing.
 use mathlib.Core.Path.{refl}
 use native.Mathlib.Omega.{arith}
+use Rattle.octets.proofs.AnswerLaws.{answered}
 use Rattle.editions.proofs.EditionLaws.{too-long-promised, promised-733, promised-822, unknown-promised}
 use borrow.Author.Needs.{needs}
 use Rattle.editions.proofs.read_addresses.Statement.{statement}
@@ -9,7 +10,7 @@ use Rattle.editions.proofs.read_addresses.Tie as tie
 returns : tie.Need-returns
 returns c =
     let a = c .before .before .before .args in
-    too-long-promised (a .edition) (a .message .now) (a .start) (a .end) (a .table .now) (omega arith) (refl, refl)
+    too-long-promised (a .edition) (a .message .now) (a .start) (a .end) (a .table .now) (omega arith) (answered refl refl)
 
 read-addresses-requires : tie.Need-read-addresses-requires
 read-addresses-requires c κs = search needs
@@ -36,7 +37,7 @@ returns-3 c =
 returns-4 : tie.Need-returns-4
 returns-4 c =
     let a = c .before .before .before .before .before .args in
-    unknown-promised (a .edition) (a .message .now) (a .start) (a .end) (a .table .now) (omega arith) (c .before .if2 .left) (c .if3 .left) (refl, refl)
+    unknown-promised (a .edition) (a .message .now) (a .start) (a .end) (a .table .now) (omega arith) (c .before .if2 .left) (c .if3 .left) (answered refl refl)
 
 pub read-addresses-spec : {M : Type 1} → statement M
 read-addresses-spec =

@@ -11,7 +11,7 @@ use Rattle.engine.proofs.expected.Tie as tie
 
 -- the body is in order and has no fault
 checked : (c : tie.At-match-keys2) → (let a = c .before .before .before .args in Clean (a .message .now) (a .start) (a .end))
-checked c = let a = c .before .before .before .args in clean (a .message .now) (a .start) (a .end) (c .before .scan-body .result) (c .before .scan-body .ensures) (c .match .keys2)
+checked c = let a = c .before .before .before .args in clean (a .message .now) (a .start) (a .end) (c .before .scan-body .result) (c .before .scan-body .ensures .1) (c .match .keys2)
 
 scan-body-requires : tie.Need-scan-body-requires
 scan-body-requires c κs = search needs
@@ -22,7 +22,7 @@ enum-told c = search needs
 returns : tie.Need-returns
 returns c =
     let a = c .before .before .before .before .args in
-    sym (when-refused (a .message .now) (a .start) (a .end) (λ number p. 0) _ (rw (c .enum-told .given .1) at (c .before .before .scan-body .ensures)))
+    sym (when-refused (a .message .now) (a .start) (a .end) (λ number p. 0) _ (rw (c .enum-told .given .1) at (c .before .before .scan-body .ensures .1)))
 
 slice-aggregate-expected-at-stop : tie.Need-slice-aggregate-expected-at-stop
 slice-aggregate-expected-at-stop c = sym (length-take-le _ (c .before .before .before .before .before .before .args .message .now) (checked (c .before .before .before) .inside))

@@ -26,7 +26,7 @@ slice-aggregate-expand-list : tie.Need-slice-aggregate-expand-list
 slice-aggregate-expand-list c =
     let a = c .before .before .before .before .before .before .before .before .before .before .args in
     let r = c .before .before .before .before .before .read-addresses in
-    let s = some-list (a .message .now) (a .start) (a .end) _ (r .result) (r .ensures .0 .0) (c .before .before .match .keys2) in
+    let s = some-list (a .message .now) (a .start) (a .end) _ (r .result) (r .ensures .0 .answer-is) (c .before .before .match .keys2) in
     sym (length-take-le _ (a .message .now) (s .body .inside))
 
 expand-list-requires : tie.Need-expand-list-requires
@@ -34,7 +34,7 @@ unfolding classTable classOf
 expand-list-requires c κs =
     let a = c .before .before .before .before .before .before .before .before .before .before .before .args in
     let r = c .before .before .before .before .before .before .read-addresses in
-    let s = some-list (a .message .now) (a .start) (a .end) _ (r .result) (r .ensures .0 .0) (c .before .before .before .match .keys2) in
+    let s = some-list (a .message .now) (a .start) (a .end) _ (r .result) (r .ensures .0 .answer-is) (c .before .before .before .match .keys2) in
     record { classes-are = refl; short = omega (arith, length-take-le (a .end) (a .message .now) (s .body .inside), s .body .inside, s .body .short) }
 
 same-length : tie.Need-same-length
@@ -45,7 +45,7 @@ returns c =
     let a = c .before .before .before .before .before .before .before .before .before .before .args in
     let r = c .before .before .before .before .before .read-addresses in
     let u = no-front (r .last .1 .1 .1 .0) (a .text .now) (r .kept .1 .1 .1 .0) in
-    rw u (refused-promised (a .message .now) (a .start) (a .end) (a .store .now) (a .text .now) _ _ _ (rw (c .before .number .given .1) at (r .ensures .0 .0)))
+    rw u (refused-promised (a .message .now) (a .start) (a .end) (a .store .now) (a .text .now) _ _ _ (rw (c .before .number .given .1) at (r .ensures .0 .answer-is)))
 
 same-length-2 : tie.Need-same-length-2
 same-length-2 c = search needs
@@ -56,7 +56,7 @@ returns-2 c =
     let a = c .before .before .before .before .before .before .before .before .before .before .before .before .before .before .args in
     let r = c .before .before .before .before .before .before .before .before .before .read-addresses in
     let u = no-front (r .last .1 .1 .1 .0) (a .text .now) (r .kept .1 .1 .1 .0) in
-    let s = some-list (a .message .now) (a .start) (a .end) _ (r .result) (r .ensures .0 .0) (c .before .before .before .before .before .before .match .keys2) in
+    let s = some-list (a .message .now) (a .start) (a .end) _ (r .result) (r .ensures .0 .answer-is) (c .before .before .before .before .before .before .match .keys2) in
     list-promised (a .message .now) (a .start) (a .end) (a .store .now) (a .text .now) s _ _ (rw u at (c .before .before .expand-list .ensures))
 
 pub expand-spec : {M : Type 1} → statement M

@@ -18,10 +18,10 @@ enum-known-number : tie.Need-enum-known-number
 enum-known-number c = search needs
 
 returns : tie.Need-returns
-returns c = let a = c .before .before .before .before .before .before .before .args in let r = c .before .before .before .before .read-addresses in fault-refused (a .i) (a .position) (a .list .now) _ _ _ (sym (c .before .number .given .1) ∙ r .ensures .0 .0)
+returns c = let a = c .before .before .before .before .before .before .before .args in let r = c .before .before .before .before .read-addresses in fault-refused (a .i) (a .position) (a .list .now) _ _ _ (sym (c .before .number .given .1) ∙ r .ensures .0 .answer-is)
 
 returns-2 : tie.Need-returns-2
-returns-2 c = let a = c .before .before .before .before .before .args in let r = c .before .before .read-addresses in fault-levels (a .i) (a .position) (a .list .now) _ (r .result) (r .ensures .0 .0) (c .match .keys2)
+returns-2 c = let a = c .before .before .before .before .before .args in let r = c .before .before .read-addresses in fault-levels (a .i) (a .position) (a .list .now) _ (r .result) (r .ensures .0 .answer-is) (c .match .keys2)
 
 pub fault-of-spec : {M : Type 1} → statement M
 fault-of-spec =

@@ -26,7 +26,7 @@ put-addresses-requires c κs =
     let a = c .before .before .before .before .before .before .before .before .before .before .before .args in
     let t = c .before .before .before .before .before .before .before .before .address-table in
     let r = c .before .before .before .before .before .before .read-addresses in
-    let p = rw (c .before .before .before .many .given .1) at (printed (a .edition) (a .message .now) (a .start) (a .end) (t .result) (t .ensures) (r .ensures .0 .0) (r .ensures .0 .1)) in
+    let p = rw (c .before .before .before .many .given .1) at (printed (a .edition) (a .message .now) (a .start) (a .end) (t .result) (t .ensures) (r .ensures .0 .answer-is) (r .ensures .0 .bytes-are)) in
     (p .0, omega arith)
 
 enum-known-number : tie.Need-enum-known-number
@@ -49,7 +49,7 @@ returns c =
     let a = c .before .before .before .before .before .before .before .before .before .before .before .before .before .before .args in
     let t = c .before .before .before .before .before .before .before .before .before .before .before .address-table in
     let r = c .before .before .before .before .before .before .before .before .before .read-addresses in
-    let p = rw (c .before .before .before .before .before .before .many .given .1) at (printed (a .edition) (a .message .now) (a .start) (a .end) (t .result) (t .ensures) (r .ensures .0 .0) (r .ensures .0 .1)) in
+    let p = rw (c .before .before .before .before .before .before .many .given .1) at (printed (a .edition) (a .message .now) (a .start) (a .end) (t .result) (t .ensures) (r .ensures .0 .answer-is) (r .ensures .0 .bytes-are)) in
     let w = c .before .before .put-addresses in
     (wrote-as (p .1) (w .ensures .0), w .ensures .1)
 
@@ -61,7 +61,7 @@ returns-2 c =
     let a = c .before .before .before .before .before .before .before .before .before .before .before .before .before .args in
     let t = c .before .before .before .before .before .before .before .before .before .before .address-table in
     let r = c .before .before .before .before .before .before .before .before .read-addresses in
-    let p = rw (c .before .before .before .before .before .number .given .1) at (printed (a .edition) (a .message .now) (a .start) (a .end) (t .result) (t .ensures) (r .ensures .0 .0) (r .ensures .0 .1)) in
+    let p = rw (c .before .before .before .before .before .number .given .1) at (printed (a .edition) (a .message .now) (a .start) (a .end) (t .result) (t .ensures) (r .ensures .0 .answer-is) (r .ensures .0 .bytes-are)) in
     let w = c .before .before .put-refused in
     (wrote-as p (w .ensures .0), omega (arith, w .ensures .1))
 
@@ -73,7 +73,7 @@ returns-3 c =
     let a = c .before .before .before .before .before .before .before .before .before .before .before .before .args in
     let t = c .before .before .before .before .before .before .before .before .before .address-table in
     let r = c .before .before .before .before .before .before .before .read-addresses in
-    let p = rw (c .before .before .before .before .enum-told .given .1) at (printed (a .edition) (a .message .now) (a .start) (a .end) (t .result) (t .ensures) (r .ensures .0 .0) (r .ensures .0 .1)) in
+    let p = rw (c .before .before .before .before .enum-told .given .1) at (printed (a .edition) (a .message .now) (a .start) (a .end) (t .result) (t .ensures) (r .ensures .0 .answer-is) (r .ensures .0 .bytes-are)) in
     let w = c .before .before .put-refused2 in
     (wrote-as p (w .ensures .0), omega (arith, w .ensures .1))
 

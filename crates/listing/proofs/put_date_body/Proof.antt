@@ -45,7 +45,7 @@ returns c =
     let s = c .before .before .before .before .before .before .before .before .before .before .before .before .before .before .seconds .given in
     let k = c .before .before .before .before .before .before .before .before .before .before .before .before .before .known-told .given in
     let f : SFits w64 (s .0 .0) = record { sfits = omega arith } in (
-      accepted-date (s .0 .0) (sym (r .ensures) ∙ s .1) (w .ensures .0) (rw (toZ-ofZ f) at (x .ensures .0)) (e .ensures .0),
+      accepted-date (s .0 .0) (sym (r .ensures .0 .1) ∙ s .1) (w .ensures .0) (rw (toZ-ofZ f) at (x .ensures .0)) (e .ensures .0),
       omega (arith, w .ensures .1, x .ensures .1, e .ensures .1),
     )
 
@@ -56,7 +56,7 @@ returns-2 : tie.Need-returns-2
 returns-2 c =
     let r = c .before .before .before .before .before .before .before .read-date in
     let w = c .before .before .put-refused in
-    (refused-date (sym (r .ensures) ∙ c .before .before .before .before .before .number .given .1) (w .ensures .0), w .ensures .1)
+    (refused-date (sym (r .ensures .0 .1) ∙ c .before .before .before .before .before .number .given .1) (w .ensures .0), w .ensures .1)
 
 pub put-date-body-spec : {M : Type 1} → statement M
 put-date-body-spec =

@@ -20,7 +20,7 @@ put-header-requires : tie.Need-put-header-requires
 put-header-requires c κs =
     let s = c .before .before .before .split in
     let t = c .before .before .before .before .before .field-table in
-    fits (c .before .before .before .before .before .before .before .before .args .message .now) (t .result) (t .ensures) (s .ensures .0) (s .ensures .1)
+    fits (c .before .before .before .before .before .before .before .before .args .message .now) (t .result) (t .ensures) (s .ensures .answer-is) (s .ensures .bytes-are)
 
 same-length : tie.Need-same-length
 same-length c = search needs
@@ -29,7 +29,7 @@ returns : tie.Need-returns
 returns c =
     let s = c .before .before .before .before .before .before .split in
     let t = c .before .before .before .before .before .before .before .before .field-table in
-    rw (same-answer (c .before .before .before .before .before .before .before .before .before .before .before .args .message .now) (t .result) (t .ensures) (s .ensures .0)) at (c .before .before .put-header .ensures)
+    rw (same-answer (c .before .before .before .before .before .before .before .before .before .before .before .args .message .now) (t .result) (t .ensures) (s .ensures .answer-is)) at (c .before .before .put-header .ensures)
 
 pub write-listing-spec : {M : Type 1} → statement M
 write-listing-spec =

@@ -4,7 +4,7 @@ use Prim.Native.Nat.{_+_, _*_, _-_, _≤_}
 use native.Mathlib.Omega.{arith}
 use borrow.Author.Needs.{needs}
 use lib.ListN.{length}
-use Rattle.scanner.proofs.Meanings.{dataAt}
+use Rattle.scanner.specs.Meanings.{dataAt}
 use Rattle.plain.specs.PlainText.{dataText}
 use Rattle.plain.specs.declared.Role.the-variants.{Datum, Takes, Closes}
 use Rattle.octets.proofs.Writes.{Left, left-all, left-as, left-after, left-none}

@@ -26,14 +26,14 @@ slice-aggregate-write-fitting : tie.Need-slice-aggregate-write-fitting
 slice-aggregate-write-fitting c =
     let a = c .before .before .before .before .before .before .before .before .before .args in
     let r = c .before .before .before .before .before .read-addresses in
-    let s = some-list (a .message .now) (a .start) (a .end) _ (r .result) (r .ensures .0 .0) (c .before .before .match .keys2) in
+    let s = some-list (a .message .now) (a .start) (a .end) _ (r .result) (r .ensures .0 .answer-is) (c .before .before .match .keys2) in
     sym (length-take-le _ (a .message .now) (s .body .inside))
 
 write-fitting-requires : tie.Need-write-fitting-requires
 write-fitting-requires c κs =
     let a = c .before .before .before .before .before .before .before .before .before .before .args in
     let r = c .before .before .before .before .before .before .read-addresses in
-    let s = some-list (a .message .now) (a .start) (a .end) _ (r .result) (r .ensures .0 .0) (c .before .before .before .match .keys2) in
+    let s = some-list (a .message .now) (a .start) (a .end) _ (r .result) (r .ensures .0 .answer-is) (c .before .before .before .match .keys2) in
     omega (arith, length-take-le (a .end) (a .message .now) (s .body .inside), s .body .inside, s .body .short)
 
 same-length : tie.Need-same-length
@@ -44,7 +44,7 @@ returns c =
     let a = c .before .before .before .before .before .before .before .before .before .args in
     let r = c .before .before .before .before .before .read-addresses in
     let u = no-front (r .last .1 .1 .1 .0) (a .text .now) (r .kept .1 .1 .1 .0) in
-    rw u (refused-promised (a .message .now) (a .start) (a .end) (a .text .now) _ _ _ (rw (c .before .number .given .1) at (r .ensures .0 .0)))
+    rw u (refused-promised (a .message .now) (a .start) (a .end) (a .text .now) _ _ _ (rw (c .before .number .given .1) at (r .ensures .0 .answer-is)))
 
 same-length-2 : tie.Need-same-length-2
 same-length-2 c = search needs
@@ -55,7 +55,7 @@ returns-2 c =
     let a = c .before .before .before .before .before .before .before .before .before .before .before .before .before .args in
     let r = c .before .before .before .before .before .before .before .before .before .read-addresses in
     let u = no-front (r .last .1 .1 .1 .0) (a .text .now) (r .kept .1 .1 .1 .0) in
-    let s = some-list (a .message .now) (a .start) (a .end) _ (r .result) (r .ensures .0 .0) (c .before .before .before .before .before .before .match .keys2) in
+    let s = some-list (a .message .now) (a .start) (a .end) _ (r .result) (r .ensures .0 .answer-is) (c .before .before .before .before .before .before .match .keys2) in
     list-promised (a .message .now) (a .start) (a .end) (a .text .now) s _ _ (rw u at (c .before .before .write-fitting .ensures))
 
 pub write-plain-spec : {M : Type 1} → statement M

@@ -12,7 +12,7 @@ meant c =
     let t = c .before .before .own-table in
     let s = c .before .before .before .before .scan-body in
     let r = c .read-addresses in
-    means (a .message .now) (a .start) (a .end) (a .place) (a .path .now) (t .result) (t .ensures) (clean (a .message .now) (a .start) (a .end) (s .result) (s .ensures) (c .before .before .before .match .keys2)) (r .ensures .0 .0) (r .ensures .0 .1)
+    means (a .message .now) (a .start) (a .end) (a .place) (a .path .now) (t .result) (t .ensures) (clean (a .message .now) (a .start) (a .end) (s .result) (s .ensures .1) (c .before .before .before .match .keys2)) (r .ensures .0 .answer-is) (r .ensures .0 .bytes-are)
 
 scan-body-requires : tie.Need-scan-body-requires
 scan-body-requires c κs = search needs
@@ -23,7 +23,7 @@ enum-known-number c = search needs
 returns : tie.Need-returns
 returns c =
     let a = c .before .before .before .before .before .before .args in
-    promised (a .message .now) (a .start) (a .end) (a .place) (a .path .now) _ (unread (a .message .now) (a .start) (a .end) (a .place) (a .path .now) (rw (c .before .number .given .1) at (c .before .before .before .scan-body .ensures)))
+    promised (a .message .now) (a .start) (a .end) (a .place) (a .path .now) _ (unread (a .message .now) (a .start) (a .end) (a .place) (a .path .now) (rw (c .before .number .given .1) at (c .before .before .before .scan-body .ensures .1)))
 
 own-table-requires : tie.Need-own-table-requires
 own-table-requires c κs = search needs

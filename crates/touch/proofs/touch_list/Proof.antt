@@ -1,7 +1,7 @@
 -- `touch::touch_list` meets its contract. Assumes nothing.
 use native.Mathlib.Omega.{arith}
 use Rattle.grammar.specs.Records.{records}
-use Rattle.touch.proofs.TouchLaws.{parts, before-body, behind-body, told}
+use Rattle.touch.proofs.TouchLaws.{parts, before-body, behind-body, byte-told}
 use borrow.Author.Needs.{needs}
 use Rattle.touch.proofs.touch_list.Statement.{statement}
 use Rattle.touch.proofs.touch_list.Tie as tie
@@ -35,7 +35,7 @@ returns-3 : tie.Need-returns-3
 returns-3 c =
     let a = c .before .before .before .before .before .before .before .before .before .before .before .args in
     let l = c .before .before .before .before .before .last-around .ensures in
-    λ k h. told (a .message .now) (a .start) (a .end) (a .place) (a .path .now) h (c .category-at .ensures) (l .0) (l .1) (c .before .before .before .climb .ensures) (omega arith) (omega arith)
+    λ k h. byte-told (a .message .now) (a .start) (a .end) (a .place) (a .path .now) h (c .category-at .ensures) (l .0) (l .1) (c .before .before .before .climb .ensures) (omega arith) (omega arith)
 
 pub touch-list-spec : {M : Type 1} → statement M
 touch-list-spec =

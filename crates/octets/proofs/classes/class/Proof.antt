@@ -1,16 +1,15 @@
--- `octets::classes::class` meets its contract: the table of the source is the class table, whose rule holds at each entry. Assumes nothing.
+-- `octets::classes::class` meets its contract: the constant of the source passes the test over the whole. Assumes nothing.
 use borrow.Author.Needs.{needs}
-use Rattle.octets.specs.Classes.{classOf, classTable}
-use Rattle.octets.proofs.ClassLaws.{rule}
+use Rattle.octets.specs.Classes.{classOf}
 use Rattle.octets.proofs.classes.class.Statement.{statement}
 use Rattle.octets.proofs.classes.class.Tie as tie
 
-array-read-result : tie.Need-array-read-result
-array-read-result c = search needs
+entry-requires : tie.Need-entry-requires
+unfolding classOf
+entry-requires c κs = tt
 
 returns : tie.Need-returns
-unfolding classTable classOf
-returns c = rule (c .args .b) (search needs)
+returns c = search needs
 
 pub class-spec : {M : Type 1} → statement M
-class-spec = tie.close (tie.spec array-read-result returns)
+class-spec = tie.close (tie.spec entry-requires returns)

@@ -1,0 +1,72 @@
+#!/usr/bin/env python3
+"""Definitions rest on definitions alone, told from the files of specs/. A file of ties says in its head that nothing in it needs
+to be believed, and may import what it likes. Every other one has definitions: it names no module of proofs/ and none of a file
+of ties. A file whose head says that it is the executable layer counts as definitions, for its proposition stands beside it.
+Types that are made from the code's enums and structs (`specs.declared`) may be named by all, and no file names a source.
+Every rule is also tried on files changed in memory: it must find each change."""
+import pathlib
+import re
+import sys
+
+TIES, LAYER = "Nothing here needs to be believed", "the executable layer"
+HEAD = re.compile(r"(?:--.*\n)*")
+NAMED = re.compile(r"Rattle·[^\s(){}]+")
+MODULE = re.compile(r"Rattle·(\w+)(?:·\w+)?\.(specs|proofs)\.(.+)")
+SOURCE = re.compile(r"\S*(?:\.rt\b|\bsrc/)\S*")
+
+root = pathlib.Path(__file__).resolve().parent.parent
+files = {str(path.relative_to(root)): path.read_text() for path in sorted(root.glob("crates/*/specs/**/*.antt"))}
+
+
+def ties(text):
+    """Whether a file is one of ties, by the comment at its head."""
+    head = " ".join(HEAD.match(text)[0].replace("--", " ").split())
+    return TIES in head and LAYER not in head.lower()
+
+
+def file_of(crate, inner, files):
+    """The file of a module that is named with or without something in it."""
+    parts = inner.split(".")
+    paths = (f"crates/{crate}/specs/{'/'.join(parts[:many])}.antt" for many in range(len(parts), 0, -1))
+    return next((path for path in paths if path in files), None)
+
+
+def faults(files, path):
+    """What is wrong with a file."""
+    for number, line in enumerate(files[path].split("\n"), 1):
+        here = f"{path}:{number}"
+        for source in SOURCE.findall(line):
+            yield f"{here}: a source is named: {source}"
+        for name in [] if ties(files[path]) else NAMED.findall(line):
+            module = MODULE.fullmatch(name.rstrip("."))
+            if not module:
+                yield f"{here}: a module in a form not read here: {name}"
+            elif module[2] == "proofs":
+                yield f"{here}: definitions take from proofs/: {name}"
+            elif not module[3].startswith("declared."):
+                taken = file_of(module[1], module[3], files)
+                if not taken:
+                    yield f"{here}: no file is found for {name}"
+                elif ties(files[taken]):
+                    yield f"{here}: definitions take from a file of ties: {name}"
+
+
+wrong = [fault for path in files for fault in faults(files, path)]
+tied = [path for path in files if ties(files[path])]
+if not tied:
+    sys.exit("no file of ties is found")
+crate, _, *inner = pathlib.Path(tied[0]).with_suffix("").parts[1:]
+trials = {
+    "definitions take from proofs/": "use Rattle.octets.proofs.Any.{x}",
+    "definitions take from a file of ties": f"use Rattle.{crate}.specs.{'.'.join(inner)}.{{x}}",
+    "a source is named": "-- src/lib.rt",
+}
+for path in [path for path in files if path not in tied]:
+    for words, line in trials.items():
+        found = set(faults({**files, path: f"{files[path]}\n{line}\n"}, path)) - set(wrong)
+        if not any(words in fault for fault in found):
+            wrong.append(f"{path}: not found by this test: {line}")
+for fault in wrong:
+    print(fault)
+print(f"files of definitions: {len(files) - len(tied)}; of ties: {len(tied)}")
+sys.exit(1 if wrong else 0)
