@@ -1,14 +1,15 @@
 #!/usr/bin/env python3
 """Definitions rest on definitions alone, told from the files of specs/. A file of ties says in its head that nothing in it needs
 to be believed, and may import what it likes. Every other one has definitions: it names no module of proofs/ and none of a file
-of ties. A file whose head says that it is the executable layer counts as definitions, for its proposition stands beside it.
+of ties. A file whose head says that it is the executable layer counts as definitions, for its proposition stands beside it; but
+what says in its head that it is apart from any reader reaches none of that layer, through whatever it imports.
 Types that are made from the code's enums and structs (`specs.declared`) may be named by all, and no file names a source.
 Every rule is also tried on files changed in memory: it must find each change."""
 import pathlib
 import re
 import sys
 
-TIES, LAYER = "Nothing here needs to be believed", "the executable layer"
+TIES, LAYER, APART = "Nothing here needs to be believed", "the executable layer: ", "apart from any reader"
 HEAD = re.compile(r"(?:--.*\n)*")
 NAMED = re.compile(r"Rattle·[^\s(){}]+")
 MODULE = re.compile(r"Rattle·(\w+)(?:·\w+)?\.(specs|proofs)\.(.+)")
@@ -18,10 +19,14 @@ root = pathlib.Path(__file__).resolve().parent.parent
 files = {str(path.relative_to(root)): path.read_text() for path in sorted(root.glob("crates/*/specs/**/*.antt"))}
 
 
+def says(text, words):
+    """Whether the comment at the head of a file has these words."""
+    return words.lower() in " ".join(HEAD.match(text)[0].replace("--", " ").split()).lower()
+
+
 def ties(text):
-    """Whether a file is one of ties, by the comment at its head."""
-    head = " ".join(HEAD.match(text)[0].replace("--", " ").split())
-    return TIES in head and LAYER not in head.lower()
+    """Whether a file is one of ties."""
+    return says(text, TIES) and not says(text, LAYER)
 
 
 def file_of(crate, inner, files):
@@ -31,8 +36,22 @@ def file_of(crate, inner, files):
     return next((path for path in paths if path in files), None)
 
 
+def reached(files, path, way):
+    """The files of definitions that are reached from one, added to those on the way."""
+    for module in filter(None, (MODULE.fullmatch(name.rstrip(".")) for name in NAMED.findall(files[path]))):
+        taken = module[2] == "specs" and file_of(module[1], module[3], files)
+        if taken and taken not in way:
+            way.add(taken)
+            reached(files, taken, way)
+    return way
+
+
 def faults(files, path):
     """What is wrong with a file."""
+    if says(files[path], APART):
+        for taken in sorted(reached(files, path, set())):
+            if says(files[taken], LAYER):
+                yield f"{path}: apart from any reader, and reaches {taken}"
     for number, line in enumerate(files[path].split("\n"), 1):
         here = f"{path}:{number}"
         for source in SOURCE.findall(line):
@@ -61,12 +80,16 @@ trials = {
     "definitions take from a file of ties": f"use Rattle.{crate}.specs.{'.'.join(inner)}.{{x}}",
     "a source is named": "-- src/lib.rt",
 }
+layer = next((path for path in files if says(files[path], LAYER)), None) or sys.exit("no file of the executable layer is found")
+crate, _, *inner = pathlib.Path(layer).with_suffix("").parts[1:]
+reader = {"apart from any reader, and reaches": f"use Rattle.{crate}.specs.{'.'.join(inner)}.{{x}}"}
 for path in [path for path in files if path not in tied]:
-    for words, line in trials.items():
+    for words, line in {**trials, **(reader if says(files[path], APART) else {})}.items():
         found = set(faults({**files, path: f"{files[path]}\n{line}\n"}, path)) - set(wrong)
         if not any(words in fault for fault in found):
             wrong.append(f"{path}: not found by this test: {line}")
 for fault in wrong:
     print(fault)
-print(f"files of definitions: {len(files) - len(tied)}; of ties: {len(tied)}")
-sys.exit(1 if wrong else 0)
+apart = sum(says(text, APART) for text in files.values())
+print(f"files of definitions: {len(files) - len(tied)}, apart from any reader: {apart}; of ties: {len(tied)}")
+sys.exit(1 if wrong or not apart else 0)

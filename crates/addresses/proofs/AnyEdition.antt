@@ -23,7 +23,8 @@ use Rattle.grammar.specs.Executable.{Decides}
 use Rattle.grammar.proofs.AnyReader.{answer-accepts, answer-derives}
 use Rattle.addresses.specs.Editions.{Edition}
 use Rattle.octets.proofs.AnswerLaws.{answered}
-use Rattle.addresses.specs.Outcome.{Outcome, AnsweredBy, refusal, derived, byVerdict, decided, symbolsIn, readIn, outcomeIn}
+use Rattle.addresses.specs.Editions.{symbolsIn}
+use Rattle.addresses.specs.Outcome.{Outcome, AnsweredBy, refusal, derived, byVerdict, decided, readIn, outcomeIn}
 use Rattle.addresses.specs.Condition3.{IsListIn, Settled, Condition3In}
 use Rattle.addresses.specs.Whole.{IsListed, IsRefused, TwiceIs, TextIs}
 

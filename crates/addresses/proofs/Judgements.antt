@@ -19,7 +19,8 @@ use Rattle.grammar.specs.Executable.{Decides}
 use Rattle.grammar.proofs.AnyReader.{answer-accepts, answer-derives}
 use Rattle.grammar.proofs.Condition3.{answer, decides}
 use Rattle.addresses.specs.Editions.{Edition, edition733}
-use Rattle.addresses.specs.Outcome.{byVerdict, symbolsIn, readIn, bodySymbols, readWithin, bodyRead}
+use Rattle.addresses.specs.Editions.{symbolsIn, bodySymbols}
+use Rattle.addresses.specs.Outcome.{byVerdict, readIn, readWithin, bodyRead}
 use Rattle.addresses.specs.Condition3.{IsListIn, IsList}
 use Rattle.addresses.proofs.AnyEdition.{verdict-decides}
 

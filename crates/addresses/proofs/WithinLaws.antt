@@ -17,7 +17,8 @@ use Rattle.grammar.specs.Grammar.{levels}
 use Rattle.grammar.specs.Language.{Verdict, accepted, refused}
 use Rattle.grammar.specs.Rfc733.{Derivation}
 use Rattle.grammar.proofs.Condition3.{answer, answer-accepts, answer-derives}
-use Rattle.addresses.specs.Outcome.{byVerdict, bodySymbols}
+use Rattle.addresses.specs.Editions.{bodySymbols}
+use Rattle.addresses.specs.Outcome.{byVerdict}
 use Rattle.addresses.specs.Steps.{symbolsFrom}
 use Rattle.addresses.specs.Whole.{Body, endsWithin}
 use Rattle.addresses.specs.Within.{listWithin}

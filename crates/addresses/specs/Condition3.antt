@@ -18,7 +18,7 @@ use Rattle.grammar.specs.Language.{Refusal, refused, number, positionOf, Right}
 use Rattle.grammar.specs.Records.{count, records, tableBytes}
 use Rattle.grammar.specs.Rfc733.{Derivation}
 use Rattle.addresses.specs.Editions.{Edition, edition733}
-use Rattle.addresses.specs.Outcome.{symbolsIn}
+use Rattle.addresses.specs.Editions.{symbolsIn}
 
 module _ {N : Type 0} (edition : Edition N) where
   -- these symbols have this derivation, of at most 64 levels

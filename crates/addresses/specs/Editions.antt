@@ -2,9 +2,11 @@
 use Prim.Native.Nat.{ℕ, _+_}
 use mathlib.Core.List.{List, [], _∷_}
 use lib.Dec.{eqb}
+use lib.ListN.{take}
 use Rattle.octets.specs.Choice.{pick}
 use Rattle.octets.specs.Classes.{classTable, classTable822}
 use Rattle.scanner.specs.Symbols.{Symbol}
+use Rattle.scanner.specs.Scanning.{scanBy, symbolsOf}
 use Rattle.scanner.specs.declared.Class.{Class}
 use Rattle.scanner.specs.declared.Class.the-variants.{Atom, Quoted, At, LessThan, GreaterThan, Comma, Semicolon, Colon, Stray, Dot, Literal}
 use Rattle.grammar.specs.Grammar.{Grammar}
@@ -20,9 +22,17 @@ pub record Edition (N : Type 0) : Type 0 where
   pub grammar : Grammar Class N
   pub list : N
 
+-- the symbols of the body of a message from `start` up to `end`, as the rules of an edition take them
+abbrev pub symbolsIn : {N : Type 0} → Edition N → List ℕ → ℕ → ℕ → List (Symbol Class)
+symbolsIn edition message start end = edition .taken (symbolsOf (scanBy (edition .classes) (take end message) start))
+
 -- RFC 733 takes the symbols as they are
 abbrev pub edition733 : Edition of733.Notion
 edition733 = record { classes = classTable; taken = λ xs. xs; grammar = of733.rfc733; list = of733.list }
+
+-- the symbols of a body in RFC 733
+abbrev pub bodySymbols : List ℕ → ℕ → ℕ → List (Symbol Class)
+bodySymbols message start end = symbolsIn edition733 message start end
 
 -- RFC 822 has no rule of its own for the atom "at", which is an atom as any other; it has two bytes, and "@" one
 abbrev pub classIn822 : Class → ℕ → ℕ → Class

@@ -12,7 +12,7 @@ use Rattle.octets.specs.Stored.{roomFor}
 use Rattle.octets.specs.declared.answers.Answer.{Answer}
 use Rattle.octets.specs.declared.answers.Answer.the-variants.{Accepted, Refused, NoRoom}
 use Rattle.scanner.specs.Symbols.{Symbol}
-use Rattle.scanner.specs.Scanning.{scanBy, symbolsOf}
+use Rattle.scanner.specs.Scanning.{scanBy}
 use Rattle.scanner.specs.Answers.{bodyChecked, unlessFault}
 use Rattle.scanner.specs.declared.Class.{Class}
 use Rattle.grammar.specs.Grammar.{Row}
@@ -20,7 +20,7 @@ use Rattle.grammar.specs.Language.{Verdict, accepted, refused, number, position
 use Rattle.grammar.specs.Records.{count, records, tableBytes}
 use Rattle.grammar.specs.Rfc733.{Derivation}
 use Rattle.grammar.specs.Executable.Machine733.{answer}
-use Rattle.addresses.specs.Editions.{Edition, edition733}
+use Rattle.addresses.specs.Editions.{Edition, edition733, symbolsIn}
 
 -- an answer, and the lent bytes afterwards
 pub record Outcome : Type 0 where
@@ -52,10 +52,6 @@ decided end table verdict = byVerdict (refusal table) (derived table) end verdic
 
 -- ---- in any edition, by a verdict on the symbols
 
--- the symbols of the body of a message from `start` up to `end`
-abbrev pub symbolsIn : {N : Type 0} → Edition N → List ℕ → ℕ → ℕ → List (Symbol Class)
-symbolsIn edition message start end = edition .taken (symbolsOf (scanBy (edition .classes) (take end message) start))
-
 -- what is answered for any message and positions, of a derivation or of a refusal
 abbrev pub readIn : {N A : Type 0} → Edition N → (List (Symbol Class) → Verdict Class (Row Class N)) → (ℕ → ℕ → A) → (Row Class N → A) → List ℕ → ℕ → ℕ → A
 readIn edition verdict refuse derive message start end =
@@ -67,9 +63,6 @@ abbrev pub outcomeIn : {N : Type 0} → Edition N → (List (Symbol Class) → V
 outcomeIn edition verdict message start end table = readIn edition verdict (refusal table) (derived table) message start end
 
 -- ---- in RFC 733
-
-abbrev pub bodySymbols : List ℕ → ℕ → ℕ → List (Symbol Class)
-bodySymbols message start end = symbolsIn edition733 message start end
 
 -- what is answered of a list of at most so many levels or of a refusal
 abbrev pub readWithin : {A : Type 0} → ℕ → (ℕ → ℕ → A) → (Derivation → A) → List ℕ → ℕ → ℕ → A

@@ -10,7 +10,7 @@ use Rattle.header.specs.declared.names.Known.the-variants.{Date, From, ReplyTo,
 use Rattle.dates.specs.Answers as date
 use Rattle.dates.specs.declared.DateAnswer.{DateAnswer}
 use Rattle.reply.specs.Reply.{leftForFrom}
-use Rattle.touch.specs.Touched as touch
+use Rattle.touch.specs.Answers as touch
 use Rattle.touch.specs.declared.Touched.{Touched}
 
 -- a lent array afterwards: the number, position and count at its front, as far as it reaches

@@ -24,7 +24,8 @@ use Rattle.grammar.specs.Records.{count}
 use Rattle.grammar.proofs.Machine822.{read}
 use Rattle.grammar.proofs.Condition822.{decides, never-ten}
 use Rattle.addresses.specs.Editions.{edition822}
-use Rattle.addresses.specs.Outcome.{Outcome, refusal, derived, decided, symbolsIn}
+use Rattle.addresses.specs.Editions.{symbolsIn}
+use Rattle.addresses.specs.Outcome.{Outcome, refusal, derived, decided}
 use Rattle.editions.specs.Outcome.{outcome822}
 
 -- this answer is no refusal with 10

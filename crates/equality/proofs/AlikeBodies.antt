@@ -19,7 +19,8 @@ use Rattle.grammar.specs.Rfc733.{Derivation}
 use Rattle.grammar.proofs.Condition3.{answer, answer-derives}
 use Rattle.grammar.proofs.Trees.{Class, Sym}
 use Rattle.addresses.specs.Condition3.{IsList}
-use Rattle.addresses.specs.Outcome.{Outcome, refusal, derived, bodySymbols, outcome}
+use Rattle.addresses.specs.Editions.{bodySymbols}
+use Rattle.addresses.specs.Outcome.{Outcome, refusal, derived, outcome}
 use Rattle.addresses.proofs.Judgements.{ListBody, RefusedBody, faulty-read, refused-read, listed-read}
 use Rattle.plain.specs.Meaning.{meaning}
 use Rattle.plain.specs.PlainText.{plainText, addressesText}

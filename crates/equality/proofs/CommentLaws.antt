@@ -6,7 +6,7 @@ use lib.ListN.{take, length-append}
 use Rattle.scanner.specs.Scanning.{scan}
 use Rattle.grammar.specs.Rfc733.{Derivation}
 use Rattle.addresses.specs.Condition3.{IsList}
-use Rattle.addresses.specs.Outcome.{bodySymbols}
+use Rattle.addresses.specs.Editions.{bodySymbols}
 use Rattle.addresses.proofs.Judgements.{scanned-body, list-scanned}
 use Rattle.equality.specs.Exchange.{Place, MayHoldComment, messageWith, endWith, Holds, AcceptedWith, StillAccepted, CommentsDoNotCount}
 use Rattle.equality.proofs.Shifts.{AlikeScans}

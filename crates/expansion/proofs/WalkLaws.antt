@@ -14,7 +14,8 @@ use Rattle.grammar.specs.Grammar.{levels}
 use Rattle.grammar.specs.Rfc733.{Derivation, DerivedList}
 use Rattle.grammar.proofs.Trees.{Sym}
 use Rattle.grammar.proofs.Rows.{asRow, row-levels, tree-derived}
-use Rattle.addresses.specs.Outcome.{bodySymbols, bodyRead}
+use Rattle.addresses.specs.Editions.{bodySymbols}
+use Rattle.addresses.specs.Outcome.{bodyRead}
 use Rattle.addresses.proofs.Judgements.{refusedAt, judged, listed-read}
 use Rattle.addresses.proofs.Judgements as judgements
 use Rattle.plain.specs.Meaning.{Addresses, noAddress}

@@ -12,7 +12,7 @@ use Rattle.scanner.specs.Answers.{bodyScanned}
 use Rattle.grammar.specs.Rfc733.{Derivation, kindNumber, include}
 use Rattle.addresses.specs.Editions.{edition733}
 use Rattle.addresses.specs.Outcome as addresses
-use Rattle.addresses.specs.Outcome.{bodySymbols}
+use Rattle.addresses.specs.Editions.{bodySymbols}
 use Rattle.addresses.specs.Condition3.{RightlyRefused}
 use Rattle.plain.specs.Meaning.{Addresses, noAddress, andAddress, Address, address, meaning}
 use Rattle.plain.specs.PlainText.{addressesText, plainText}
@@ -48,7 +48,7 @@ abbrev pub Promised : Expansion → Type 0
 Promised (stopped n p openings) = openings ≤ openingLimit
 Promised (reached m openings) = ExpandedWell m openings
 
--- of an answer and a lent text afterwards, over the grammar and apart from any reader
+-- of an answer and a lent text afterwards, by the derivation of the body
 pub record Promises (message : List ℕ) (start end : ℕ) (store lent : List ℕ) (r : Expanded) (after : List ℕ) : Type 0 where
   -- of an accepted body its expansion is answered
   pub expands : (k : Derivation) → AcceptedBody message start end k → AnsweredBy (expanded lent (expansion store k)) r after

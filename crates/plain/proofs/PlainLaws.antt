@@ -16,7 +16,8 @@ use Rattle.addresses.proofs.Told.{SomeList, refused-told}
 use Rattle.plain.specs.PlainText.{plainText}
 use Rattle.plain.specs.Walking.{writtenText}
 use Rattle.plain.specs.RoundTrip.{AcceptedBody}
-use Rattle.plain.specs.Written.{written, plainOutcome, Condition2}
+use Rattle.plain.specs.Condition2.{Condition2}
+use Rattle.plain.specs.Written.{written, plainOutcome}
 use Rattle.plain.proofs.RoundTrips.{round-trip, written-accepted}
 
 module _ (message : List ℕ) (start end : ℕ) where

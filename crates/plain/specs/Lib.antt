@@ -4,4 +4,5 @@ pub mod PlainText
 pub mod RoundTrip
 pub mod Walking
 pub mod Writing
+pub mod Condition2
 pub mod Written

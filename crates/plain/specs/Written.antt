@@ -1,20 +1,10 @@
--- Document 01, "Plain writing": what the writer answers and leaves in the lent text; and condition 2.
-use Prim.Native.Nat.{ℕ, _≤_}
-use mathlib.Core.Path.{_≡_}
+-- Document 01, "Plain writing": what the writer answers and leaves in the lent text.
+use Prim.Native.Nat.{ℕ}
 use mathlib.Core.List.{List}
-use lib.ListN.{length}
-use Rattle.octets.specs.Answers.{telling, told}
 use Rattle.octets.specs.Fitting.{fittingAnswer, fittingText}
-use Rattle.octets.specs.Numbers.{messageLimit}
-use Rattle.octets.specs.declared.answers.Answer.{Answer}
-use Rattle.octets.specs.declared.answers.Answer.the-variants.{Accepted, Refused}
-use Rattle.scanner.specs.Answers.{bodyScanned}
 use Rattle.grammar.specs.Rfc733.{Derivation}
-use Rattle.addresses.specs.Editions.{edition733}
-use Rattle.addresses.specs.Outcome.{Outcome, bodySymbols, outcomeBy}
-use Rattle.addresses.specs.Condition3.{RightlyRefused}
+use Rattle.addresses.specs.Outcome.{Outcome, outcomeBy}
 use Rattle.plain.specs.PlainText.{plainText}
-use Rattle.plain.specs.RoundTrip.{AcceptedBody, RoundTrip}
 
 -- a derivation: its plain text at the front of the lent text, or 11 with its length where there is too little room
 abbrev pub written : List ℕ → Derivation → Outcome
@@ -23,15 +13,3 @@ written lent k = record { answer = fittingAnswer (plainText k) lent; table = fit
 -- the outcome for any message, positions and lent text: the writer refuses with the reader's numbers
 abbrev pub plainOutcome : List ℕ → ℕ → ℕ → List ℕ → Outcome
 plainOutcome message start end lent = outcomeBy written message start end lent
-
--- condition 2, over the grammar and apart from any reader, of an answer and a lent text afterwards
-pub record Condition2 (message : List ℕ) (start end : ℕ) (lent : List ℕ) (r : Answer) (after : List ℕ) : Type 0 where
-  -- of an accepted body its plain text is written, if it fits, and nothing else changes
-  pub writes : (k : Derivation) → AcceptedBody message start end k → (told r ≡ told (fittingAnswer (plainText k) lent)) × (after ≡ fittingText (plainText k) lent)
-  -- and that text, if it is at most 32,768 bytes, reads back the same and writes back the same bytes
-  pub round-trip : (k : Derivation) → AcceptedBody message start end k → length (plainText k) ≤ messageLimit → RoundTrip k
-  -- a body that scans without fault and is no list is refused with 8, 9 or 10, as condition 3 has it, and the lent text is unchanged
-  pub no-list : bodyScanned message start end ≡ Accepted 0 → ((k : Derivation) → AcceptedBody message start end k → ⊥)
-      → RightlyRefused edition733 (bodySymbols message start end) end r × (after ≡ lent)
-  -- any other is refused with the number and position of the check or of the fault
-  pub unread : (number position : ℕ) → bodyScanned message start end ≡ Refused number position → (told r ≡ telling number position 0) × (after ≡ lent)

@@ -22,7 +22,8 @@ use Rattle.grammar.specs.Rfc733.{Derivation}
 use Rattle.grammar.proofs.Condition3.{answer, answer-right, answer-accepts, answer-derives}
 use Rattle.grammar.proofs.Records.{length-records, parent-smaller}
 use Rattle.grammar.proofs.Trees.{Sym}
-use Rattle.addresses.specs.Outcome.{derived, bodySymbols, outcome}
+use Rattle.addresses.specs.Editions.{bodySymbols}
+use Rattle.addresses.specs.Outcome.{derived, outcome}
 use Rattle.addresses.specs.Outcome as addresses
 use Rattle.addresses.specs.Condition3.{IsList}
 use Rattle.addresses.proofs.BodyRecords.{in-body}
@@ -33,7 +34,8 @@ use Rattle.expected.specs.Named.{named, expectedIn}
 use Rattle.expected.proofs.NameLaws.{before-refused, names-right}
 use Rattle.grammar.specs.Records.{noRecord}
 use Rattle.touch.specs.Around.{around, firstPlus, Climbs}
-use Rattle.touch.specs.Touched.{told, AnsweredBy, Outcome, unchanged, refusal, byteOf, ofList, decided, touched}
+use Rattle.touch.specs.Answers.{told, AnsweredBy, Outcome, unchanged, refusal, byteOf, ofList}
+use Rattle.touch.specs.Touched.{decided, touched}
 use Rattle.touch.specs.ByGrammar.{NamedThere, ByGrammar}
 use Rattle.touch.specs.Climbing.{Holds, HeldList, ClimbIs, LastAroundIs}
 use Rattle.touch.specs.declared.Touched.{Touched}

@@ -12,10 +12,10 @@ use Rattle.scanner.specs.Answers.{faultOf}
 use Rattle.scanner.specs.declared.Class.{Class}
 use Rattle.grammar.specs.Language.{Refusal, refused, number, positionOf}
 use Rattle.grammar.specs.Rfc733.{Derivation, RightVerdict}
-use Rattle.addresses.specs.Outcome.{bodySymbols}
+use Rattle.addresses.specs.Editions.{bodySymbols}
 use Rattle.addresses.specs.Condition3.{IsList}
 use Rattle.expected.specs.Things.{Thing, Exactly, sumOf}
-use Rattle.touch.specs.Touched.{told, ofList}
+use Rattle.touch.specs.Answers.{told, ofList}
 use Rattle.touch.specs.declared.Touched.{Touched}
 
 -- refused with 8, 9 or 10 at the very place that condition 3 gives, behind the symbols `before`; and things are named, each of them

@@ -9,7 +9,7 @@ use Rattle.grammar.specs.Records.{AddressRecord, noRecord, records, recordIn}
 use Rattle.grammar.specs.Rfc733.{Derivation}
 use Rattle.addresses.proofs.Judgements.{ListBody}
 use Rattle.touch.specs.Around.{around, firstPlus, Climbs}
-use Rattle.touch.specs.Touched.{ofList}
+use Rattle.touch.specs.Answers.{ofList}
 use Rattle.touch.specs.declared.Touched.{Touched}
 
 -- a table holds these records, `many` of them, each with a parent before it

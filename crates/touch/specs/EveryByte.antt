@@ -6,7 +6,7 @@ use Rattle.octets.specs.declared.answers.Answer.the-variants.{Accepted}
 use Rattle.scanner.specs.Answers.{bodyScanned}
 use Rattle.scanner.specs.Categories.{categoryAt, Told}
 use Rattle.grammar.specs.Rfc733.{Derivation}
-use Rattle.addresses.specs.Outcome.{bodySymbols}
+use Rattle.addresses.specs.Editions.{bodySymbols}
 use Rattle.addresses.specs.Condition3.{IsList}
 
 -- of a body that passes the checks and scans without fault, to a list
