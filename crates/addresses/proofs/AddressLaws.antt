@@ -13,7 +13,8 @@ use Rattle.scanner.specs.declared.Next.{Next}
 use Rattle.scanner.specs.declared.Next.the-variants.{Found, Ended, Fault}
 use Rattle.grammar.specs.Language.{unfit, unfinished, refused, number}
 use Rattle.grammar.specs.Records.{recordBy, recordBytes}
-use Rattle.grammar.proofs.Trees.{Class, Atom, Quoted, At, LessThan, GreaterThan, Comma, Semicolon, Colon, Stray, Dot, Literal, Lexeme, Sym, of, atomWord, quotedWord, Phrase, one, more, mailbox, quoted, phraseThen}
+use Rattle.grammar.specs.Executable.Trees733.{Class, Atom, Quoted, At, LessThan, GreaterThan, Comma, Semicolon, Colon, Stray, Dot, Literal, Lexeme, Sym, of, atomWord, quotedWord, Phrase, one, more, mailbox, quoted}
+use Rattle.grammar.proofs.Trees.{phraseThen}
 use Rattle.addresses.proofs.ClassCases.{BeginsNone}
 use Rattle.grammar.specs.Executable.Machine733.{Here, phrase, firstAt, lone, levelsHere, run, judge}
 use Rattle.grammar.proofs.Complete.{begin, run-phrase, run-mailbox}

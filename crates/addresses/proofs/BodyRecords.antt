@@ -9,7 +9,7 @@ use Rattle.octets.specs.Classes.{classTable}
 use Rattle.scanner.proofs.Spans.{Placed, none, one, placed}
 use Rattle.grammar.specs.Records.{count, records}
 use Rattle.grammar.specs.Rfc733.{Derivation}
-use Rattle.grammar.proofs.Trees.{Class, Atom, Quoted, At, LessThan, GreaterThan, Comma, Semicolon, Colon, Stray, Dot, Literal, Sym}
+use Rattle.grammar.specs.Executable.Trees733.{Class, Atom, Quoted, At, LessThan, GreaterThan, Comma, Semicolon, Colon, Stray, Dot, Literal, Sym}
 use Rattle.grammar.proofs.Order.{leastBytes, InOrder, Ascending, records-ascend, count-half}
 use Rattle.addresses.specs.Editions.{bodySymbols}
 use Rattle.addresses.proofs.Judgements.{ListBody}

@@ -15,7 +15,8 @@ use Rattle.grammar.specs.Language.{unfit, unfinished, tooDeep, refused, number}
 use Rattle.grammar.specs.Records.{AddressRecord, recordBy, recordBytes, tableBytes}
 use Rattle.grammar.specs.Rfc733.{sameClass, kindNumber, typedKind}
 use Rattle.grammar.proofs.HouseRule.{same-class}
-use Rattle.grammar.proofs.Trees.{Class, Atom, Quoted, At, LessThan, GreaterThan, Comma, Semicolon, Colon, Stray, Dot, Literal, Lexeme, Sym, of, Phrase, AddressList, empty, idle, angle, group, typed, nameThen, atomColon}
+use Rattle.grammar.specs.Executable.Trees733.{Class, Atom, Quoted, At, LessThan, GreaterThan, Comma, Semicolon, Colon, Stray, Dot, Literal, Lexeme, Sym, of, Phrase, AddressList, empty, idle, angle, group, typed}
+use Rattle.grammar.proofs.Trees.{nameThen, atomColon}
 use Rattle.grammar.specs.Executable.Machine733.{Here, inTyped, inAngle, inGroup, list, want, levelsHere, levelsAt, nameless, fresh, run, judge}
 use Rattle.grammar.proofs.Complete.{begin, doneAddress, doneList, Clear, complete-doneList, run-angle, run-group}
 use Rattle.grammar.proofs.Readers.{ListEnds, endsAddress, deep-angle, deep-group, closed-unfit, clear-colon, run-typed}

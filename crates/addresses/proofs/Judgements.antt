@@ -17,7 +17,8 @@ use Rattle.grammar.specs.Language.{Refusal, Verdict, accepted, refused, number,
 use Rattle.grammar.specs.Rfc733.{Derivation}
 use Rattle.grammar.specs.Executable.{Decides}
 use Rattle.grammar.proofs.AnyReader.{answer-accepts, answer-derives}
-use Rattle.grammar.proofs.Condition3.{answer, decides}
+use Rattle.grammar.specs.Executable.Machine733.{answer}
+use Rattle.grammar.proofs.Condition3.{decides}
 use Rattle.addresses.specs.Editions.{Edition, edition733}
 use Rattle.addresses.specs.Editions.{symbolsIn, bodySymbols}
 use Rattle.addresses.specs.Outcome.{byVerdict, readIn, readWithin, bodyRead}

@@ -9,7 +9,8 @@ use lib.Seq.{sets}
 use Rattle.scanner.specs.declared.Next.{Next}
 use Rattle.scanner.specs.declared.Next.the-variants.{Found}
 use Rattle.grammar.specs.Records.{tableBytes}
-use Rattle.grammar.proofs.Trees.{Class, Comma, Lexeme, Sym, of, empty, comma, AddressList, idle, full, atomColon}
+use Rattle.grammar.specs.Executable.Trees733.{Class, Comma, Lexeme, Sym, of, empty, comma, AddressList, idle, full}
+use Rattle.grammar.proofs.Trees.{atomColon}
 use Rattle.grammar.specs.Executable.Machine733.{inList, Level, list, levelsAt, nameless, fresh, run, judge}
 use Rattle.grammar.proofs.Complete.{doneList, Clear, complete-doneList}
 use Rattle.grammar.proofs.Readers.{AddressEnds, ListEnds, endsAddress}

@@ -1,6 +1,6 @@
 -- An address that begins with a phrase. Assumes nothing.
 use mathlib.Core.Path.{_≡_, refl, sym, ap, _∙_}
-use mathlib.Core.Bool.{Bool, true, false, true≢false}
+use mathlib.Core.Bool.{Bool, false, true≢false}
 use mathlib.Core.List.{List, [], _∷_}
 use mathlib.Core.Option.{some}
 use Prim.Native.Nat.{ℕ}
@@ -9,9 +9,9 @@ use denote.Enum.Declared.{tagOf}
 use Rattle.scanner.proofs.Next as next-declared
 use Rattle.scanner.specs.declared.Next.{Next}
 use Rattle.scanner.specs.declared.Next.the-variants.{Found, Ended, Fault}
-use Rattle.grammar.proofs.Trees.{Class, Atom, Quoted, At, LessThan, GreaterThan, Comma, Semicolon, Colon, Stray, Dot, Literal, Lexeme, Sym, of, Phrase, one, phraseThen}
-use Rattle.grammar.proofs.TreeRecords.{phraseStart, phraseEnd}
-use Rattle.addresses.specs.Steps.{isWord, isQuoted, followsPhrase, loneQuoted, opening, House, symbolsFrom, lexemeAt, symbolAt, symbolsAhead, Ahead, FirstWord, WordsIs, NoMark, Named, Opening}
+use Rattle.grammar.specs.Executable.Trees733.{Class, Atom, Quoted, At, LessThan, GreaterThan, Comma, Semicolon, Colon, Stray, Dot, Literal, Lexeme, Sym, Phrase, one}
+use Rattle.grammar.proofs.Trees.{phraseThen}
+use Rattle.addresses.specs.Steps.{isWord, isQuoted, followsPhrase, loneQuoted, opening, House, symbolsFrom, lexemeAt, symbolsAhead, Ahead, FirstWord, WordsIs, NoMark, Named, Opening}
 use Rattle.addresses.specs.declared.Words.{Words}
 use Rattle.grammar.specs.declared.Span.{Span}
 use Rattle.addresses.specs.declared.Enclosure.{Enclosure}

@@ -1,22 +1,18 @@
 -- What the next symbol tells of the symbols from a position on. Assumes nothing.
 use mathlib.Core.Path.{_≡_, refl, sym, ap, _∙_}
-use mathlib.Core.Bool.{Bool, true, false}
 use mathlib.Core.List.{List, [], _∷_}
-use Prim.Native.Nat.{ℕ, _+_, _≤_, _<_}
+use Prim.Native.Nat.{ℕ}
 use native.Mathlib.Omega.{arith}
-use lib.ListN.{length}
 use types.Run.{OneOf}
 use denote.Enum.Declared.{tagOf}
 use Rattle.scanner.proofs.Next as next-declared
-use Rattle.octets.specs.Numbers.{noListGoesOn, endsTooSoon}
-use Rattle.octets.specs.declared.answers.Answer.the-variants.{Accepted}
 use Rattle.scanner.specs.Scanning.{scanBy, symbolsOf}
 use Rattle.scanner.specs.Answers.{nextOf, unlessFault, faultOf}
 use Rattle.scanner.specs.declared.Next.{Next}
 use Rattle.scanner.specs.declared.Next.the-variants.{Found, Ended, Fault}
 use Rattle.scanner.proofs.Unfolding.{SymbolAt, found, found-end, found-fault, fault-on}
-use Rattle.grammar.proofs.Trees.{Class, Sym}
-use Rattle.addresses.specs.Steps.{symbolsFrom, symbolsAhead, Faultless, Standing, Ahead}
+use Rattle.grammar.specs.Executable.Trees733.{Class}
+use Rattle.addresses.specs.Steps.{symbolsFrom, symbolsAhead, Faultless, Ahead}
 use Rattle.addresses.proofs.ClassCases.{no-symbol}
 
 -- the next symbol at or after a position

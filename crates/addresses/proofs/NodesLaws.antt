@@ -9,7 +9,8 @@ use Rattle.octets.specs.Numbers.{noListGoesOn, endsTooSoon}
 use Rattle.scanner.specs.declared.Next.{Next}
 use Rattle.scanner.specs.declared.Next.the-variants.{Found}
 use Rattle.grammar.specs.Language.{unfit, unfinished, refused}
-use Rattle.grammar.proofs.Trees.{Class, Atom, Quoted, At, LessThan, GreaterThan, Comma, Semicolon, Colon, Stray, Dot, Literal, Lexeme, Sym, of, Word, Phrase, Nodes, first, next, wordSymbol, nodesThen}
+use Rattle.grammar.specs.Executable.Trees733.{Class, Atom, Quoted, At, LessThan, GreaterThan, Comma, Semicolon, Colon, Stray, Dot, Literal, Lexeme, Sym, of, Word, Phrase, Nodes, first, next}
+use Rattle.grammar.proofs.Trees.{wordSymbol, nodesThen}
 use Rattle.grammar.specs.Executable.Machine733.{Here, State, firstAt, nextAt, node, run, judge}
 use Rattle.grammar.proofs.Complete.{run-word}
 use Rattle.grammar.proofs.Readers.{AddressEnds}

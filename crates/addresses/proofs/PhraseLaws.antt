@@ -2,15 +2,15 @@
 use mathlib.Core.Path.{_≡_, refl, sym, ap, _∙_}
 use mathlib.Core.Bool.{Bool, true, false, true≢false}
 use mathlib.Core.List.{List, [], _∷_}
-use Prim.Native.Nat.{ℕ, _≤_, _<_}
+use Prim.Native.Nat.{ℕ, _≤_}
 use native.Mathlib.Omega.{arith}
 use lib.ListN.{length}
 use Rattle.scanner.specs.declared.Next.{Next}
-use Rattle.scanner.specs.declared.Next.the-variants.{Found, Ended, Fault}
-use Rattle.grammar.proofs.Trees.{Class, Atom, Quoted, At, LessThan, GreaterThan, Comma, Semicolon, Colon, Stray, Dot, Literal, Lexeme, Sym, of, Word, atomWord, quotedWord, Phrase, one, more, wordSymbol, phraseThen}
+use Rattle.scanner.specs.declared.Next.the-variants.{Found}
+use Rattle.grammar.specs.Executable.Trees733.{Class, Atom, Quoted, At, LessThan, GreaterThan, Comma, Semicolon, Colon, Stray, Dot, Literal, Lexeme, Sym, of, Word, atomWord, quotedWord, Phrase, one, more}
+use Rattle.grammar.proofs.Trees.{wordSymbol, phraseThen}
 use Rattle.grammar.proofs.TreeRecords.{wordLexeme, phraseStart, phraseEnd}
-use Rattle.addresses.specs.Steps.{isWord, isQuoted, loneQuoted, symbolsFrom, lexemeAt, symbolAt, symbolsAhead, Faultless, Standing, Ahead, Reached, NoWord, WordsIs}
-use Rattle.addresses.specs.declared.Words.{Words}
+use Rattle.addresses.specs.Steps.{isWord, isQuoted, loneQuoted, symbolsFrom, lexemeAt, symbolsAhead, Faultless, Reached, NoWord, WordsIs}
 use Rattle.addresses.proofs.NextLaws.{NextIs}
 
 -- the word of a class

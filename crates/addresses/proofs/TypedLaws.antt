@@ -1,14 +1,14 @@
 -- Whether an atom and ":" follow a ":". Assumes nothing.
-use mathlib.Core.Path.{_≡_, refl, sym, ap, _∙_}
-use mathlib.Core.Bool.{Bool, true, false, true≢false}
+use mathlib.Core.Path.{_≡_, ap, _∙_}
+use mathlib.Core.Bool.{false}
 use mathlib.Core.List.{List, [], _∷_}
 use Prim.Native.Nat.{ℕ}
 use native.Mathlib.Omega.{arith}
-use Rattle.octets.specs.Choice.{both}
 use Rattle.scanner.specs.declared.Next.the-variants.{Found}
 use Rattle.grammar.specs.Rfc733.{sameClass}
-use Rattle.grammar.proofs.Trees.{Class, Atom, Colon, atomColon}
-use Rattle.addresses.specs.Steps.{symbolsFrom, symbolsAhead, lexemeAt, TypedFollows}
+use Rattle.grammar.specs.Executable.Trees733.{Class, Atom, Colon}
+use Rattle.grammar.proofs.Trees.{atomColon}
+use Rattle.addresses.specs.Steps.{symbolsFrom, lexemeAt, TypedFollows}
 use Rattle.addresses.proofs.NextLaws.{NextIs}
 
 module _ (classes text : List ℕ) where

@@ -15,10 +15,9 @@ use Rattle.scanner.specs.declared.Next.{Next}
 use Rattle.scanner.specs.declared.Next.the-variants.{Found}
 use Rattle.grammar.specs.Language.{unfit, accepted, refused}
 use Rattle.grammar.specs.Records.{count, tableBytes}
-use Rattle.grammar.proofs.Condition3.{asRows, answer, decides}
-use Rattle.grammar.proofs.Rows.{asRow}
-use Rattle.grammar.proofs.Trees.{Class, Atom, Quoted, At, LessThan, GreaterThan, Comma, Semicolon, Colon, Stray, Dot, Literal, Lexeme, Sym, of, AddressList}
-use Rattle.grammar.specs.Executable.Machine733.{top, run, judge}
+use Rattle.grammar.specs.Executable.Machine733.{asRows, answer, top, run, judge}
+use Rattle.grammar.proofs.Condition3.{decides}
+use Rattle.grammar.specs.Executable.Trees733.{asRow, Class, Atom, Quoted, At, LessThan, GreaterThan, Comma, Semicolon, Colon, Stray, Dot, Literal, Lexeme, Sym, of, AddressList}
 use Rattle.grammar.proofs.Complete.{doneList, complete-doneList}
 use Rattle.grammar.proofs.Readers.{ListEnds}
 use Rattle.grammar.proofs.TreeRecords.{tree-records, tree-count}

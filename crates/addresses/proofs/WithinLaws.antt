@@ -16,7 +16,8 @@ use Rattle.scanner.proofs.BodyChecks.{Clean, refused-body, clean-body, body-cas
 use Rattle.grammar.specs.Grammar.{levels}
 use Rattle.grammar.specs.Language.{Verdict, accepted, refused}
 use Rattle.grammar.specs.Rfc733.{Derivation}
-use Rattle.grammar.proofs.Condition3.{answer, answer-accepts, answer-derives}
+use Rattle.grammar.specs.Executable.Machine733.{answer}
+use Rattle.grammar.proofs.Condition3.{answer-accepts, answer-derives}
 use Rattle.addresses.specs.Editions.{bodySymbols}
 use Rattle.addresses.specs.Outcome.{byVerdict}
 use Rattle.addresses.specs.Steps.{symbolsFrom}

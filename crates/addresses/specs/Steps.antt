@@ -15,7 +15,8 @@ use Rattle.scanner.specs.declared.Next.the-variants.{Found, Ended, Fault}
 use Rattle.scanner.specs.Meanings.{meaningAt}
 use Rattle.grammar.specs.Language.{Refusal, refused, number, positionOf}
 use Rattle.grammar.specs.Records.{tableBytes}
-use Rattle.grammar.proofs.Trees.{Class, Atom, Quoted, At, LessThan, GreaterThan, Comma, Semicolon, Colon, Stray, Dot, Literal, Lexeme, Sym, of, atomWord, quotedWord, Phrase, one, more, Nodes, empty, AddressList, idle, Address, angle, group, phraseThen, nameThen, nodesThen, atomColon}
+use Rattle.grammar.specs.Executable.Trees733.{Class, Atom, Quoted, At, LessThan, GreaterThan, Comma, Semicolon, Colon, Stray, Dot, Literal, Lexeme, Sym, of, atomWord, quotedWord, Phrase, one, more, Nodes, empty, AddressList, idle, Address, angle, group}
+use Rattle.grammar.proofs.Trees.{phraseThen, nameThen, nodesThen, atomColon}
 use Rattle.grammar.specs.Executable.Machine733.{Here, Level, inAngle, inGroup, list, firstAt, levelsHere, levelsAt, nameless, fresh, run, judge}
 use Rattle.grammar.proofs.Complete.{begin, doneAddress, doneList, Clear}
 use Rattle.grammar.proofs.Readers.{AddressEnds, ListEnds, endsAddress}

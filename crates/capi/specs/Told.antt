@@ -14,20 +14,20 @@ use Rattle.touch.specs.Answers as touch
 use Rattle.touch.specs.declared.Touched.{Touched}
 
 -- a lent array afterwards: the number, position and count at its front, as far as it reaches
-abbrev pub told : List ℕ → Answer → List ℕ
-told lent answer = sets lent 0 (numberOf answer ∷ positionOf answer ∷ countOf answer ∷ [])
+abbrev pub toldIn : List ℕ → Answer → List ℕ
+toldIn lent answer = sets lent 0 (numberOf answer ∷ positionOf answer ∷ countOf answer ∷ [])
 
 -- of an expansion: the openings, too
-abbrev pub toldExpanded : List ℕ → Answer → ℕ → List ℕ
-toldExpanded lent answer openings = sets lent 0 (numberOf answer ∷ positionOf answer ∷ countOf answer ∷ openings ∷ [])
+abbrev pub expansionToldIn : List ℕ → Answer → ℕ → List ℕ
+expansionToldIn lent answer openings = sets lent 0 (numberOf answer ∷ positionOf answer ∷ countOf answer ∷ openings ∷ [])
 
 -- the same of a date's answer
-abbrev pub toldDate : List ℕ → DateAnswer → List ℕ
-toldDate lent answer = sets lent 0 (date.numberOf answer ∷ date.positionOf answer ∷ date.countOf answer ∷ [])
+abbrev pub dateToldIn : List ℕ → DateAnswer → List ℕ
+dateToldIn lent answer = sets lent 0 (date.numberOf answer ∷ date.positionOf answer ∷ date.countOf answer ∷ [])
 
 -- of what is answered for a touched byte: what the byte is and what could have stood there, too
-abbrev pub toldTouched : List ℕ → Touched → List ℕ
-toldTouched lent answer = sets lent 0 (touch.numberOf answer ∷ touch.positionOf answer ∷ touch.countOf answer ∷ touch.categoryOf answer ∷ touch.namesOf answer ∷ [])
+abbrev pub touchToldIn : List ℕ → Touched → List ℕ
+touchToldIn lent answer = sets lent 0 (touch.numberOf answer ∷ touch.positionOf answer ∷ touch.countOf answer ∷ touch.categoryOf answer ∷ touch.namesOf answer ∷ [])
 
 -- the place of a known name in document 01's order, from 1; 0 for any other name
 abbrev pub knownNumber : Known → ℕ

@@ -14,7 +14,7 @@ ghost use Rattle.dates.specs.Outcome.{dateAnswer};
 ghost use Rattle.plain.specs.Written.{plainOutcome};
 ghost use Rattle.expansion.specs.Outcome.{expandOutcome};
 ghost use Rattle.touch.specs.Touched.{touched};
-ghost use Rattle.capi.specs.Told.{told, toldExpanded, toldDate, toldTouched, knownNumber, replyNumber};
+ghost use Rattle.capi.specs.Told.{toldIn, expansionToldIn, dateToldIn, touchToldIn, knownNumber, replyNumber};
 use expansion::Expanded;
 use header::names::Known;
 use octets::answers::Answer;
@@ -32,7 +32,7 @@ fn put_three(array: &mut [u64], number: u8, position: usize, count: usize)
 
 // The number, position and count of an answer.
 fn tell(array: &mut [u64], answer: Answer)
-    ensures { λ _. ⌜ now (array .exit) ≡ told (now (array .entry)) answer ⌝ }
+    ensures { λ _. ⌜ now (array .exit) ≡ toldIn (now (array .entry)) answer ⌝ }
 {
     let number = octets::answers::number(answer);
     let position = octets::answers::position(answer);
@@ -41,7 +41,7 @@ fn tell(array: &mut [u64], answer: Answer)
 
 // The number, position and count of what is answered for a touched byte, then what the byte is and what could have stood there.
 fn tell_touched(array: &mut [u64], answer: Touched)
-    ensures { λ _. ⌜ now (array .exit) ≡ toldTouched (now (array .entry)) answer ⌝ }
+    ensures { λ _. ⌜ now (array .exit) ≡ touchToldIn (now (array .entry)) answer ⌝ }
 {
     let number = touch::number(answer);
     let position = touch::position(answer);
@@ -52,7 +52,7 @@ fn tell_touched(array: &mut [u64], answer: Touched)
 
 // The number, position and count of an expansion, then its openings.
 fn tell_expanded(array: &mut [u64], expanded: Expanded)
-    ensures { λ _. ⌜ now (array .exit) ≡ toldExpanded (now (array .entry)) (expanded .answer) (expanded .openings) ⌝ }
+    ensures { λ _. ⌜ now (array .exit) ≡ expansionToldIn (now (array .entry)) (expanded .answer) (expanded .openings) ⌝ }
 {
     let answer = expanded.answer;
     tell(array, answer);
@@ -62,7 +62,7 @@ fn tell_expanded(array: &mut [u64], expanded: Expanded)
 // Split a message into fields: records of 8 bytes in the table.
 #[no_mangle]
 pub extern "C" fn rfc733_split(message: &[u8], table: &mut [u8], array: &mut [u64])
-    ensures { λ _. ⌜ (now (table .exit) ≡ splitTable (now (message .entry)) (now (table .entry))) × (now (array .exit) ≡ told (now (array .entry)) (splitAnswer (now (message .entry)) (now (table .entry)))) ⌝ }
+    ensures { λ _. ⌜ (now (table .exit) ≡ splitTable (now (message .entry)) (now (table .entry))) × (now (array .exit) ≡ toldIn (now (array .entry)) (splitAnswer (now (message .entry)) (now (table .entry)))) ⌝ }
 {
     tell(array, header::fields::split(message, table));
 }
@@ -86,7 +86,7 @@ pub extern "C" fn rfc733_known_name(name: &[u8]) -> u32
 // Scan the body of a message from start up to end: accepted, or its first fault.
 #[no_mangle]
 pub extern "C" fn rfc733_scan(message: &[u8], start: usize, end: usize, array: &mut [u64])
-    ensures { λ _. ⌜ now (array .exit) ≡ told (now (array .entry)) (bodyScanned (now (message .entry)) start end) ⌝ }
+    ensures { λ _. ⌜ now (array .exit) ≡ toldIn (now (array .entry)) (bodyScanned (now (message .entry)) start end) ⌝ }
 {
     tell(array, scanner::scan_body(message, start, end));
 }
@@ -101,7 +101,7 @@ pub extern "C" fn rfc733_addresses(
     table: &mut [u8],
     array: &mut [u64],
 )
-    ensures { λ _. ⌜ (now (table .exit) ≡ outcomeOf edition (now (message .entry)) start end (now (table .entry)) .table) × (now (array .exit) ≡ told (now (array .entry)) (outcomeOf edition (now (message .entry)) start end (now (table .entry)) .answer)) ⌝ }
+    ensures { λ _. ⌜ (now (table .exit) ≡ outcomeOf edition (now (message .entry)) start end (now (table .entry)) .table) × (now (array .exit) ≡ toldIn (now (array .entry)) (outcomeOf edition (now (message .entry)) start end (now (table .entry)) .answer)) ⌝ }
 {
     tell(
         array,
@@ -118,7 +118,7 @@ pub extern "C" fn rfc733_addresses_by_table(
     table: &mut [u8],
     array: &mut [u64],
 )
-    ensures { λ _. ⌜ (now (table .exit) ≡ outcome (now (message .entry)) start end (now (table .entry)) .table) × (now (array .exit) ≡ told (now (array .entry)) (outcome (now (message .entry)) start end (now (table .entry)) .answer)) ⌝ }
+    ensures { λ _. ⌜ (now (table .exit) ≡ outcome (now (message .entry)) start end (now (table .entry)) .table) × (now (array .exit) ≡ toldIn (now (array .entry)) (outcome (now (message .entry)) start end (now (table .entry)) .answer)) ⌝ }
 {
     tell(array, engine::read_addresses(message, start, end, table));
 }
@@ -133,7 +133,7 @@ pub extern "C" fn rfc733_touch(
     path: &mut [u64],
     array: &mut [u64],
 )
-    ensures { λ _. ⌜ (now (path .exit) ≡ touched (now (message .entry)) start end place (now (path .entry)) .path) × (now (array .exit) ≡ toldTouched (now (array .entry)) (touched (now (message .entry)) start end place (now (path .entry)) .answer)) ⌝ }
+    ensures { λ _. ⌜ (now (path .exit) ≡ touched (now (message .entry)) start end place (now (path .entry)) .path) × (now (array .exit) ≡ touchToldIn (now (array .entry)) (touched (now (message .entry)) start end place (now (path .entry)) .answer)) ⌝ }
 {
     tell_touched(array, touch::touch(message, start, end, place, path));
 }
@@ -147,7 +147,7 @@ pub extern "C" fn rfc733_date(
     array: &mut [u64],
     value: &mut i64,
 )
-    ensures { λ _. ⌜ (now (array .exit) ≡ toldDate (now (array .entry)) (dateAnswer (now (message .entry)) start end)) × (now (value .exit) ≡ valueOf (dateAnswer (now (message .entry)) start end)) ⌝ }
+    ensures { λ _. ⌜ (now (array .exit) ≡ dateToldIn (now (array .entry)) (dateAnswer (now (message .entry)) start end)) × (now (value .exit) ≡ valueOf (dateAnswer (now (message .entry)) start end)) ⌝ }
 {
     let answer = dates::read_date(message, start, end);
     put_three(
@@ -168,7 +168,7 @@ pub extern "C" fn rfc733_plain(
     text: &mut [u8],
     array: &mut [u64],
 )
-    ensures { λ _. ⌜ (now (text .exit) ≡ plainOutcome (now (message .entry)) start end (now (text .entry)) .table) × (now (array .exit) ≡ told (now (array .entry)) (plainOutcome (now (message .entry)) start end (now (text .entry)) .answer)) ⌝ }
+    ensures { λ _. ⌜ (now (text .exit) ≡ plainOutcome (now (message .entry)) start end (now (text .entry)) .table) × (now (array .exit) ≡ toldIn (now (array .entry)) (plainOutcome (now (message .entry)) start end (now (text .entry)) .answer)) ⌝ }
 {
     tell(array, plain::write_plain(message, start, end, text));
 }
@@ -183,7 +183,7 @@ pub extern "C" fn rfc733_expand(
     text: &mut [u8],
     array: &mut [u64],
 )
-    ensures { λ _. ⌜ (now (text .exit) ≡ expandOutcome (now (message .entry)) start end (now (store .entry)) (now (text .entry)) .text) × (now (array .exit) ≡ toldExpanded (now (array .entry)) (expandOutcome (now (message .entry)) start end (now (store .entry)) (now (text .entry)) .answer) (expandOutcome (now (message .entry)) start end (now (store .entry)) (now (text .entry)) .openings)) ⌝ }
+    ensures { λ _. ⌜ (now (text .exit) ≡ expandOutcome (now (message .entry)) start end (now (store .entry)) (now (text .entry)) .text) × (now (array .exit) ≡ expansionToldIn (now (array .entry)) (expandOutcome (now (message .entry)) start end (now (store .entry)) (now (text .entry)) .answer) (expandOutcome (now (message .entry)) start end (now (store .entry)) (now (text .entry)) .openings)) ⌝ }
 {
     tell_expanded(array, expansion::expand(message, start, end, store, text));
 }

@@ -17,6 +17,7 @@ use Rattle.dates.specs.declared.moment.Moment.the-variants.{Impossible, 
 use Rattle.dates.specs.declared.DateAnswer.{DateAnswer}
 use Rattle.dates.specs.declared.DateAnswer.the-variants.{Accepted, Refused}
 
+-- 14 at the start, or the seconds
 abbrev pub momentAnswer : ℕ → Moment → DateAnswer
 momentAnswer start Impossible = Refused dateImpossible start
 momentAnswer start (At value) = Accepted value

@@ -10,7 +10,7 @@ use lib.ListN.{length}
 use Rattle.octets.specs.Numbers.{messageLimit, messageTooLong, editionUnknown}
 use Rattle.octets.specs.declared.answers.Answer.{Answer}
 use Rattle.octets.specs.Answers.{numberOf}
-use Rattle.grammar.proofs.Machine822.{read}
+use Rattle.grammar.specs.Executable.Machine822.{read}
 use Rattle.grammar.proofs.Condition822.{decides}
 use Rattle.addresses.specs.Editions.{edition822}
 use Rattle.addresses.specs.Outcome.{Outcome, AnsweredBy, refusal, outcome}

@@ -11,11 +11,10 @@ use Rattle.grammar.specs.Records.{AddressRecord, recordBy, withEnd, setEnd}
 use Rattle.grammar.specs.Language.{unfit}
 use Rattle.grammar.specs.Rfc733.{sameClass}
 use Rattle.grammar.proofs.HouseRule.{same-class}
-use Rattle.grammar.proofs.AnyMachine.{Result, ended, stopped, after}
-use Rattle.grammar.proofs.Arrows.{Arrow, look, taken}
+use Rattle.grammar.specs.Executable.Machines.{Result, ended, stopped, after, Arrow, look, taken}
 use Rattle.grammar.proofs.TreeRecords.{wordLexeme, phraseStart, phraseEnd}
-use Rattle.grammar.proofs.Trees822.{Class, Atom, Quoted, At, LessThan, GreaterThan, Comma, Semicolon, Colon, Stray, Dot, Literal, Lexeme, Sym, of, Phrase, Sub, atomSub, literalSub, Domain, oneSub, moreSub, Local, oneWord, moreWord, Spec, spec, Mailbox, bare, angle, routed, Place, empty, comma, Listed, idle, full, Address, box, group}
-use Rattle.grammar.proofs.Machine822.{Here, inList, inGroup, Open, less, In, bareIn, angleIn, routeIn, Hop, firstAt, nextAt, Behind, ofSpec, ofHop, State, place, word, phrase, local, localDot, at, domain, domainDot, opened, hop, route, boxed, closed, arrows, run}
+use Rattle.grammar.specs.Executable.Trees822.{Class, Atom, Quoted, At, LessThan, GreaterThan, Comma, Semicolon, Colon, Stray, Dot, Literal, Lexeme, Sym, of, Phrase, Sub, atomSub, literalSub, Domain, oneSub, moreSub, Local, oneWord, moreWord, Spec, spec, Mailbox, bare, angle, routed, Place, empty, comma, Listed, idle, full, Address, box, group}
+use Rattle.grammar.specs.Executable.Machine822.{Here, inList, inGroup, Open, less, In, bareIn, angleIn, routeIn, Hop, firstAt, nextAt, Behind, ofSpec, ofHop, State, place, word, phrase, local, localDot, at, domain, domainDot, opened, hop, route, boxed, closed, arrows, run}
 use Rattle.editions.specs.Places.{Walked, walkedBy, oneIf, closeLast, stepFrom, WalkEnd, ends, stops, walkFrom}
 
 -- ---- what the numbers are in each state of the machine

@@ -15,8 +15,9 @@ use Rattle.grammar.specs.Language.{Verdict}
 use Rattle.grammar.specs.Rfc733.{Notion}
 use Rattle.grammar.specs.Executable.{Decides}
 use Rattle.grammar.proofs.Positions.{ReadBack}
+use Rattle.grammar.specs.Executable.Machine733.{answer}
 use Rattle.grammar.proofs.Condition3 as rules733
-use Rattle.grammar.proofs.Machine822.{read}
+use Rattle.grammar.specs.Executable.Machine822.{read}
 use Rattle.grammar.proofs.Condition822 as rules822
 use Rattle.addresses.specs.Editions.{Edition, edition733, edition822}
 use Rattle.addresses.specs.Outcome.{readIn, bodyRead}
@@ -54,7 +55,7 @@ module _ (edition : ℕ) (message : List ℕ) (start end : ℕ) where
 
   by-tests : (a b c : Bool) → ltb messageLimit (length message) ≡ a → eqb edition 733 ≡ b → eqb edition 822 ≡ c → JudgedOf edition message start end
   by-tests true b c e f g = refusedAt messageTooLong messageLimit (λ A refuse derive. rw e)
-  by-tests false true c e f g = by-rules edition733 0 rules733.answer rules733.decides (omega arith) takes-733 (λ A refuse derive. rw (e, f))
+  by-tests false true c e f g = by-rules edition733 0 answer rules733.decides (omega arith) takes-733 (λ A refuse derive. rw (e, f))
   by-tests false false true e f g = by-rules edition822 2 read rules822.decides (omega arith) takes-822 (λ A refuse derive. rw (e, f, g))
   by-tests false false false e f g = refusedAt editionUnknown 0 (λ A refuse derive. rw (e, f, g))
 

@@ -21,7 +21,7 @@ use Rattle.grammar.specs.Grammar.{Row}
 use Rattle.grammar.specs.Language.{unfit, unfinished, tooDeep, Verdict, accepted, refused}
 use Rattle.grammar.specs.Rfc822.{Notion}
 use Rattle.grammar.specs.Records.{count}
-use Rattle.grammar.proofs.Machine822.{read}
+use Rattle.grammar.specs.Executable.Machine822.{read}
 use Rattle.grammar.proofs.Condition822.{decides, never-ten}
 use Rattle.addresses.specs.Editions.{edition822}
 use Rattle.addresses.specs.Editions.{symbolsIn}

@@ -15,8 +15,8 @@ use Rattle.scanner.specs.declared.Next.the-variants.{Found}
 use Rattle.grammar.specs.Language.{unfit, unfinished}
 use Rattle.grammar.specs.Records.{AddressRecord, tableBytes}
 use Rattle.grammar.proofs.Records.{length-records}
-use Rattle.grammar.proofs.Trees.{Class, Atom, Quoted, At, LessThan, GreaterThan, Comma, Semicolon, Colon, Stray, Dot, Literal, Sym, of}
-use Rattle.grammar.proofs.Machine822.{start}
+use Rattle.grammar.specs.Executable.Trees733.{Class, Atom, Quoted, At, LessThan, GreaterThan, Comma, Semicolon, Colon, Stray, Dot, Literal, Sym, of}
+use Rattle.grammar.specs.Executable.Machine822.{start}
 use Rattle.grammar.proofs.Condition822.{decides}
 use Rattle.addresses.specs.Editions.{classIn822, takenIn822}
 use Rattle.addresses.specs.Steps.{symbolsFrom, lexemeAt, Faultless}

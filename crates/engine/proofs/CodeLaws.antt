@@ -9,7 +9,7 @@ use lib.Seq.{sets}
 use Rattle.octets.specs.Numbers.{addressRecordSize}
 use Rattle.grammar.specs.Records.{recordBy, recordBytes}
 use Rattle.grammar.specs.Rfc733.{kindNumber, typedKind}
-use Rattle.grammar.proofs.Trees.{Lexeme, AddressList, Address, typed}
+use Rattle.grammar.specs.Executable.Trees733.{Lexeme, AddressList, Address, typed}
 use Rattle.grammar.specs.Executable.Machine733.{Here, inList, inTyped, Level, top, inAngle, inGroup, Spot, State, close, levelsHere}
 use Rattle.grammar.proofs.TreeRecords.{nameStart, nameEnd}
 use Rattle.engine.specs.Stands.{placeOf, numberHere, parentHere, Entry, Stands}

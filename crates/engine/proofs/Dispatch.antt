@@ -7,8 +7,8 @@ use native.Mathlib.Omega.{arith}
 use lib.ListN.{length}
 use Rattle.octets.specs.Numbers.{messageLimit, levelLimit, noListGoesOn, endsTooSoon}
 use Rattle.grammar.specs.Language.{unfit}
-use Rattle.grammar.proofs.AnyMachine.{go}
-use Rattle.grammar.proofs.Trees.{Class, Lexeme, Phrase, AddressList, Address}
+use Rattle.grammar.specs.Executable.Machines.{go}
+use Rattle.grammar.specs.Executable.Trees733.{Class, Lexeme, Phrase, AddressList, Address}
 use Rattle.grammar.specs.Executable.Machine733.{Here, Level, top, inAngle, inGroup, State, list, phrase, want, close, enter, levelsAt, stepOn, finish, whole, start}
 use Rattle.grammar.proofs.TreeRecords.{listCount}
 use Rattle.engine.specs.Actions.{modeNumber, modeRoom, Act, refuses, begins, adds, passes, opens, opensNamed, turnsTyped, endsAtComma, closes, endsAndCloses, finishes, endsAndFinishes, actNumber, Action, entry, rowOf, actionOf}

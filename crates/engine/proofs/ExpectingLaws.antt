@@ -9,7 +9,7 @@ use borrow.Author.Tests.{lt-ltb, le-ltb, leb-true, leb-false, eq-eqb, ne-eqb}
 use lib.Dec.{eqb, ltb}
 use lib.ListN.{getD}
 use Rattle.octets.specs.Numbers.{levelLimit}
-use Rattle.grammar.proofs.Trees.{Class, Atom, At, LessThan, GreaterThan, Comma, Semicolon, Colon, AddressList, Address, quoted}
+use Rattle.grammar.specs.Executable.Trees733.{Class, Atom, At, LessThan, GreaterThan, Comma, Semicolon, Colon, AddressList, Address, quoted}
 use Rattle.grammar.specs.Executable.Machine733.{Here, Level, top, inAngle, inGroup, State, list, phrase, close, entered, enter, withinLimit, levelsAt, finish, whole}
 use Rattle.grammar.proofs.TreeRecords.{addressEnd}
 use Rattle.expected.specs.Things.{ifNamed, sumOf}

@@ -12,7 +12,7 @@ use Rattle.octets.specs.Letters.{sameLetters}
 use Rattle.octets.specs.Text.{bytes}
 use Rattle.grammar.specs.Records.{recordBy, recordBytes}
 use Rattle.grammar.specs.Rfc733.{kindNumber, typedKind, include, postal, otherTyped}
-use Rattle.grammar.proofs.Trees.{Lexeme, Place, Address, typed}
+use Rattle.grammar.specs.Executable.Trees733.{Lexeme, Place, Address, typed}
 use Rattle.grammar.specs.Executable.Machine733.{Here, inList, inTyped, Level, top, inAngle, inGroup, asList, close, levelsHere, levelsAt}
 use Rattle.grammar.proofs.TreeRecords.{listCount, addressCount, addressRecords, addressRecord}
 use Rattle.grammar.proofs.RecordLaws.{stored-behind, stored-around}

@@ -15,12 +15,10 @@ use Rattle.scanner.specs.Meanings.{meaningAt}
 use Rattle.grammar.specs.Language.{unfinished}
 use Rattle.grammar.specs.Records.{tableBytes}
 use Rattle.grammar.specs.Rfc733.{classNumber}
-use Rattle.grammar.proofs.AnyMachine.{ended, stopped, atEnd, standsBy}
-use Rattle.grammar.proofs.Trees.{Class, Atom}
-use Rattle.grammar.specs.Executable.Machine733.{State, stepOn, step, run, judge}
+use Rattle.grammar.specs.Executable.Machines.{ended, stopped, atEnd, standsBy}
+use Rattle.grammar.specs.Executable.Trees733.{Class, Atom, asRow}
+use Rattle.grammar.specs.Executable.Machine733.{State, stepOn, step, run, judge, asRows, answer}
 use Rattle.grammar.specs.Executable.Machine733 as machine
-use Rattle.grammar.proofs.Condition3.{asRows, answer}
-use Rattle.grammar.proofs.Rows.{asRow}
 use Rattle.grammar.proofs.TreeRecords.{tree-records, tree-count}
 use Rattle.addresses.specs.Steps.{symbolsFrom, symbolsAhead, lexemeAt, Faultless}
 use Rattle.addresses.specs.Whole.{Body, WholeIs}

@@ -12,9 +12,9 @@ use Rattle.octets.specs.Text.{part}
 use Rattle.grammar.specs.Language.{unfit, tooDeep}
 use Rattle.grammar.specs.Records.{AddressRecord, recordBy, recordBytes, tableBytes}
 use Rattle.grammar.specs.Rfc733.{kindNumber, typedKind, group}
-use Rattle.grammar.proofs.AnyMachine.{go}
-use Rattle.grammar.proofs.Trees.{Class, Atom, Quoted, Lexeme, Word, atomWord, quotedWord, Phrase, one, more, empty, comma, AddressList, idle, Address, mailbox, angle, quoted}
-use Rattle.grammar.proofs.Trees as trees
+use Rattle.grammar.specs.Executable.Machines.{go}
+use Rattle.grammar.specs.Executable.Trees733.{Class, Atom, Quoted, Lexeme, Word, atomWord, quotedWord, Phrase, one, more, empty, comma, AddressList, idle, Address, mailbox, angle, quoted}
+use Rattle.grammar.specs.Executable.Trees733 as trees
 use Rattle.grammar.specs.Executable.Machine733.{Here, inList, inTyped, Level, top, inAngle, inGroup, State, list, phrase, firstAt, nextAt, node, want, asList, close, enter, levelsHere, levelsAt, stepOn}
 use Rattle.grammar.proofs.Complete.{begin, enter-within, enter-beyond}
 use Rattle.grammar.proofs.TreeRecords.{listCount, addressCount, addressRecord, listRecords, nameStart, nameEnd, wordLexeme}

@@ -5,10 +5,9 @@ use mathlib.Core.Bool.{Bool}
 use mathlib.Core.List.{List}
 use Rattle.octets.specs.Numbers.{levelLimit}
 use Rattle.scanner.specs.declared.Class.{Class}
-use Rattle.grammar.proofs.AnyMachine.{ended, standsBy}
-use Rattle.grammar.proofs.Trees.{AddressList, Address}
-use Rattle.grammar.specs.Executable.Machine733.{Here, Level, State, close, levelsAt, step, finish, run, start}
-use Rattle.grammar.specs.Executable.Machine733.{answer}
+use Rattle.grammar.specs.Executable.Machines.{ended, standsBy}
+use Rattle.grammar.specs.Executable.Trees733.{AddressList, Address}
+use Rattle.grammar.specs.Executable.Machine733.{Here, Level, State, close, levelsAt, step, finish, run, start, answer}
 use Rattle.addresses.specs.Steps.{symbolsFrom}
 use Rattle.addresses.specs.Whole.{IsRefused}
 use Rattle.expected.specs.Things.{ifNamed, sumOf}

@@ -10,7 +10,7 @@ use Rattle.octets.specs.Numbers.{messageLimit, levelLimit, addressRecordSize}
 use Rattle.octets.specs.Text.{part}
 use Rattle.grammar.specs.Records.{tableBytes}
 use Rattle.grammar.specs.Rfc733.{kindNumber, typedKind, angleList, group}
-use Rattle.grammar.proofs.Trees.{Lexeme, Phrase, one, more, atomWord, quotedWord, idle, full, AddressList, Address}
+use Rattle.grammar.specs.Executable.Trees733.{Lexeme, Phrase, one, more, atomWord, quotedWord, idle, full, AddressList, Address}
 use Rattle.grammar.specs.Executable.Machine733.{Here, inList, inTyped, Level, top, inAngle, inGroup, State, list, phrase, firstAt, nextAt, node, want, levelsHere, levelsAt, fresh, Began}
 use Rattle.grammar.proofs.TreeRecords.{placeCount, listCount, placeRecords, listRecords, addressRecords, phraseStart, phraseEnd, nodesEnd, nameStart, nameEnd}
 use Rattle.engine.specs.Actions.{Mode, atPlace, atStart, atFirstAtom, wanting, atAtom, atQuoted, atWords, behindAt, atNode, behindAddress, modeNumber}

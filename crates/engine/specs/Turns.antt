@@ -16,9 +16,9 @@ use Rattle.scanner.specs.declared.Class.the-variants.{Atom, Quoted, At, LessTha
 use Rattle.grammar.specs.Language.{Refusal, number}
 use Rattle.grammar.specs.Records.{recordBy, recordBytes, tableBytes}
 use Rattle.grammar.specs.Rfc733.{kindNumber, mailbox, angleList, group, quoted}
-use Rattle.grammar.proofs.AnyMachine.{Step, go, stop}
-use Rattle.grammar.proofs.Trees.{Lexeme, Phrase, one, atomWord, quotedWord, Nodes, empty, AddressList, idle, Address}
-use Rattle.grammar.proofs.Trees as trees
+use Rattle.grammar.specs.Executable.Machines.{Step, go, stop}
+use Rattle.grammar.specs.Executable.Trees733.{Lexeme, Phrase, one, atomWord, quotedWord, Nodes, empty, AddressList, idle, Address}
+use Rattle.grammar.specs.Executable.Trees733 as trees
 use Rattle.grammar.specs.Executable.Machine733.{Here, inList, Level, inAngle, inGroup, State, list, phrase, node, want, Spot, close, enter, endAngle, endGroup, levelsHere, levelsAt, stepOn, finish}
 use Rattle.grammar.proofs.TreeRecords.{listCount, listRecords, addressEnd, nameStart, nameEnd}
 use Rattle.engine.specs.Actions.{modeNumber, behindAddress, wanting, atQuoted, refuses, opens, turnsTyped, actNumber, modeRoom, entry, rowOf, actionOf}

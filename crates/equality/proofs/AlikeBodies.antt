@@ -16,8 +16,9 @@ use Rattle.scanner.specs.Answers.{unlessFault, faultOf}
 use Rattle.grammar.specs.Language.{Verdict, accepted, refused, number, positionOf}
 use Rattle.grammar.specs.Records.{count, records, tableBytes}
 use Rattle.grammar.specs.Rfc733.{Derivation}
-use Rattle.grammar.proofs.Condition3.{answer, answer-derives}
-use Rattle.grammar.proofs.Trees.{Class, Sym}
+use Rattle.grammar.specs.Executable.Machine733.{answer}
+use Rattle.grammar.proofs.Condition3.{answer-derives}
+use Rattle.grammar.specs.Executable.Trees733.{Class, Sym}
 use Rattle.addresses.specs.Condition3.{IsList}
 use Rattle.addresses.specs.Editions.{bodySymbols}
 use Rattle.addresses.specs.Outcome.{Outcome, refusal, derived, outcome}

@@ -17,7 +17,7 @@ use Rattle.scanner.specs.Characters as characters
 use Rattle.scanner.specs.Scanning.{Scanned, faultAt, State, outside, inAtom, inQuoted, takingInQuoted, inLiteral, takingInLiteral, inComment, takingInComment, Move, go, halt, move, followedBy, then, scanFrom, scan}
 use Rattle.scanner.specs.Answers.{unlessFault, faultOf}
 use Rattle.scanner.proofs.CharacterLaws.{plain-here, no-fold}
-use Rattle.grammar.proofs.Trees.{Sym}
+use Rattle.grammar.specs.Executable.Trees733.{Sym}
 use Rattle.equality.specs.Comments.{stateOf, stateAfter, opensComment, commentMayFollow, closes, BeginsWithComment, EveryCommentIsOne}
 use Rattle.equality.proofs.InComments.{never, closesBy, Within, comment, taking, closes-within, Does, faults, leaves, goes-on, does}
 use Rattle.equality.proofs.Splits.{fold-here, apart-before-open, split}

@@ -8,7 +8,7 @@ use Rattle.octets.specs.Choice.{pick, both}
 use Rattle.grammar.specs.Grammar.{Item, Makes, Rule, Grammar, Row, nil, leaf, branch, yieldThen, yield, levels, begins, Allowed, Fits, done, take, apply}
 use Rattle.grammar.specs.Records.{meaningOf, partOf, nameOf, count}
 use Rattle.grammar.specs.Rfc733.{Derivation, DerivedList}
-use Rattle.grammar.proofs.Trees.{Class, Sym}
+use Rattle.grammar.specs.Executable.Trees733.{Class, Sym}
 use Rattle.plain.specs.Meaning.{noWord, andSymbol, Words, wordsAfter, Addresses, noAddress, andAddress, addressOf, addressesAfter, meaning}
 use Rattle.equality.proofs.Shifts.{AlikeSymbols, no-symbol, one-symbol, AlikeSymbol}
 

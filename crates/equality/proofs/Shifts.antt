@@ -8,7 +8,7 @@ use Rattle.octets.specs.Numbers.{quotedNotClosed, commentNotClosed}
 use Rattle.scanner.specs.Characters.{Character, character, foldAt, InFold, none, lineFeed, white, charactersFrom}
 use Rattle.scanner.specs.Scanning.{Scanned, ended, next, faultAt, State, outside, inAtom, inQuoted, takingInQuoted, inComment, takingInComment, Move, go, halt, atom, moveOutside, endingWith, moveInAtom, moveInQuoted, closed, moveInComment, take, move, atEnd, followedBy, then, scanFrom}
 use Rattle.scanner.proofs.CharacterLaws.{plain-here}
-use Rattle.grammar.proofs.Trees.{Sym}
+use Rattle.grammar.specs.Executable.Trees733.{Sym}
 use Rattle.plain.proofs.ByteKinds.{KindView}
 use Rattle.equality.proofs.ByteMoves.{character-view, Outside, between, beginsAtom, beginsQuoted, beginsComment, mark, outside-by, InAtom, goesOn, ends, atom-by, InQuoted, datum, quoted-by, InComment, stays, opens, comment-by, Behind, taken, behind-by}
 use Rattle.equality.proofs.ByteMoves as byte

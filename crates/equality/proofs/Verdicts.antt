@@ -5,8 +5,9 @@ use mathlib.Core.List.{List, [], _∷_, _++_}
 use Rattle.grammar.specs.Grammar.{levels}
 use Rattle.grammar.specs.Language.{AtMost, MoreThan, upTo, GoesOn, FirstRefused, Refusal, unfit, unfinished, tooDeep, refused, Right}
 use Rattle.grammar.specs.Rfc733.{Derivation, DerivedList, RightWithin}
-use Rattle.grammar.proofs.Condition3.{answer, answer-right, answer-only}
-use Rattle.grammar.proofs.Trees.{Sym}
+use Rattle.grammar.specs.Executable.Machine733.{answer}
+use Rattle.grammar.proofs.Condition3.{answer-right, answer-only}
+use Rattle.grammar.specs.Executable.Trees733.{Sym}
 use Rattle.equality.proofs.Shifts.{AlikeSymbol, AlikeSymbols, no-symbol, one-symbol, same-symbols}
 use Rattle.equality.proofs.Relabels.{derived-alike}
 

@@ -18,9 +18,10 @@ use Rattle.scanner.proofs.BodyChecks.{in-order}
 use Rattle.grammar.specs.Grammar.{levels}
 use Rattle.grammar.specs.Rfc733.{Derivation, DerivedList, kindNumber, typedKind}
 use Rattle.grammar.specs.Rfc733 as rfc733
-use Rattle.grammar.proofs.Trees.{Colon, Comma, LessThan, GreaterThan, Semicolon, Sym, of, Place, empty, comma, AddressList, idle, full, mailbox, angle, group, quoted, typed, nodesThen, placeThen, listThen, addressThen, placeLevels, listLevels, addressLevels}
-use Rattle.grammar.proofs.Trees as trees
-use Rattle.grammar.proofs.Rows.{asRow, row-levels, tree-derived}
+use Rattle.grammar.specs.Executable.Trees733.{Colon, Comma, LessThan, GreaterThan, Semicolon, Sym, of, Place, empty, comma, AddressList, idle, full, mailbox, angle, group, quoted, typed, asRow}
+use Rattle.grammar.proofs.Trees.{nodesThen, placeThen, listThen, addressThen, placeLevels, listLevels, addressLevels}
+use Rattle.grammar.specs.Executable.Trees733 as trees
+use Rattle.grammar.proofs.Rows.{row-levels, tree-derived}
 use Rattle.plain.specs.Meaning.{atom, noWord, andWord, Addresses, noAddress, andAddress, Address, address, meaning}
 use Rattle.plain.specs.PlainText.{addressesText}
 use Rattle.plain.specs.RoundTrip.{AcceptedBody}

@@ -10,12 +10,11 @@ use Rattle.grammar.specs.Grammar.{nil, leaf}
 use Rattle.grammar.specs.Records.{partOf}
 use Rattle.grammar.specs.Rfc733.{Derivation, kindNumber, typedKind}
 use Rattle.grammar.specs.Rfc733 as rfc733
-use Rattle.grammar.proofs.Trees.{Atom, Colon, Comma, LessThan, GreaterThan, Semicolon, of, atomWord, quotedWord, Phrase, one, more, Nodes, first, next, Place, empty, comma, AddressList, idle, full, mailbox, angle, group, quoted, typed}
-use Rattle.grammar.proofs.Trees as trees
-use Rattle.grammar.proofs.Rows.{wordRow, phraseRow, nodesRow, placeRow, listRow, addressRow, asRow}
+use Rattle.grammar.specs.Executable.Trees733.{Atom, Colon, Comma, LessThan, GreaterThan, Semicolon, of, atomWord, quotedWord, Phrase, one, more, Nodes, first, next, Place, empty, comma, AddressList, idle, full, mailbox, angle, group, quoted, typed, wordRow, phraseRow, nodesRow, placeRow, listRow, addressRow, asRow}
+use Rattle.grammar.specs.Executable.Trees733 as trees
 use Rattle.plain.specs.Meaning.{atom, noWord, andWord, Addresses, noAddress, andAddress, Address, address, wordsOf, nodesOf, addressesAfter}
 use Rattle.plain.proofs.TreeMeanings.{phraseMeaning, nameMeaning, nodesMeaning, addressMeaning, of-typed, name-words, node-words, after-address}
-use Rattle.expansion.specs.Expansion.{Expansion, stopped, reached, andThen, Opening, otherType, expandInclude, expandRow, expansion}
+use Rattle.expansion.specs.Expansion.{Expansion, stopped, reached, andThen, Opening, otherType, expandInclude, expandRow}
 
 -- ---- what comes next
 

@@ -12,8 +12,8 @@ use Rattle.octets.specs.Numbers.{levelLimit, openingLimit}
 use Rattle.scanner.specs.Scanning.{scan, symbolsOf}
 use Rattle.grammar.specs.Grammar.{levels}
 use Rattle.grammar.specs.Rfc733.{Derivation, DerivedList}
-use Rattle.grammar.proofs.Trees.{Sym}
-use Rattle.grammar.proofs.Rows.{asRow, row-levels, tree-derived}
+use Rattle.grammar.specs.Executable.Trees733.{Sym, asRow}
+use Rattle.grammar.proofs.Rows.{row-levels, tree-derived}
 use Rattle.addresses.specs.Editions.{bodySymbols}
 use Rattle.addresses.specs.Outcome.{bodyRead}
 use Rattle.addresses.proofs.Judgements.{refusedAt, judged, listed-read}

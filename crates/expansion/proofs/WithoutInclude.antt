@@ -6,8 +6,8 @@ use mathlib.Core.List.{List}
 use Rattle.octets.specs.Numbers.{openingLimit}
 use Rattle.octets.specs.Choice.{pick}
 use Rattle.grammar.specs.Rfc733.{Derivation, DerivedList, kindNumber, typedKind}
-use Rattle.grammar.proofs.Trees.{Sym, Place, empty, comma, AddressList, idle, full, mailbox, angle, group, quoted, typed}
-use Rattle.grammar.proofs.Trees as trees
+use Rattle.grammar.specs.Executable.Trees733.{Sym, Place, empty, comma, AddressList, idle, full, mailbox, angle, group, quoted, typed}
+use Rattle.grammar.specs.Executable.Trees733 as trees
 use Rattle.grammar.proofs.Rows.{tree-derived}
 use Rattle.plain.specs.Meaning.{Addresses, noAddress, andAddress, address, atom, noWord, andWord, meaning}
 use Rattle.plain.proofs.TreeMeanings.{nameMeaning, placeMeaning, listMeaning, addressMeaning, meaning-row}

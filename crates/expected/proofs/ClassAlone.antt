@@ -3,7 +3,7 @@ use Prim.Native.Nat.{ℕ}
 use mathlib.Core.Path.{_≡_, refl}
 use mathlib.Core.Bool.{Bool, true, false}
 use mathlib.Core.Option.{Option, none, some}
-use Rattle.grammar.proofs.Trees.{Class, Atom, Quoted, At, LessThan, GreaterThan, Comma, Semicolon, Colon, Stray, Dot, Literal, Lexeme, Word, atomWord, quotedWord, Phrase, AddressList, idle, full}
+use Rattle.grammar.specs.Executable.Trees733.{Class, Atom, Quoted, At, LessThan, GreaterThan, Comma, Semicolon, Colon, Stray, Dot, Literal, Lexeme, Word, atomWord, quotedWord, Phrase, AddressList, idle, full}
 use Rattle.grammar.specs.Executable.Machine733.{Here, Level, State, list, phrase, firstAt, nextAt, node, want, Spot, Began, complete, begun, onWord, onAt, onComma, onGreaterThan, onSemicolon, onLessThan, onColon, inList, inTyped, entered, withinLimit, endAngle, endGroup, top, inAngle, inGroup, phraseColon, stepOn}
 use Rattle.octets.specs.Choice.{either}
 use Rattle.expected.specs.Things.{word}

@@ -9,7 +9,7 @@ use mathlib.Core.Option.{Option, none, some}
 use Rattle.scanner.specs.Symbols.{Symbol}
 use Rattle.grammar.specs.Language.{AtMost, MoreThan, upTo, GoesOn, FirstRefused, Refusal, unfit, unfinished, tooDeep, Verdict, accepted, refused, Right}
 use Rattle.grammar.proofs.OnlyRight.{goes-on-at, refused-whole}
-pub use Rattle.grammar.specs.Executable.Machines.{Step, Result, after, runBy, atEnd, verdictBy, standsAfter, standsBy, go, stop, ended, stopped}
+use Rattle.grammar.specs.Executable.Machines.{Step, Result, after, runBy, atEnd, verdictBy, standsAfter, standsBy, go, stop, ended, stopped}
 
 -- more levels change nothing but the refusal of a level
 abbrev pub Steady : {S : Type 0} → ℕ → (ℕ → Step S) → Step S → Type 0

@@ -8,9 +8,9 @@ use mathlib.Core.Option.{Option, none, some}
 use Rattle.octets.specs.Choice.{pick}
 use Rattle.scanner.specs.Symbols.{Lexeme, Symbol}
 use Rattle.grammar.specs.Language.{AtMost, MoreThan, GoesOn, FirstRefused, unfit, unfinished, tooDeep, Verdict, accepted, refused, Right}
-use Rattle.grammar.proofs.AnyMachine.{Result, ended, stopped, after, runBy, atEnd, verdictBy, Steady, Machine}
+use Rattle.grammar.specs.Executable.Machines.{Result, ended, stopped, after, runBy, atEnd, verdictBy, Arrow, look, taken, stepBy}
+use Rattle.grammar.proofs.AnyMachine.{Steady, Machine}
 use Rattle.grammar.proofs.Pieces.{mark}
-pub use Rattle.grammar.specs.Executable.Machines.{Arrow, on, look, taken, stepBy}
 
 taken-steady : {S : Type 0} (n : ℕ) (o : Option S) → Steady n (λ m. taken o) (taken o)
 taken-steady n none = λ m. refl

@@ -12,12 +12,13 @@ use Rattle.grammar.specs.Rfc733.{list, rfc733, Derivation, DerivedList, 
 use Rattle.grammar.proofs.AnyReader as any-reader
 use Rattle.grammar.specs.Executable.{Decides733}
 use Rattle.grammar.proofs.AnyMachine as any-machine
-use Rattle.grammar.proofs.AnyMachine.{Step, go, stop, Result, after, atEnd, not-too-deep}
-use Rattle.grammar.proofs.Trees.{Lexeme, Sym, of, atomWord, quotedWord, AddressList, listLevels, DerivedTree}
-use Rattle.grammar.specs.Executable.Machine733.{State, complete, onWord, onAt, onComma, onGreaterThan, onSemicolon, stepOn, step, run, read, judge, finish, start}
+use Rattle.grammar.specs.Executable.Machines.{Step, go, stop, Result, after, atEnd}
+use Rattle.grammar.proofs.AnyMachine.{not-too-deep}
+use Rattle.grammar.specs.Executable.Trees733.{Lexeme, Sym, of, atomWord, quotedWord, AddressList, asRow}
+use Rattle.grammar.proofs.Trees.{listLevels, DerivedTree}
+use Rattle.grammar.specs.Executable.Machine733.{State, complete, onWord, onAt, onComma, onGreaterThan, onSemicolon, stepOn, step, run, read, judge, finish, start, asRows, answer}
 use Rattle.grammar.proofs.Steps.{machine}
-use Rattle.grammar.proofs.Rows.{asRow, row-levels, row-derived, tree-derived}
-pub use Rattle.grammar.specs.Executable.Machine733.{asRows, answer}
+use Rattle.grammar.proofs.Rows.{row-levels, row-derived, tree-derived}
 
 -- ---- what is right of trees is right of derivations
 

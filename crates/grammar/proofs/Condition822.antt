@@ -12,8 +12,9 @@ use Rattle.grammar.proofs.Ranks as ranks
 use Rattle.grammar.proofs.Ranks.{ranked}
 use Rattle.grammar.specs.Executable.{Decides822}
 use Rattle.grammar.proofs.AnyReader.{decides-by}
-use Rattle.grammar.proofs.Trees822.{Class, Sym, DerivedList}
-use Rattle.grammar.proofs.Machine822.{step, finish, start, read}
+use Rattle.grammar.specs.Executable.Trees822.{Class, Sym}
+use Rattle.grammar.proofs.Trees822.{DerivedList}
+use Rattle.grammar.specs.Executable.Machine822.{step, finish, start, read}
 use Rattle.grammar.proofs.Complete822.{machine}
 
 -- the levels that a notion has at most

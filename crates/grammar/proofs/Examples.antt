@@ -13,9 +13,10 @@ use Rattle.grammar.specs.Language.{Verdict, accepted, refused, verdictNu
 use Rattle.grammar.specs.Records.{AddressRecord, recordBy, records, tableBytes}
 use Rattle.grammar.specs.Rfc733.{Derivation, DerivedList}
 use Rattle.grammar.proofs.OnlyRight.{unfit-none}
-use Rattle.grammar.proofs.Trees.{Class, Atom, Quoted, At, LessThan, GreaterThan, Comma, Semicolon, Colon, Stray, Sym, of}
+use Rattle.grammar.specs.Executable.Trees733.{Class, Atom, Quoted, At, LessThan, GreaterThan, Comma, Semicolon, Colon, Stray, Sym, of}
 use Rattle.grammar.proofs.Order.{InOrder}
-use Rattle.grammar.proofs.Condition3.{answer, answer-right}
+use Rattle.grammar.specs.Executable.Machine733.{answer}
+use Rattle.grammar.proofs.Condition3.{answer-right}
 
 -- ---- the table
 

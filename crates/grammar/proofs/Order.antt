@@ -11,7 +11,8 @@ use Rattle.grammar.specs.Language.{accepted}
 use Rattle.grammar.specs.Records.{AddressRecord, count, records}
 use Rattle.grammar.specs.Rfc733.{Derivation, DerivedList, RightWithin}
 use Rattle.grammar.proofs.Records.{length-records}
-use Rattle.grammar.proofs.Trees.{Class, Atom, Quoted, At, LessThan, GreaterThan, Comma, Semicolon, Colon, Stray, Dot, Literal, Lexeme, Sym, of, Word, atomWord, quotedWord, Phrase, one, more, Nodes, first, next, Place, empty, comma, AddressList, idle, full, Address, mailbox, angle, group, quoted, typed, wordSymbol, phraseThen, nameThen, nodesThen, placeThen, listThen, addressThen, placeLevels, listLevels, addressLevels}
+use Rattle.grammar.specs.Executable.Trees733.{Class, Atom, Quoted, At, LessThan, GreaterThan, Comma, Semicolon, Colon, Stray, Dot, Literal, Lexeme, Sym, of, Word, atomWord, quotedWord, Phrase, one, more, Nodes, first, next, Place, empty, comma, AddressList, idle, full, Address, mailbox, angle, group, quoted, typed}
+use Rattle.grammar.proofs.Trees.{wordSymbol, phraseThen, nameThen, nodesThen, placeThen, listThen, addressThen, placeLevels, listLevels, addressLevels}
 use Rattle.grammar.proofs.Rows.{row-levels, tree-derived}
 use Rattle.grammar.proofs.TreeRecords.{wordLexeme, phraseStart, phraseEnd, nodesEnd, nameStart, nameEnd, addressEnd, addressRecord, placeCount, listCount, addressCount, placeRecords, listRecords, insideRecords, tree-records, tree-count}
 

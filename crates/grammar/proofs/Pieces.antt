@@ -6,7 +6,7 @@ use mathlib.Core.List.{List, [], _∷_, List·Memᴰ, List·Memᴰ·head as here
 use lib.ListN.{length, getD}
 use Rattle.scanner.specs.Symbols.{Lexeme, Symbol}
 use Rattle.grammar.specs.Grammar.{Item, symbol, part, Rule, Grammar, Row, nil, leaf, yield, Allowed, Fits, done, take, apply, Derived}
-pub use Rattle.grammar.specs.Executable.Trees822.{Piece, piece, put}
+use Rattle.grammar.specs.Executable.Trees822.{Piece, piece, put}
 
 -- the symbol of a class with a lexeme
 abbrev pub mark : {C : Type 0} → C → Lexeme → Symbol C

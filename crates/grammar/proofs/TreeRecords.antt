@@ -9,8 +9,9 @@ use Rattle.grammar.specs.Language.{positionOf}
 use Rattle.grammar.specs.Records.{AddressRecord, recordBy, lastEnd, partOf, count, recordsFrom, records}
 use Rattle.grammar.specs.Rfc733.{Derivation, kindNumber, typedKind}
 use Rattle.grammar.specs.Rfc733 as rfc
-use Rattle.grammar.proofs.Trees.{Lexeme, LessThan, GreaterThan, Colon, Semicolon, Comma, At, Sym, of, Word, atomWord, quotedWord, Phrase, one, more, Nodes, first, next, Place, empty, comma, AddressList, idle, full, Address, mailbox, angle, group, quoted, typed, wordSymbol, phraseThen, nodesThen, listThen, addressThen}
-use Rattle.grammar.proofs.Rows.{wordRow, phraseRow, nodeRow, nodesRow, placeRow, listRow, addressRow, asRow, phrase-yield, list-yield, address-yield}
+use Rattle.grammar.specs.Executable.Trees733.{Lexeme, LessThan, GreaterThan, Colon, Semicolon, Comma, At, Sym, of, Word, atomWord, quotedWord, Phrase, one, more, Nodes, first, next, Place, empty, comma, AddressList, idle, full, Address, mailbox, angle, group, quoted, typed, wordRow, phraseRow, nodeRow, nodesRow, placeRow, listRow, addressRow, asRow}
+use Rattle.grammar.proofs.Trees.{wordSymbol, phraseThen, nodesThen, listThen, addressThen}
+use Rattle.grammar.proofs.Rows.{phrase-yield, list-yield, address-yield}
 
 -- ---- the record of an address
 

@@ -25,8 +25,9 @@ use Rattle.scanner.specs.Answers.{unlessFault, faultOf}
 use Rattle.grammar.specs.Language.{Verdict, accepted, refused}
 use Rattle.grammar.specs.Grammar.{levels}
 use Rattle.grammar.specs.Rfc733.{Derivation, DerivedList}
-use Rattle.grammar.proofs.Trees.{Class}
-use Rattle.grammar.proofs.Condition3.{answer, answer-derives}
+use Rattle.grammar.specs.Executable.Trees733.{Class}
+use Rattle.grammar.specs.Executable.Machine733.{answer}
+use Rattle.grammar.proofs.Condition3.{answer-derives}
 use Rattle.plain.specs.PlainText.{plainText}
 use Rattle.plain.specs.RoundTrip.{AcceptedBody}
 

@@ -9,8 +9,9 @@ use Rattle.octets.specs.Choice.{pick}
 use Rattle.octets.specs.Text.{bytes}
 use Rattle.grammar.specs.Rfc733.{kindNumber}
 use Rattle.grammar.specs.Rfc733 as rfc733
-use Rattle.grammar.proofs.Trees.{Class, Atom, Quoted, At, LessThan, GreaterThan, Comma, Semicolon, Colon, Lexeme, Sym, of, atomWord, quotedWord, Phrase, one, more, Nodes, first, next, Place, comma, AddressList, idle, full, wordSymbol, phraseThen, nameThen, nodesThen, placeThen, listThen, addressThen, houseRule, placeLawful, listLawful, addressLawful, listLevels, DerivedTree}
-use Rattle.grammar.proofs.Trees as trees
+use Rattle.grammar.specs.Executable.Trees733.{Class, Atom, Quoted, At, LessThan, GreaterThan, Comma, Semicolon, Colon, Lexeme, Sym, of, atomWord, quotedWord, Phrase, one, more, Nodes, first, next, Place, comma, AddressList, idle, full}
+use Rattle.grammar.proofs.Trees.{wordSymbol, phraseThen, nameThen, nodesThen, placeThen, listThen, addressThen, houseRule, placeLawful, listLawful, addressLawful, listLevels, DerivedTree}
+use Rattle.grammar.specs.Executable.Trees733 as trees
 use Rattle.grammar.proofs.HouseRule.{placeAtomGroup, listAtomGroup, atomColon-list}
 use Rattle.plain.specs.Meaning.{Word, atom, quotedString, Words, noWord, andWord, Addresses, noAddress, andAddress, Address, address}
 use Rattle.plain.specs.PlainText.{atomGroup, firstAtomGroup}

@@ -21,7 +21,7 @@ use Rattle.scanner.specs.Scanning.{Scanned, ended, next, State, outside, inAtom
 use Rattle.scanner.specs.Scanning as scanning
 use Rattle.scanner.specs.Answers.{unlessFault, faultOf}
 use Rattle.scanner.proofs.MoveLaws.{tag, quoted-data, taken}
-use Rattle.grammar.proofs.Trees.{Class, Atom, Quoted, LessThan, GreaterThan, Semicolon, Colon}
+use Rattle.grammar.specs.Executable.Trees733.{Class, Atom, Quoted, LessThan, GreaterThan, Semicolon, Colon}
 use Rattle.plain.specs.Meaning.{Word, atom, quotedString, Words, noWord, andWord, Addresses, noAddress, andAddress}
 use Rattle.plain.specs.PlainText.{needsBackslash, backslashText, dataText, quotedText, wordText, spaceBehind, phraseText, nodesText, firstAtomGroup, groupGap, commaBehind, addressesText, addressText}
 use Rattle.plain.proofs.TreeMeanings.{typed-text}

@@ -15,8 +15,10 @@ use Rattle.grammar.specs.Grammar.{levels}
 use Rattle.grammar.specs.Language.{accepted}
 use Rattle.grammar.specs.Rfc733.{Derivation, DerivedList}
 use Rattle.grammar.proofs.Trees.{listThen}
-use Rattle.grammar.proofs.Rows.{asRow, row-levels, row-derived, tree-derived}
-use Rattle.grammar.proofs.Condition3.{answer, one-derivation, answer-accepts}
+use Rattle.grammar.specs.Executable.Trees733.{asRow}
+use Rattle.grammar.proofs.Rows.{row-levels, row-derived, tree-derived}
+use Rattle.grammar.specs.Executable.Machine733.{answer}
+use Rattle.grammar.proofs.Condition3.{one-derivation, answer-accepts}
 use Rattle.plain.specs.Meaning.{Addresses, meaning, SameAddresses}
 use Rattle.plain.specs.PlainText.{addressesText, plainText}
 use Rattle.plain.specs.Walking.{writtenText}

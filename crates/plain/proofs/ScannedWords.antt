@@ -22,8 +22,9 @@ use Rattle.scanner.specs.Characters as characters
 use Rattle.scanner.specs.Scanning.{Scanned, next, faultAt, State, outside, inAtom, inQuoted, takingInQuoted, inLiteral, takingInLiteral, inComment, takingInComment, Move, go, halt, atomClass, moveOutside, endingWith, moveInAtom, moveInQuoted, closed, moveInComment, take, move, atEnd, followedBy, then, scanFrom, scan, symbolsOf}
 use Rattle.scanner.specs.Scanning as scanning
 use Rattle.scanner.proofs.MoveLaws.{tag}
-use Rattle.grammar.proofs.Trees.{Class, Atom, Quoted, At, LessThan, GreaterThan, Comma, Semicolon, Colon, Stray, Dot, Literal, Sym, of, atomWord, quotedWord, Phrase, one, more, Nodes, first, Place, comma, AddressList, idle, full, wordSymbol, phraseThen, nameThen, nodesThen, placeThen, listThen, addressThen}
-use Rattle.grammar.proofs.Trees as trees
+use Rattle.grammar.specs.Executable.Trees733.{Class, Atom, Quoted, At, LessThan, GreaterThan, Comma, Semicolon, Colon, Stray, Dot, Literal, Sym, of, atomWord, quotedWord, Phrase, one, more, Nodes, first, Place, comma, AddressList, idle, full}
+use Rattle.grammar.proofs.Trees.{wordSymbol, phraseThen, nameThen, nodesThen, placeThen, listThen, addressThen}
+use Rattle.grammar.specs.Executable.Trees733 as trees
 use Rattle.grammar.specs.Rfc733.{kindNumber}
 use Rattle.grammar.specs.Rfc733 as rfc733
 use Rattle.plain.specs.Meaning.{noWord, Addresses, andAddress, Address, address}

@@ -8,8 +8,9 @@ use mathlib.Core.Option.{none, some}
 use Rattle.octets.specs.Choice.{pick, both}
 use Rattle.octets.specs.Text.{bytes}
 use Rattle.grammar.specs.Rfc733.{Derivation, DerivedList}
-use Rattle.grammar.proofs.Trees.{Atom, Quoted, At, LessThan, GreaterThan, Comma, Semicolon, Colon, Lexeme, Sym, of, atomWord, quotedWord, Phrase, one, more, Nodes, first, next, comma, AddressList, idle, full, mailbox, angle, group, quoted, typed, wordSymbol, phraseThen, nodesThen, placeThen, listThen, addressThen, placeLawful, listLawful, addressLawful}
-use Rattle.grammar.proofs.Trees as trees
+use Rattle.grammar.specs.Executable.Trees733.{Atom, Quoted, At, LessThan, GreaterThan, Comma, Semicolon, Colon, Lexeme, Sym, of, atomWord, quotedWord, Phrase, one, more, Nodes, first, next, comma, AddressList, idle, full, mailbox, angle, group, quoted, typed}
+use Rattle.grammar.proofs.Trees.{wordSymbol, phraseThen, nodesThen, placeThen, listThen, addressThen, placeLawful, listLawful, addressLawful}
+use Rattle.grammar.specs.Executable.Trees733 as trees
 use Rattle.grammar.proofs.HouseRule.{oneAtom, placeAtomGroup, listAtomGroup, atomColon-list, oneAtom-false, oneAtom-true}
 use Rattle.grammar.proofs.HouseRule as house
 use Rattle.grammar.proofs.Rows.{tree-derived}

@@ -8,7 +8,7 @@ use Rattle.octets.specs.Letters.{sameLetters}
 use Rattle.octets.specs.Text.{bytes}
 use Rattle.grammar.specs.Rfc733.{kindNumber}
 use Rattle.grammar.specs.Rfc733 as rfc733
-use Rattle.grammar.proofs.Trees.{Class, Atom, Quoted, At, LessThan, GreaterThan, Comma, Semicolon, Colon, Sym}
+use Rattle.grammar.specs.Executable.Trees733.{Class, Atom, Quoted, At, LessThan, GreaterThan, Comma, Semicolon, Colon, Sym}
 use Rattle.plain.specs.Meaning.{Word, atom, quotedString, Words, noWord, andWord, Addresses, noAddress, andAddress, Address, address}
 use Rattle.plain.specs.PlainText.{firstAtomGroup}
 use Rattle.plain.proofs.ByteKinds.{IsPlain, IsDatum}

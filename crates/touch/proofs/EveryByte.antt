@@ -7,7 +7,8 @@ use native.Mathlib.Omega.{arith}
 use Rattle.scanner.specs.Categories.{InStray, here, further}
 use Rattle.scanner.proofs.EveryCategory.{told-unless-stray}
 use Rattle.grammar.specs.Rfc733.{classNumber, Derivation, DerivedList}
-use Rattle.grammar.proofs.Trees.{Class, Stray, Lexeme, Sym, of, Word, atomWord, quotedWord, Phrase, one, more, Nodes, first, next, Place, empty, comma, AddressList, idle, full, Address, mailbox, angle, group, quoted, typed, wordSymbol, phraseThen, nameThen, nodesThen, placeThen, listThen, addressThen}
+use Rattle.grammar.specs.Executable.Trees733.{Class, Stray, Lexeme, Sym, of, Word, atomWord, quotedWord, Phrase, one, more, Nodes, first, next, Place, empty, comma, AddressList, idle, full, Address, mailbox, angle, group, quoted, typed}
+use Rattle.grammar.proofs.Trees.{wordSymbol, phraseThen, nameThen, nodesThen, placeThen, listThen, addressThen}
 use Rattle.grammar.proofs.Rows.{tree-derived}
 use Rattle.touch.specs.EveryByte.{EveryByte}
 

@@ -7,7 +7,8 @@ use lib.ListN.{length}
 use Rattle.grammar.specs.Grammar.{levels}
 use Rattle.grammar.specs.Records.{AddressRecord, records}
 use Rattle.grammar.specs.Rfc733.{Derivation, DerivedList}
-use Rattle.grammar.proofs.Trees.{LessThan, GreaterThan, Comma, Semicolon, Colon, Sym, of, Place, empty, comma, AddressList, idle, full, Address, mailbox, angle, group, quoted, typed, nodesThen, placeThen, listThen, addressThen, placeLevels, listLevels, addressLevels}
+use Rattle.grammar.specs.Executable.Trees733.{LessThan, GreaterThan, Comma, Semicolon, Colon, Sym, of, Place, empty, comma, AddressList, idle, full, Address, mailbox, angle, group, quoted, typed}
+use Rattle.grammar.proofs.Trees.{nodesThen, placeThen, listThen, addressThen, placeLevels, listLevels, addressLevels}
 use Rattle.grammar.proofs.Rows.{row-levels, tree-derived}
 use Rattle.grammar.proofs.RecordLaws.{inside-length}
 use Rattle.grammar.proofs.TreeRecords.{phraseEnd, nameStart, addressEnd, addressRecord, placeCount, listCount, addressCount, placeRecords, listRecords, insideRecords, tree-records}

@@ -19,9 +19,10 @@ use Rattle.scanner.proofs.BodyChecks.{Clean, when-clean, when-refused}
 use Rattle.grammar.specs.Language.{Refusal, Verdict, accepted, refused, number, positionOf}
 use Rattle.grammar.specs.Records.{count, records, tableBytes}
 use Rattle.grammar.specs.Rfc733.{Derivation}
-use Rattle.grammar.proofs.Condition3.{answer, answer-right, answer-accepts, answer-derives}
+use Rattle.grammar.specs.Executable.Machine733.{answer}
+use Rattle.grammar.proofs.Condition3.{answer-right, answer-accepts, answer-derives}
 use Rattle.grammar.proofs.Records.{length-records, parent-smaller}
-use Rattle.grammar.proofs.Trees.{Sym}
+use Rattle.grammar.specs.Executable.Trees733.{Sym}
 use Rattle.addresses.specs.Editions.{bodySymbols}
 use Rattle.addresses.specs.Outcome.{derived, outcome}
 use Rattle.addresses.specs.Outcome as addresses

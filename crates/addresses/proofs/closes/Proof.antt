@@ -1,9 +1,9 @@
 -- `addresses::closes` meets its contract. Assumes nothing.
 use borrow.Author.Needs.{needs}
-use mathlib.Core.Path.{refl, sym, ap, _∙_}
+use mathlib.Core.Path.{sym, ap, _∙_}
 use mathlib.Core.List.{[], _∷_}
 use Rattle.grammar.specs.Rfc733.{sameClass}
-use Rattle.grammar.proofs.Trees.{GreaterThan, Semicolon}
+use Rattle.grammar.specs.Executable.Trees733.{GreaterThan, Semicolon}
 use Rattle.addresses.specs.Steps.{closing}
 use Rattle.addresses.proofs.ClassCases.{by-class-not}
 use Rattle.addresses.proofs.closes.Statement.{statement}

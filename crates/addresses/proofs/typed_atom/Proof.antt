@@ -1,13 +1,9 @@
 -- `addresses::typed_atom` meets its contract. Assumes nothing.
-use mathlib.Core.Path.{_≡_, refl, sym, ap, _∙_}
-use mathlib.Core.Bool.{false}
-use mathlib.Core.List.{List, [], _∷_}
-use native.Mathlib.Omega.{arith}
-use Prim.Native.Nat.{ℕ}
+use mathlib.Core.Path.{_∙_}
+use mathlib.Core.List.{[], _∷_}
 use Rattle.scanner.specs.declared.Next.the-variants.{Found}
 use Rattle.grammar.specs.Rfc733.{sameClass}
-use Rattle.grammar.proofs.Trees.{Atom, Colon, atomColon}
-use Rattle.addresses.specs.Steps.{symbolsFrom, symbolsAhead, lexemeAt}
+use Rattle.grammar.specs.Executable.Trees733.{Atom, Colon}
 use Rattle.addresses.proofs.ClassCases.{by-class-not}
 use Rattle.addresses.proofs.NextLaws.{NextIs, next-is, none-left}
 use Rattle.addresses.proofs.TypedLaws.{no-atom, no-colon, nothing, nothing-behind, typed-follows}

@@ -5,7 +5,7 @@ use lib.Seq.{length-take-le}
 use Rattle.octets.specs.Numbers.{levelLimit}
 use Rattle.octets.specs.Classes.{classOf, classOf822, classTable822}
 use Rattle.scanner.proofs.BodyChecks.{out-of-order, past-the-end}
-use Rattle.grammar.proofs.Machine822.{read}
+use Rattle.grammar.specs.Executable.Machine822.{read}
 use Rattle.addresses.specs.Editions.{edition822}
 use Rattle.octets.proofs.AnswerLaws.{answered}
 use Rattle.addresses.specs.Outcome.{refusal}

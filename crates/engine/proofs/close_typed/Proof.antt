@@ -5,7 +5,7 @@ use Prim.Native.Nat.{ℕ, _≤_}
 use native.Mathlib.Omega.{arith}
 use lib.ListN.{length}
 use Rattle.octets.specs.Numbers.{levelLimit}
-use Rattle.grammar.proofs.Trees.{Address}
+use Rattle.grammar.specs.Executable.Trees733.{Address}
 use Rattle.grammar.specs.Executable.Machine733.{Here}
 use Rattle.engine.specs.Turns.{Closing}
 use Rattle.engine.proofs.CodeLaws.{ClosingOn, closing-start, closing-none, closing-stays, typed-top, some-level, top-level, closing-more}

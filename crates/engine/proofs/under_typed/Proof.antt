@@ -2,7 +2,7 @@
 use Prim.Native.Nat.{_≤_}
 use native.Mathlib.Omega.{arith}
 use Rattle.octets.specs.Numbers.{levelLimit}
-use Rattle.grammar.proofs.Trees.{Address}
+use Rattle.grammar.specs.Executable.Trees733.{Address}
 use Rattle.grammar.specs.Executable.Machine733.{Here}
 use Rattle.engine.specs.Turns.{OpenHere}
 use Rattle.engine.proofs.ExpectingLaws.{UnderOn, under-start, under-none, under-stays, under-more}
