@@ -6,9 +6,9 @@ cd "$(dirname "$0")/.." || exit 2
 bad=0
 seen=0
 # Signs that a proof file does not fit: the code does not compile; a name is not there, as that of a need, a field, a constructor
-# or a module; or the arms of a `match` are others than those that the proof speaks of.
+# or a module; the arms of a `match` are others than those that the proof speaks of; or a proof by cases has no clause for one.
 names='that can be named from here|is not in scope|` is in scope|is not a constructor|is private to|module `[^`]*` not found'
-parts='has no (field|member|child|constructor|implicit argument) `'
+parts='has no (field|member|child|constructor|implicit argument) `|has no clause for'
 unfit='error\[|: error: .*('$names'|'$parts'|has no `Need-)|(^ *|: error: .*)expected type `types\.Run\.OneOf '
 
 # The signs are tried first, on lines of either kind. Only the refusal itself counts: its explanation, in the lines under it, may
@@ -32,6 +32,7 @@ a/Proof.antt:1:2: error: `returns`: `x` is not in scope
 a/Proof.antt:1:2: error: `returns`: no constructor `Found` is in scope
 a/Proof.antt:1:2: error: module `Rattle.a.proofs.b` not found
   expected type `types.Run.OneOf (5 ∷ []) (tag x)`
+a/Laws.antt:1:2: error: `word-tree` has no clause for 1 case
 END
 }
 if fits | signs || [ "$(does_not_fit | signs | wc -l)" -ne "$(does_not_fit | wc -l)" ]; then
