@@ -6,27 +6,27 @@ use native.Mathlib.Omega.{arith}
 use borrow.Author.Tests.{lt-ltb, le-ltb}
 use lib.ListN.{length, take}
 use lib.Seq.{sets, length-take-le}
-use Rattle.octets.specs.Numbers.{messageLimit, levelLimit, addressRecordSize, accepted as number-accepted, tooLittleRoom}
-use Rattle.octets.specs.Answers.{telling}
-use Rattle.octets.specs.Stored.{roomFor}
+use Rattle.octets.specs.Believed.Numbers.{messageLimit, levelLimit, addressRecordSize, accepted as number-accepted, tooLittleRoom}
+use Rattle.octets.specs.Believed.Answers.{telling}
+use Rattle.octets.specs.Believed.Stored.{roomFor}
 use Rattle.octets.specs.declared.answers.Answer.{Answer}
 use Rattle.octets.specs.declared.answers.Answer.the-variants.{Accepted, Refused, NoRoom}
-use Rattle.scanner.specs.Symbols.{Symbol}
-use Rattle.scanner.specs.Scanning.{scanBy}
-use Rattle.scanner.specs.Answers.{unlessFault, faultOf}
+use Rattle.scanner.specs.Believed.Symbols.{Symbol}
+use Rattle.scanner.specs.Believed.Scanning.{scanBy}
+use Rattle.scanner.specs.Believed.Answers.{unlessFault, faultOf}
 use Rattle.scanner.specs.declared.Class.{Class}
 use Rattle.scanner.proofs.BodyChecks.{in-order, unless-none}
-use Rattle.grammar.specs.Grammar.{Row}
-use Rattle.grammar.specs.Language.{Verdict, accepted, refused}
-use Rattle.grammar.specs.Records.{count, records, tableBytes}
+use Rattle.grammar.specs.Believed.Grammar.{Row}
+use Rattle.grammar.specs.Believed.Language.{Verdict, accepted, refused}
+use Rattle.grammar.specs.Believed.Records.{count, records, tableBytes}
 use Rattle.grammar.specs.Executable.{Decides}
 use Rattle.grammar.proofs.AnyReader.{answer-accepts, answer-derives}
-use Rattle.addresses.specs.Editions.{Edition}
+use Rattle.addresses.specs.Believed.Editions.{Edition}
 use Rattle.octets.proofs.AnswerLaws.{answered}
-use Rattle.addresses.specs.Editions.{symbolsIn}
-use Rattle.addresses.specs.Outcome.{Outcome, AnsweredBy, refusal, derived, byVerdict, decided, readIn, outcomeIn}
-use Rattle.addresses.specs.Condition3.{IsListIn, Settled, Condition3In}
-use Rattle.addresses.specs.Whole.{IsListed, IsRefused, TwiceIs, TextIs}
+use Rattle.addresses.specs.Believed.Editions.{symbolsIn}
+use Rattle.addresses.specs.Believed.Outcome.{Outcome, AnsweredBy, refusal, derived, byVerdict, decided, readIn, outcomeIn}
+use Rattle.addresses.specs.Believed.Condition3.{IsListIn, Settled, Condition3In}
+use Rattle.addresses.specs.Ties.Whole.{IsListed, IsRefused, TwiceIs, TextIs}
 
 -- ---- two runs
 

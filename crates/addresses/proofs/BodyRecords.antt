@@ -5,13 +5,13 @@ use Prim.Native.Nat.{ℕ, _+_, _*_, _≤_, _<_}
 use native.Mathlib.Omega.{arith}
 use lib.ListN.{take}
 use lib.Seq.{length-take-le}
-use Rattle.octets.specs.Classes.{classTable}
+use Rattle.octets.specs.Believed.Classes.{classTable}
 use Rattle.scanner.proofs.Spans.{Placed, none, one, placed}
-use Rattle.grammar.specs.Records.{count, records}
-use Rattle.grammar.specs.Rfc733.{Derivation}
+use Rattle.grammar.specs.Believed.Records.{count, records}
+use Rattle.grammar.specs.Believed.Rfc733.{Derivation}
 use Rattle.grammar.specs.Executable.Trees733.{Class, Atom, Quoted, At, LessThan, GreaterThan, Comma, Semicolon, Colon, Stray, Dot, Literal, Sym}
 use Rattle.grammar.proofs.Order.{leastBytes, InOrder, Ascending, records-ascend, count-half}
-use Rattle.addresses.specs.Editions.{bodySymbols}
+use Rattle.addresses.specs.Believed.Editions.{bodySymbols}
 use Rattle.addresses.proofs.Judgements.{ListBody}
 
 least : (class : Class) (start end : ℕ) → start < end → (class ≡ Quoted → start + 2 ≤ end) → start + leastBytes class ≤ end

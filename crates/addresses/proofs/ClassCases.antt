@@ -8,7 +8,7 @@ use mir.Val.{hasKey}
 use types.Run.{OneOf, miss}
 use denote.Enum.Declared.{tagOf}
 use Rattle.octets.proofs.Tables.{at}
-use Rattle.octets.specs.Tests.{every}
+use Rattle.octets.specs.Believed.Tests.{every}
 use Rattle.scanner.proofs.Class as class-declared
 use Rattle.scanner.proofs.Next as next-declared
 use Rattle.scanner.specs.declared.Next.{Next}

@@ -7,13 +7,13 @@ use Prim.Native.Nat.{ℕ, suc, _+_, _*_, _-_, _≤_, _<_}
 use native.Mathlib.Omega.{arith}
 use lib.ListN.{length}
 use lib.Seq.{sets}
-use Rattle.octets.specs.Numbers.{tooManyLevels}
-use Rattle.octets.specs.Text.{part}
+use Rattle.octets.specs.Believed.Numbers.{tooManyLevels}
+use Rattle.octets.specs.Believed.Text.{part}
 use Rattle.scanner.specs.declared.Next.{Next}
 use Rattle.scanner.specs.declared.Next.the-variants.{Found, Ended, Fault}
-use Rattle.grammar.specs.Language.{unfit, unfinished, tooDeep, refused, number}
-use Rattle.grammar.specs.Records.{AddressRecord, recordBy, recordBytes, tableBytes}
-use Rattle.grammar.specs.Rfc733.{sameClass, kindNumber, typedKind}
+use Rattle.grammar.specs.Believed.Language.{unfit, unfinished, tooDeep, refused, number}
+use Rattle.grammar.specs.Believed.Records.{AddressRecord, recordBy, recordBytes, tableBytes}
+use Rattle.grammar.specs.Believed.Rfc733.{sameClass, kindNumber, typedKind}
 use Rattle.grammar.proofs.HouseRule.{same-class}
 use Rattle.grammar.specs.Executable.Trees733.{Class, Atom, Quoted, At, LessThan, GreaterThan, Comma, Semicolon, Colon, Stray, Dot, Literal, Lexeme, Sym, of, Phrase, AddressList, empty, idle, angle, group, typed}
 use Rattle.grammar.proofs.Trees.{nameThen, atomColon}
@@ -22,7 +22,7 @@ use Rattle.grammar.proofs.Complete.{begin, doneAddress, doneList, Clear, comple
 use Rattle.grammar.proofs.Readers.{ListEnds, endsAddress, deep-angle, deep-group, closed-unfit, clear-colon, run-typed}
 use Rattle.grammar.proofs.TreeRecords.{nameStart, nameEnd, addressEnd, addressRecords, listRecords}
 use Rattle.grammar.proofs.RecordLaws.{stored-around}
-use Rattle.addresses.specs.Steps.{endsAddressNext, refusedNext, opening, closing, enclosureKind, levelIn, enclosed, House, symbolsFrom, lexemeAt, symbolAt, symbolsAhead, Standing, AddressRead, AddressStops, AddressIs, Opening, Opened, ListRead, ListStops, inner, TypedFirst}
+use Rattle.addresses.specs.Ties.Steps.{endsAddressNext, refusedNext, opening, closing, enclosureKind, levelIn, enclosed, House, symbolsFrom, lexemeAt, symbolAt, symbolsAhead, Standing, AddressRead, AddressStops, AddressIs, Opening, Opened, ListRead, ListStops, inner, TypedFirst}
 use Rattle.addresses.specs.declared.Frame.{Frame}
 use Rattle.grammar.specs.declared.Span.{Span}
 use Rattle.addresses.specs.declared.Enclosure.{Enclosure}

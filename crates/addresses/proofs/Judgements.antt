@@ -5,24 +5,24 @@ use mathlib.Core.List.{List}
 use Prim.Native.Nat.{ℕ, _≤_}
 use native.Mathlib.Omega.{arith}
 use lib.ListN.{length, take}
-use Rattle.octets.specs.Numbers.{messageLimit, levelLimit}
+use Rattle.octets.specs.Believed.Numbers.{messageLimit, levelLimit}
 use Rattle.octets.specs.declared.answers.Answer.the-variants.{Accepted, Refused}
-use Rattle.scanner.specs.Symbols.{Symbol}
-use Rattle.scanner.specs.Scanning.{scanBy, scan}
-use Rattle.scanner.specs.Answers.{faultOf, bodyScanned}
+use Rattle.scanner.specs.Believed.Symbols.{Symbol}
+use Rattle.scanner.specs.Believed.Scanning.{scanBy, scan}
+use Rattle.scanner.specs.Believed.Answers.{faultOf, bodyScanned}
 use Rattle.scanner.specs.declared.Class.{Class}
 use Rattle.scanner.proofs.BodyChecks.{in-order, unless-refused, CleanBy, refused-body, clean-body, body-case-by, when-refused-by, Clean, body-case, when-refused}
-use Rattle.grammar.specs.Grammar.{Row, Derived, levels}
-use Rattle.grammar.specs.Language.{Refusal, Verdict, accepted, refused, number, positionOf, Right}
-use Rattle.grammar.specs.Rfc733.{Derivation}
+use Rattle.grammar.specs.Believed.Grammar.{Row, Derived, levels}
+use Rattle.grammar.specs.Believed.Language.{Refusal, Verdict, accepted, refused, number, positionOf, Right}
+use Rattle.grammar.specs.Believed.Rfc733.{Derivation}
 use Rattle.grammar.specs.Executable.{Decides}
 use Rattle.grammar.proofs.AnyReader.{answer-accepts, answer-derives}
 use Rattle.grammar.specs.Executable.Machine733.{answer}
 use Rattle.grammar.proofs.Condition3.{decides}
-use Rattle.addresses.specs.Editions.{Edition, edition733}
-use Rattle.addresses.specs.Editions.{symbolsIn, bodySymbols}
-use Rattle.addresses.specs.Outcome.{byVerdict, readIn, readWithin, bodyRead}
-use Rattle.addresses.specs.Condition3.{IsListIn, IsList}
+use Rattle.addresses.specs.Believed.Editions.{Edition, edition733}
+use Rattle.addresses.specs.Believed.Editions.{symbolsIn, bodySymbols}
+use Rattle.addresses.specs.Believed.Outcome.{byVerdict, readIn, readWithin, bodyRead}
+use Rattle.addresses.specs.Believed.Condition3.{IsListIn, IsList}
 use Rattle.addresses.proofs.AnyEdition.{verdict-decides}
 
 -- ---- in any edition

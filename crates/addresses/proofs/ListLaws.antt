@@ -8,7 +8,7 @@ use lib.ListN.{length}
 use lib.Seq.{sets}
 use Rattle.scanner.specs.declared.Next.{Next}
 use Rattle.scanner.specs.declared.Next.the-variants.{Found}
-use Rattle.grammar.specs.Records.{tableBytes}
+use Rattle.grammar.specs.Believed.Records.{tableBytes}
 use Rattle.grammar.specs.Executable.Trees733.{Class, Comma, Lexeme, Sym, of, empty, comma, AddressList, idle, full}
 use Rattle.grammar.proofs.Trees.{atomColon}
 use Rattle.grammar.specs.Executable.Machine733.{inList, Level, list, levelsAt, nameless, fresh, run, judge}
@@ -16,7 +16,7 @@ use Rattle.grammar.proofs.Complete.{doneList, Clear, complete-doneList}
 use Rattle.grammar.proofs.Readers.{AddressEnds, ListEnds, endsAddress}
 use Rattle.grammar.proofs.TreeRecords.{listCount, listRecords}
 use Rattle.grammar.proofs.RecordLaws.{stored-behind}
-use Rattle.addresses.specs.Steps.{symbolsFrom, lexemeAt, symbolsAhead, Ahead, AddressRead, AddressStops, ListRead, ListStops, Entered}
+use Rattle.addresses.specs.Ties.Steps.{symbolsFrom, lexemeAt, symbolsAhead, Ahead, AddressRead, AddressStops, ListRead, ListStops, Entered}
 use Rattle.addresses.specs.declared.Frame.{Frame}
 use Rattle.addresses.proofs.NextLaws.{NextIs}
 
@@ -114,7 +114,7 @@ module _ (classes text : List ℕ) where
       where
         by : (k : Level) (l : AddressList) → run (levelsAt k + frame .levels) (list k (idle empty)) (symbolsFrom classes text at) ≡ run (levelsAt k + frame .levels) (doneList k l) (symbolsAhead classes text (Found class a b))
             → ClearAt k l (symbolsAhead classes text (Found class a b)) → Behind l (symbolsAhead classes text (Found class a b))
-            → judge (run (levelsAt k + frame .levels) (list k (idle empty)) (symbolsFrom classes text at)) ≡ Rattle.grammar.specs.Language.refused (s .why) (s .rest)
+            → judge (run (levelsAt k + frame .levels) (list k (idle empty)) (symbolsFrom classes text at)) ≡ Rattle.grammar.specs.Believed.Language.refused (s .why) (s .rest)
         by k (idle p) reads clear behind = ap judge reads ∙ s .stops (inList k p) clear
         by k (full p x) reads clear behind = absurd (true≢false (sym behind ∙ f))
 

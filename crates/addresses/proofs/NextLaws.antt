@@ -6,13 +6,13 @@ use native.Mathlib.Omega.{arith}
 use types.Run.{OneOf}
 use denote.Enum.Declared.{tagOf}
 use Rattle.scanner.proofs.Next as next-declared
-use Rattle.scanner.specs.Scanning.{scanBy, symbolsOf}
-use Rattle.scanner.specs.Answers.{nextOf, unlessFault, faultOf}
+use Rattle.scanner.specs.Believed.Scanning.{scanBy, symbolsOf}
+use Rattle.scanner.specs.Believed.Answers.{nextOf, unlessFault, faultOf}
 use Rattle.scanner.specs.declared.Next.{Next}
 use Rattle.scanner.specs.declared.Next.the-variants.{Found, Ended, Fault}
 use Rattle.scanner.proofs.Unfolding.{SymbolAt, found, found-end, found-fault, fault-on}
 use Rattle.grammar.specs.Executable.Trees733.{Class}
-use Rattle.addresses.specs.Steps.{symbolsFrom, symbolsAhead, Faultless, Ahead}
+use Rattle.addresses.specs.Ties.Steps.{symbolsFrom, symbolsAhead, Faultless, Ahead}
 use Rattle.addresses.proofs.ClassCases.{no-symbol}
 
 -- the next symbol at or after a position

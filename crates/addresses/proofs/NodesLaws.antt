@@ -5,17 +5,17 @@ use mathlib.Core.List.{List, [], _∷_}
 use Prim.Native.Nat.{ℕ, _≤_, _<_}
 use native.Mathlib.Omega.{arith}
 use lib.ListN.{length}
-use Rattle.octets.specs.Numbers.{noListGoesOn, endsTooSoon}
+use Rattle.octets.specs.Believed.Numbers.{noListGoesOn, endsTooSoon}
 use Rattle.scanner.specs.declared.Next.{Next}
 use Rattle.scanner.specs.declared.Next.the-variants.{Found}
-use Rattle.grammar.specs.Language.{unfit, unfinished, refused}
+use Rattle.grammar.specs.Believed.Language.{unfit, unfinished, refused}
 use Rattle.grammar.specs.Executable.Trees733.{Class, Atom, Quoted, At, LessThan, GreaterThan, Comma, Semicolon, Colon, Stray, Dot, Literal, Lexeme, Sym, of, Word, Phrase, Nodes, first, next}
 use Rattle.grammar.proofs.Trees.{wordSymbol, nodesThen}
 use Rattle.grammar.specs.Executable.Machine733.{Here, State, firstAt, nextAt, node, run, judge}
 use Rattle.grammar.proofs.Complete.{run-word}
 use Rattle.grammar.proofs.Readers.{AddressEnds}
 use Rattle.grammar.proofs.TreeRecords.{wordLexeme, nodesEnd}
-use Rattle.addresses.specs.Steps.{isWord, symbolsFrom, lexemeAt, symbolAt, symbolsAhead, Faultless, Standing, NodesEnd, Stops, NodesContext}
+use Rattle.addresses.specs.Ties.Steps.{isWord, symbolsFrom, lexemeAt, symbolAt, symbolsAhead, Faultless, Standing, NodesEnd, Stops, NodesContext}
 use Rattle.addresses.proofs.NextLaws.{NextIs}
 use Rattle.addresses.proofs.PhraseLaws.{wordOf, word-symbol, word-lexeme}
 

@@ -10,7 +10,7 @@ use Rattle.scanner.specs.declared.Next.the-variants.{Found}
 use Rattle.grammar.specs.Executable.Trees733.{Class, Atom, Quoted, At, LessThan, GreaterThan, Comma, Semicolon, Colon, Stray, Dot, Literal, Lexeme, Sym, of, Word, atomWord, quotedWord, Phrase, one, more}
 use Rattle.grammar.proofs.Trees.{wordSymbol, phraseThen}
 use Rattle.grammar.proofs.TreeRecords.{wordLexeme, phraseStart, phraseEnd}
-use Rattle.addresses.specs.Steps.{isWord, isQuoted, loneQuoted, symbolsFrom, lexemeAt, symbolsAhead, Faultless, Reached, NoWord, WordsIs}
+use Rattle.addresses.specs.Ties.Steps.{isWord, isQuoted, loneQuoted, symbolsFrom, lexemeAt, symbolsAhead, Faultless, Reached, NoWord, WordsIs}
 use Rattle.addresses.proofs.NextLaws.{NextIs}
 
 -- the word of a class

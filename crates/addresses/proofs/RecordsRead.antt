@@ -8,18 +8,18 @@ use borrow.Author.Tests.{ltb-false}
 use lib.Dec.{ltb}
 use lib.ListN.{length, getD, take}
 use lib.Seq.{sets, length-take-le}
-use Rattle.octets.specs.Numbers.{messageLimit, addressRecordSize}
-use Rattle.octets.specs.Stored.{roomFor}
+use Rattle.octets.specs.Believed.Numbers.{messageLimit, addressRecordSize}
+use Rattle.octets.specs.Believed.Stored.{roomFor}
 use Rattle.octets.specs.declared.answers.Answer.the-variants.{Accepted, NoRoom}
-use Rattle.scanner.specs.Symbols.{Symbol}
+use Rattle.scanner.specs.Believed.Symbols.{Symbol}
 use Rattle.scanner.specs.declared.Class.{Class}
 use Rattle.scanner.proofs.Spans.{Placed, none, one, placed}
-use Rattle.grammar.specs.Grammar.{Row}
-use Rattle.grammar.specs.Records.{noRecord, count, records, tableBytes, recordIn}
-use Rattle.grammar.specs.Rfc733.{Derivation}
+use Rattle.grammar.specs.Believed.Grammar.{Row}
+use Rattle.grammar.specs.Believed.Records.{noRecord, count, records, tableBytes, recordIn}
+use Rattle.grammar.specs.Believed.Rfc733.{Derivation}
 use Rattle.grammar.proofs.Positions.{SymbolsUpTo, ReadBack, read-back}
-use Rattle.addresses.specs.Editions.{Edition, edition733, edition822}
-use Rattle.addresses.specs.Outcome.{Outcome, refusal, derived, outcome}
+use Rattle.addresses.specs.Believed.Editions.{Edition, edition733, edition822}
+use Rattle.addresses.specs.Believed.Outcome.{Outcome, refusal, derived, outcome}
 use Rattle.addresses.proofs.BodyRecords.{records-half}
 use Rattle.addresses.proofs.Judgements.{ListBodyIn, ListBody, Judged, refusedAt, listed, listed-read, judged}
 

@@ -8,14 +8,14 @@ use lib.Dec.{ltb}
 use types.Run.{OneOf, miss}
 use denote.Enum.Declared.{tagOf}
 use Rattle.octets.proofs.answers.Answer as answer-declared
-use Rattle.octets.specs.Choice.{pick}
-use Rattle.octets.specs.Numbers.{addressRecordSize}
-use Rattle.octets.specs.Stored.{roomFor}
+use Rattle.octets.specs.Believed.Choice.{pick}
+use Rattle.octets.specs.Believed.Numbers.{addressRecordSize}
+use Rattle.octets.specs.Believed.Stored.{roomFor}
 use Rattle.octets.specs.declared.answers.Answer.{Answer}
 use Rattle.octets.specs.declared.answers.Answer.the-variants.{Accepted, Refused, NoRoom}
-use Rattle.grammar.specs.Records.{count}
-use Rattle.grammar.specs.Rfc733.{Derivation}
-use Rattle.addresses.specs.Outcome.{Outcome, refusal, derived, outcome}
+use Rattle.grammar.specs.Believed.Records.{count}
+use Rattle.grammar.specs.Believed.Rfc733.{Derivation}
+use Rattle.addresses.specs.Believed.Outcome.{Outcome, refusal, derived, outcome}
 use Rattle.addresses.proofs.Judgements.{ListBody, RefusedBody, Judged, refusedAt, listed, listed-read, judged}
 
 -- what is read of a list is no refusal

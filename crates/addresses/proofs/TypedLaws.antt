@@ -5,10 +5,10 @@ use mathlib.Core.List.{List, [], _∷_}
 use Prim.Native.Nat.{ℕ}
 use native.Mathlib.Omega.{arith}
 use Rattle.scanner.specs.declared.Next.the-variants.{Found}
-use Rattle.grammar.specs.Rfc733.{sameClass}
+use Rattle.grammar.specs.Believed.Rfc733.{sameClass}
 use Rattle.grammar.specs.Executable.Trees733.{Class, Atom, Colon}
 use Rattle.grammar.proofs.Trees.{atomColon}
-use Rattle.addresses.specs.Steps.{symbolsFrom, lexemeAt, TypedFollows}
+use Rattle.addresses.specs.Ties.Steps.{symbolsFrom, lexemeAt, TypedFollows}
 use Rattle.addresses.proofs.NextLaws.{NextIs}
 
 module _ (classes text : List ℕ) where
@@ -28,7 +28,7 @@ module _ (classes text : List ℕ) where
   typed-follows {at} {a} {b} {i} {j} x y =
       record {
         colon = lexemeAt classes text Colon i j;
-        yields = x .same ∙ ap (λ ys. Rattle.addresses.specs.Steps.symbolAt classes text Atom a b ∷ ys) (y .same);
+        yields = x .same ∙ ap (λ ys. Rattle.addresses.specs.Ties.Steps.symbolAt classes text Atom a b ∷ ys) (y .same);
         from = x .ok .0;
         atom-starts = x .ok .1 .starts;
         end-before = omega (arith, y .ok .0, y .ok .1 .starts);

@@ -7,25 +7,25 @@ use native.Mathlib.Nat.{zero-add}
 use native.Mathlib.Omega.{arith}
 use lib.ListN.{length, take}
 use lib.Seq.{sets}
-use Rattle.octets.specs.Classes.{classTable}
-use Rattle.octets.specs.Numbers.{messageLimit, levelLimit, noListGoesOn}
+use Rattle.octets.specs.Believed.Classes.{classTable}
+use Rattle.octets.specs.Believed.Numbers.{messageLimit, levelLimit, noListGoesOn}
 use Rattle.octets.specs.declared.answers.Answer.{Answer}
 use Rattle.octets.proofs.AnswerLaws.{answered}
 use Rattle.scanner.specs.declared.Next.{Next}
 use Rattle.scanner.specs.declared.Next.the-variants.{Found}
-use Rattle.grammar.specs.Language.{unfit, accepted, refused}
-use Rattle.grammar.specs.Records.{count, tableBytes}
+use Rattle.grammar.specs.Believed.Language.{unfit, accepted, refused}
+use Rattle.grammar.specs.Believed.Records.{count, tableBytes}
 use Rattle.grammar.specs.Executable.Machine733.{asRows, answer, top, run, judge}
 use Rattle.grammar.proofs.Condition3.{decides}
 use Rattle.grammar.specs.Executable.Trees733.{asRow, Class, Atom, Quoted, At, LessThan, GreaterThan, Comma, Semicolon, Colon, Stray, Dot, Literal, Lexeme, Sym, of, AddressList}
 use Rattle.grammar.proofs.Complete.{doneList, complete-doneList}
 use Rattle.grammar.proofs.Readers.{ListEnds}
 use Rattle.grammar.proofs.TreeRecords.{tree-records, tree-count}
-use Rattle.addresses.specs.Editions.{edition733}
-use Rattle.addresses.specs.Outcome.{Outcome, AnsweredBy, outcome}
-use Rattle.addresses.specs.Condition3.{Condition3}
-use Rattle.addresses.specs.Steps.{symbolsFrom, symbolsAhead, lexemeAt, ListRead, ListStops}
-use Rattle.addresses.specs.Whole.{IsListed, IsRefused, TextIs}
+use Rattle.addresses.specs.Believed.Editions.{edition733}
+use Rattle.addresses.specs.Believed.Outcome.{Outcome, AnsweredBy, outcome}
+use Rattle.addresses.specs.Believed.Condition3.{Condition3}
+use Rattle.addresses.specs.Ties.Steps.{symbolsFrom, symbolsAhead, lexemeAt, ListRead, ListStops}
+use Rattle.addresses.specs.Ties.Whole.{IsListed, IsRefused, TextIs}
 use Rattle.addresses.specs.declared.Frame.{Frame}
 use Rattle.addresses.proofs.AnyEdition as any
 

@@ -7,22 +7,22 @@ use native.Mathlib.Decide.{decLt}
 use native.Mathlib.Omega.{arith}
 use lib.ListN.{length}
 use lib.Seq.{take-length}
-use Rattle.octets.specs.Classes.{classTable}
-use Rattle.octets.specs.Numbers.{levelLimit}
+use Rattle.octets.specs.Believed.Classes.{classTable}
+use Rattle.octets.specs.Believed.Numbers.{levelLimit}
 use Rattle.octets.specs.declared.answers.Answer.the-variants.{Refused}
-use Rattle.scanner.specs.Answers.{bodyScanned}
+use Rattle.scanner.specs.Believed.Answers.{bodyScanned}
 use Rattle.scanner.specs.declared.Class.{Class}
 use Rattle.scanner.proofs.BodyChecks.{Clean, refused-body, clean-body, body-case, when-refused}
-use Rattle.grammar.specs.Grammar.{levels}
-use Rattle.grammar.specs.Language.{Verdict, accepted, refused}
-use Rattle.grammar.specs.Rfc733.{Derivation}
+use Rattle.grammar.specs.Believed.Grammar.{levels}
+use Rattle.grammar.specs.Believed.Language.{Verdict, accepted, refused}
+use Rattle.grammar.specs.Believed.Rfc733.{Derivation}
 use Rattle.grammar.specs.Executable.Machine733.{answer}
 use Rattle.grammar.proofs.Condition3.{answer-accepts, answer-derives}
-use Rattle.addresses.specs.Editions.{bodySymbols}
-use Rattle.addresses.specs.Outcome.{byVerdict}
-use Rattle.addresses.specs.Steps.{symbolsFrom}
-use Rattle.addresses.specs.Whole.{Body, endsWithin}
-use Rattle.addresses.specs.Within.{listWithin}
+use Rattle.addresses.specs.Believed.Editions.{bodySymbols}
+use Rattle.addresses.specs.Believed.Outcome.{byVerdict}
+use Rattle.addresses.specs.Ties.Steps.{symbolsFrom}
+use Rattle.addresses.specs.Ties.Whole.{Body, endsWithin}
+use Rattle.addresses.specs.Believed.Within.{listWithin}
 use Rattle.addresses.proofs.Judgements.{ListBody, decided-read, list-body}
 
 -- a whole text may be read

@@ -1,7 +1,3 @@
 -- Document 01, "Addresses": what the address reader answers, and condition 3.
-pub mod Editions
-pub mod Outcome
-pub mod Condition3
-pub mod Within
-pub mod Steps
-pub mod Whole
+pub mod Believed
+pub mod Ties

@@ -1,2 +1,2 @@
 -- What the C functions tell of document 01's answers.
-pub mod Told
+pub mod Believed

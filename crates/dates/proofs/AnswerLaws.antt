@@ -4,18 +4,18 @@ use mathlib.Core.List.{List}
 use Prim.Native.Nat.{ℕ, _≤_}
 use native.Mathlib.Omega.{arith}
 use lib.ListN.{length, take}
-use Rattle.octets.specs.Classes.{classTable}
-use Rattle.octets.specs.Numbers.{messageLimit}
+use Rattle.octets.specs.Believed.Classes.{classTable}
+use Rattle.octets.specs.Believed.Numbers.{messageLimit}
 use Rattle.octets.specs.declared.answers.Answer.the-variants as answer
-use Rattle.scanner.specs.Scanning.{Scanned, scan}
-use Rattle.scanner.specs.Answers.{faultOf}
+use Rattle.scanner.specs.Believed.Scanning.{Scanned, scan}
+use Rattle.scanner.specs.Believed.Answers.{faultOf}
 use Rattle.scanner.proofs.BodyChecks.{in-order, unless-refused, unless-none}
-use Rattle.dates.specs.Parts.{Part, parts}
-use Rattle.dates.specs.Form.{readingOf}
-use Rattle.dates.specs.Steps.{left}
-use Rattle.dates.specs.Answers.{told}
-use Rattle.dates.specs.ByGrammar.{Settled, ByGrammar}
-use Rattle.dates.specs.Outcome.{readingAnswer, scannedAnswer, dateAnswer}
+use Rattle.dates.specs.Believed.Parts.{Part, parts}
+use Rattle.dates.specs.Executable.Form.{readingOf}
+use Rattle.dates.specs.Ties.Steps.{left}
+use Rattle.dates.specs.Believed.Answers.{told}
+use Rattle.dates.specs.Believed.ByGrammar.{Settled, ByGrammar}
+use Rattle.dates.specs.Believed.Outcome.{readingAnswer, scannedAnswer, dateAnswer}
 use Rattle.dates.specs.declared.form.Reading.{Reading}
 use Rattle.dates.specs.declared.DateAnswer.{DateAnswer}
 use Rattle.dates.specs.declared.DateAnswer.the-variants.{Refused}

@@ -7,9 +7,9 @@ use native.Mathlib.Omega.{arith}
 use lib.Dec.{eqb, eqb→eq, leb, leb→le}
 use lib.ListN.{getD, take, List·getD-eq-default}
 use borrow.Author.Tests.{eqb-true, eqb-false, eq-eqb, ne-eqb}
-use Rattle.octets.specs.Choice.{pick}
+use Rattle.octets.specs.Believed.Choice.{pick}
 use Rattle.octets.proofs.Tables.{at}
-use Rattle.dates.specs.Calendar.{leap, monthLengths, sum, monthLength, daysBeforeMonth, daysOfYears}
+use Rattle.dates.specs.Believed.Calendar.{leap, monthLengths, sum, monthLength, daysBeforeMonth, daysOfYears}
 
 -- ---- leap years
 

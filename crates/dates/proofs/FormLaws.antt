@@ -14,16 +14,16 @@ use lib.Signed.{mag}
 use mir.Syntax.{w16}
 use mir.Val.{SFits}
 use mir.Facts.{sfits-lit}
-use Rattle.octets.specs.Classes.{letter, digit}
-use Rattle.octets.specs.Octets.{minusByte}
-use Rattle.octets.specs.Text.{part}
+use Rattle.octets.specs.Believed.Classes.{letter, digit}
+use Rattle.octets.specs.Believed.Octets.{minusByte}
+use Rattle.octets.specs.Believed.Text.{part}
 use Rattle.octets.proofs.Tables.{at}
 use Rattle.octets.proofs.Parts.{part-cons, part-none, part-length}
-use Rattle.dates.specs.Names.{place, zoneNames, zoneMinutes}
-use Rattle.dates.specs.Parts.{Part}
-use Rattle.dates.specs.Grammar.{numberFrom, number, offsetOf}
-use Rattle.dates.specs.Form.{firstKey, after, done, digitsOf, named, noZone, zoned, zoneNamed, hourAfter, pastDash, yearAfter}
-use Rattle.dates.specs.Steps.{TokenIs, NumberIs, NamedIs, SpotIs}
+use Rattle.dates.specs.Believed.Names.{place, zoneNames, zoneMinutes}
+use Rattle.dates.specs.Believed.Parts.{Part}
+use Rattle.dates.specs.Believed.Grammar.{numberFrom, number, offsetOf}
+use Rattle.dates.specs.Executable.Form.{firstKey, after, done, digitsOf, named, noZone, zoned, zoneNamed, hourAfter, pastDash, yearAfter}
+use Rattle.dates.specs.Ties.Steps.{TokenIs, NumberIs, NamedIs, SpotIs}
 use Rattle.dates.specs.declared.parts.Token.{Token}
 use Rattle.dates.specs.declared.form.Offset.the-variants.{Minutes, OutOfRange}
 

@@ -9,13 +9,13 @@ use lib.Dec.{eqb, leb, ltb}
 use lib.IntN.{ℤ, pos}
 use lib.ListN.{length, getD}
 use borrow.Author.Tests.{eqb-true, ltb-true, leb-true, lt-ltb}
-use Rattle.octets.specs.Choice.{pick, both}
-use Rattle.octets.specs.Classes.{letter, digit}
-use Rattle.octets.specs.Octets.{plusByte, commaByte, minusByte, colonByte}
-use Rattle.dates.specs.Names.{dayNames, monthNames, zoneNames, zoneMinutes, place, ahead, behind}
-use Rattle.dates.specs.Parts.{Part}
-use Rattle.dates.specs.Grammar.{num, offsetOf, Digits, Name, DayNameIs, day-name, no-day-name, DashIs, dash, no-dash, DayIs, one-digit, two-digits, MonthIs, month, YearIs, short-year, full-year, HourIs, four, six, two-two, two-four, four-two, two-two-two, ZoneIs, zone-name, dashed-name, east, west, DateIs, date}
-use Rattle.dates.specs.Form.{firstKey, firstBytes, after, done, digitsOf, named, Hour, noHour, hour, secondFrom, secondAfter, minuteFrom, minuteAfter, hourFrom, hourOf, Zoned, noZone, zoned, zoneFrom, zoneNamed, signedFrom, zoneOf, ended, zoneAfter, hourAfter, pastDash, yearFrom, yearAfter, monthFrom, monthAfter, dayFrom, dayAfter, readingFrom, readingOf, ReadsRight}
+use Rattle.octets.specs.Believed.Choice.{pick, both}
+use Rattle.octets.specs.Believed.Classes.{letter, digit}
+use Rattle.octets.specs.Believed.Octets.{plusByte, commaByte, minusByte, colonByte}
+use Rattle.dates.specs.Believed.Names.{dayNames, monthNames, zoneNames, zoneMinutes, place, ahead, behind}
+use Rattle.dates.specs.Believed.Parts.{Part}
+use Rattle.dates.specs.Believed.Grammar.{num, offsetOf, Digits, Name, DayNameIs, day-name, no-day-name, DashIs, dash, no-dash, DayIs, one-digit, two-digits, MonthIs, month, YearIs, short-year, full-year, HourIs, four, six, two-two, two-four, four-two, two-two-two, ZoneIs, zone-name, dashed-name, east, west, DateIs, date}
+use Rattle.dates.specs.Executable.Form.{firstKey, firstBytes, after, done, digitsOf, named, Hour, noHour, hour, secondFrom, secondAfter, minuteFrom, minuteAfter, hourFrom, hourOf, Zoned, noZone, zoned, zoneFrom, zoneNamed, signedFrom, zoneOf, ended, zoneAfter, hourAfter, pastDash, yearFrom, yearAfter, monthFrom, monthAfter, dayFrom, dayAfter, readingFrom, readingOf, ReadsRight}
 use Rattle.dates.specs.declared.form.Offset.{Offset}
 use Rattle.dates.specs.declared.form.Offset.the-variants.{Minutes}
 use Rattle.dates.specs.declared.form.Written.{Written}

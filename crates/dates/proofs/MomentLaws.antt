@@ -10,10 +10,10 @@ use lib.IntN.{ℤ, pos, negsuc, negℤ, subℕ, _+ℤ_, _-ℤ_, _*ℤ_}
 use lib.Signed.{mag}
 use mir.Syntax.{w16, w64}
 use mir.Val.{SFits}
-use Rattle.octets.specs.Choice.{both}
+use Rattle.octets.specs.Believed.Choice.{both}
 use Rattle.octets.proofs.ChoiceLaws.{both-parts}
-use Rattle.dates.specs.Calendar.{monthLength}
-use Rattle.dates.specs.Answers.{dayExists, timeExists, nameTrue, daysOf, localSeconds, seconds, inZone, momentOf}
+use Rattle.dates.specs.Believed.Calendar.{monthLength}
+use Rattle.dates.specs.Believed.Answers.{dayExists, timeExists, nameTrue, daysOf, localSeconds, seconds, inZone, momentOf}
 use Rattle.dates.specs.declared.form.Written.{Written}
 use Rattle.dates.specs.declared.moment.Moment.the-variants.{Impossible}
 use Rattle.dates.proofs.CalendarLaws.{no-month, length-small}

@@ -9,13 +9,13 @@ use borrow.Author.Tests.{leb-true}
 use lib.Dec.{leb}
 use lib.ListN.{length, drop, getD, take, drop-of-length-le}
 use lib.Seq.{take-all}
-use Rattle.octets.specs.Choice.{pick}
-use Rattle.octets.specs.Letters.{sameLetters}
-use Rattle.octets.specs.Text.{part}
+use Rattle.octets.specs.Believed.Choice.{pick}
+use Rattle.octets.specs.Believed.Letters.{sameLetters}
+use Rattle.octets.specs.Believed.Text.{part}
 use Rattle.octets.proofs.ChoiceLaws.{both-parts}
 use Rattle.octets.proofs.Parts.{from-here}
-use Rattle.dates.specs.Names.{called, place}
-use Rattle.dates.specs.Steps.{rows, ascend}
+use Rattle.dates.specs.Believed.Names.{called, place}
+use Rattle.dates.specs.Ties.Steps.{rows, ascend}
 
 -- ---- full, or the first three letters
 

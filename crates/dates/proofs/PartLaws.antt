@@ -9,21 +9,21 @@ use lib.ListN.{length, take, drop, getD}
 use borrow.Author.Tests.{eq-eqb, ne-eqb, eqb-true}
 use denote.Enum.Declared.{tagOf}
 use types.Run.{OneOf, miss}
-use Rattle.octets.specs.Choice.{pick, both}
-use Rattle.octets.specs.Classes.{letter, digit}
-use Rattle.octets.specs.Octets.{plusByte, commaByte, minusByte, colonByte}
-use Rattle.octets.specs.Text.{part}
+use Rattle.octets.specs.Believed.Choice.{pick, both}
+use Rattle.octets.specs.Believed.Classes.{letter, digit}
+use Rattle.octets.specs.Believed.Octets.{plusByte, commaByte, minusByte, colonByte}
+use Rattle.octets.specs.Believed.Text.{part}
 use Rattle.octets.proofs.ChoiceLaws.{both-false}
 use Rattle.octets.proofs.Parts.{part-cons, part-none, part-drop, part-take}
-use Rattle.scanner.specs.Scanning.{Scanned, ended, faultAt, scanBy}
+use Rattle.scanner.specs.Believed.Scanning.{Scanned, ended, faultAt, scanBy}
 use Rattle.scanner.specs.declared.Class.{Class}
 use Rattle.scanner.specs.declared.Class.the-variants.{Atom, Quoted, At, LessThan, GreaterThan, Comma, Semicolon, Colon, Stray, Dot, Literal}
 use Rattle.scanner.proofs.Class.{the-type}
-use Rattle.scanner.specs.Meanings.{meaningAt}
+use Rattle.scanner.specs.Ties.Meanings.{meaningAt}
 use Rattle.scanner.proofs.Unfolding.{SymbolAt}
-use Rattle.dates.specs.Parts.{Part, otherPart, noPart, isMark, isRun, keyOf, before, runs, partsOf, parts}
-use Rattle.dates.specs.Form.{firstKey, firstBytes, after}
-use Rattle.dates.specs.Steps.{left, span, RunEnds, TokenIs}
+use Rattle.dates.specs.Believed.Parts.{Part, otherPart, noPart, isMark, isRun, keyOf, before, runs, partsOf, parts}
+use Rattle.dates.specs.Executable.Form.{firstKey, firstBytes, after}
+use Rattle.dates.specs.Ties.Steps.{left, span, RunEnds, TokenIs}
 
 -- ---- keys
 

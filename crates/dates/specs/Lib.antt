@@ -1,10 +1,4 @@
 -- Document 01, "Dates": what a date is, and the moment that it says.
-pub mod Names
-pub mod Parts
-pub mod Grammar
-pub mod Calendar
-pub mod Answers
-pub mod ByGrammar
-pub mod Form
-pub mod Outcome
-pub mod Steps
+pub mod Believed
+pub mod Executable
+pub mod Ties

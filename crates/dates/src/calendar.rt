@@ -1,7 +1,7 @@
 // The Gregorian calendar by arithmetic. Months count from 0.
 ghost use mathlib.Core.Path.{_≡_};
 ghost use Prim.Native.Nat.{_-_, _≤_, _<_};
-ghost use Rattle.dates.specs.Calendar.{leap, monthLength, daysBeforeMonth, daysOfYears, dayNumber};
+ghost use Rattle.dates.specs.Believed.Calendar.{leap, monthLength, daysBeforeMonth, daysOfYears, dayNumber};
 
 const LENGTHS: [u64; 12] = [31, 28, 31, 30, 31, 30, 31, 31, 30, 31, 30, 31];
 

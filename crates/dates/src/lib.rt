@@ -1,8 +1,8 @@
 // Reading dates.
 ghost use mathlib.Core.Path.{_≡_};
-ghost use Rattle.dates.specs.Answers.{numberOf, positionOf, countOf, valueOf, told};
-ghost use Rattle.dates.specs.ByGrammar.{ByGrammar};
-ghost use Rattle.dates.specs.Outcome.{dateAnswer};
+ghost use Rattle.dates.specs.Believed.Answers.{numberOf, positionOf, countOf, valueOf, told};
+ghost use Rattle.dates.specs.Believed.ByGrammar.{ByGrammar};
+ghost use Rattle.dates.specs.Believed.Outcome.{dateAnswer};
 use crate::form::Reading;
 use crate::moment::Moment;
 use octets::answers::Answer;

@@ -1,7 +1,7 @@
 // The moment that a date says.
 ghost use mathlib.Core.Path.{_≡_};
 ghost use Prim.Native.Nat.{_<_};
-ghost use Rattle.dates.specs.Answers.{dayExists, timeExists, nameTrue, seconds as secondsOf, momentOf};
+ghost use Rattle.dates.specs.Believed.Answers.{dayExists, timeExists, nameTrue, seconds as secondsOf, momentOf};
 use crate::form::Offset;
 use crate::form::Written;
 

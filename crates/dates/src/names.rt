@@ -2,8 +2,8 @@
 ghost use mathlib.Core.Path.{_≡_};
 ghost use mathlib.Core.Bool.{true};
 ghost use lib.ListN.{length};
-ghost use Rattle.dates.specs.Names.{called as calledBy, place};
-ghost use Rattle.dates.specs.Steps.{rows, ascend};
+ghost use Rattle.dates.specs.Believed.Names.{called as calledBy, place};
+ghost use Rattle.dates.specs.Ties.Steps.{rows, ascend};
 
 // The names of each table stand one behind the other; its ends say where each name ends.
 pub(crate) const DAYS: [u8; 50] = *b"MondayTuesdayWednesdayThursdayFridaySaturdaySunday";

@@ -2,8 +2,8 @@
 ghost use mathlib.Core.Path.{_≡_};
 ghost use Prim.Native.Nat.{_≤_, _<_};
 ghost use lib.ListN.{length};
-ghost use Rattle.dates.specs.Parts.{isMark, isRun, keyOf};
-ghost use Rattle.dates.specs.Steps.{Within, left, TokenIs, RunEnds};
+ghost use Rattle.dates.specs.Believed.Parts.{isMark, isRun, keyOf};
+ghost use Rattle.dates.specs.Ties.Steps.{Within, left, TokenIs, RunEnds};
 use octets::classes::DIGIT;
 use octets::classes::LETTER;
 use scanner::Class;

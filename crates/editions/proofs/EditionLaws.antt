@@ -7,16 +7,16 @@ use mathlib.Core.List.{List}
 use borrow.Author.Tests.{lt-ltb, le-ltb, ltb-false, ne-eqb}
 use lib.Dec.{ltb}
 use lib.ListN.{length}
-use Rattle.octets.specs.Numbers.{messageLimit, messageTooLong, editionUnknown}
+use Rattle.octets.specs.Believed.Numbers.{messageLimit, messageTooLong, editionUnknown}
 use Rattle.octets.specs.declared.answers.Answer.{Answer}
-use Rattle.octets.specs.Answers.{numberOf}
+use Rattle.octets.specs.Believed.Answers.{numberOf}
 use Rattle.grammar.specs.Executable.Machine822.{read}
 use Rattle.grammar.proofs.Condition822.{decides}
-use Rattle.addresses.specs.Editions.{edition822}
-use Rattle.addresses.specs.Outcome.{Outcome, AnsweredBy, refusal, outcome}
+use Rattle.addresses.specs.Believed.Editions.{edition822}
+use Rattle.addresses.specs.Believed.Outcome.{Outcome, AnsweredBy, refusal, outcome}
 use Rattle.addresses.proofs.AnyEdition as any
 use Rattle.addresses.proofs.WholeLaws.{settles}
-use Rattle.editions.specs.Outcome.{outcome822, outcomeOf, Condition3Of, NeverTooDeep}
+use Rattle.editions.specs.Believed.Outcome.{outcome822, outcomeOf, Condition3Of, NeverTooDeep}
 use Rattle.editions.proofs.LevelLaws.{shallow}
 
 -- an answer by an outcome is one by an equal outcome

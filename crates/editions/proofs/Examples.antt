@@ -6,17 +6,17 @@ use mathlib.Core.List.{List, [], _∷_, _++_}
 use lib.Dec.{eqb}
 use lib.ListN.{length, replicate}
 use lib.Seq.{sets}
-use Rattle.octets.specs.Choice.{both}
-use Rattle.octets.specs.Classes.{classOf, classTable, classOf822, classTable822}
-use Rattle.octets.specs.Letters.{lower, same, sameBytes}
-use Rattle.octets.specs.Text.{bytes}
-use Rattle.octets.specs.Answers.{numberOf, positionOf, countOf}
-use Rattle.scanner.specs.Kinds.{kindOf}
-use Rattle.scanner.specs.Characters.{charactersFrom}
-use Rattle.scanner.specs.Scanning.{scanFrom, symbolsOf}
-use Rattle.scanner.specs.Answers.{unlessFault}
-use Rattle.grammar.specs.Records.{AddressRecord, recordBy, tableBytes}
-use Rattle.editions.specs.Outcome.{outcomeOf}
+use Rattle.octets.specs.Believed.Choice.{both}
+use Rattle.octets.specs.Believed.Classes.{classOf, classTable, classOf822, classTable822}
+use Rattle.octets.specs.Believed.Letters.{lower, same, sameBytes}
+use Rattle.octets.specs.Believed.Text.{bytes}
+use Rattle.octets.specs.Believed.Answers.{numberOf, positionOf, countOf}
+use Rattle.scanner.specs.Believed.Kinds.{kindOf}
+use Rattle.scanner.specs.Believed.Characters.{charactersFrom}
+use Rattle.scanner.specs.Believed.Scanning.{scanFrom, symbolsOf}
+use Rattle.scanner.specs.Believed.Answers.{unlessFault}
+use Rattle.grammar.specs.Believed.Records.{AddressRecord, recordBy, tableBytes}
+use Rattle.editions.specs.Believed.Outcome.{outcomeOf}
 
 -- number and position, and the records, with room for four
 record Row : Type 0 where

@@ -7,24 +7,24 @@ use mathlib.Core.Bool.{Bool, true, false}
 use mathlib.Core.List.{List}
 use lib.Dec.{eqb, ltb}
 use lib.ListN.{length}
-use Rattle.octets.specs.Numbers.{messageLimit, levelLimit, messageTooLong, editionUnknown}
-use Rattle.scanner.specs.Symbols.{Symbol}
+use Rattle.octets.specs.Believed.Numbers.{messageLimit, levelLimit, messageTooLong, editionUnknown}
+use Rattle.scanner.specs.Believed.Symbols.{Symbol}
 use Rattle.scanner.specs.declared.Class.{Class}
-use Rattle.grammar.specs.Grammar.{Row}
-use Rattle.grammar.specs.Language.{Verdict}
-use Rattle.grammar.specs.Rfc733.{Notion}
+use Rattle.grammar.specs.Believed.Grammar.{Row}
+use Rattle.grammar.specs.Believed.Language.{Verdict}
+use Rattle.grammar.specs.Believed.Rfc733.{Notion}
 use Rattle.grammar.specs.Executable.{Decides}
 use Rattle.grammar.proofs.Positions.{ReadBack}
 use Rattle.grammar.specs.Executable.Machine733.{answer}
 use Rattle.grammar.proofs.Condition3 as rules733
 use Rattle.grammar.specs.Executable.Machine822.{read}
 use Rattle.grammar.proofs.Condition822 as rules822
-use Rattle.addresses.specs.Editions.{Edition, edition733, edition822}
-use Rattle.addresses.specs.Outcome.{readIn, bodyRead}
+use Rattle.addresses.specs.Believed.Editions.{Edition, edition733, edition822}
+use Rattle.addresses.specs.Believed.Outcome.{readIn, bodyRead}
 use Rattle.addresses.proofs.Judgements as judged-by
 use Rattle.addresses.proofs.Judgements.{listed-read-in, judged-in}
 use Rattle.addresses.proofs.RecordsRead.{TakesInPlace, takes-733, takes-822, body-read-back}
-use Rattle.editions.specs.Outcome.{readOf}
+use Rattle.editions.specs.Believed.Outcome.{readOf}
 
 -- whatever is answered of a refusal or of a derivation, of this body it is this
 abbrev pub AnsweredBy : ℕ → List ℕ → ℕ → ℕ → ((A : Type 0) → (ℕ → ℕ → A) → ((N : Type 0) → Row Class N → A) → A) → Type 1

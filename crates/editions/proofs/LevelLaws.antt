@@ -6,27 +6,27 @@ use mathlib.Core.Bool.{Bool, true, false, true≢false}
 use mathlib.Core.List.{List}
 use lib.Dec.{ltb}
 use lib.ListN.{length, take}
-use Rattle.octets.specs.Choice.{pick, either}
-use Rattle.octets.specs.Numbers.{messageLimit, levelLimit, messageTooLong, bodyOutOfOrder, tooManyLevels, addressRecordSize}
-use Rattle.octets.specs.Stored.{roomFor}
+use Rattle.octets.specs.Believed.Choice.{pick, either}
+use Rattle.octets.specs.Believed.Numbers.{messageLimit, levelLimit, messageTooLong, bodyOutOfOrder, tooManyLevels, addressRecordSize}
+use Rattle.octets.specs.Believed.Stored.{roomFor}
 use Rattle.octets.specs.declared.answers.Answer.{Answer}
-use Rattle.octets.specs.Answers.{numberOf}
-use Rattle.scanner.specs.Scanning.{Scanned, ended, next, faultAt, outside, scanBy}
-use Rattle.scanner.specs.Symbols.{Symbol}
-use Rattle.scanner.specs.Answers.{unlessFault}
-use Rattle.scanner.specs.Characters.{charactersAt}
+use Rattle.octets.specs.Believed.Answers.{numberOf}
+use Rattle.scanner.specs.Believed.Scanning.{Scanned, ended, next, faultAt, outside, scanBy}
+use Rattle.scanner.specs.Believed.Symbols.{Symbol}
+use Rattle.scanner.specs.Believed.Answers.{unlessFault}
+use Rattle.scanner.specs.Believed.Characters.{charactersAt}
 use Rattle.scanner.specs.declared.Class.{Class}
 use Rattle.scanner.proofs.FaultNumbers.{isFault, Numbered, numbered}
-use Rattle.grammar.specs.Grammar.{Row}
-use Rattle.grammar.specs.Language.{unfit, unfinished, tooDeep, Verdict, accepted, refused}
-use Rattle.grammar.specs.Rfc822.{Notion}
-use Rattle.grammar.specs.Records.{count}
+use Rattle.grammar.specs.Believed.Grammar.{Row}
+use Rattle.grammar.specs.Believed.Language.{unfit, unfinished, tooDeep, Verdict, accepted, refused}
+use Rattle.grammar.specs.Believed.Rfc822.{Notion}
+use Rattle.grammar.specs.Believed.Records.{count}
 use Rattle.grammar.specs.Executable.Machine822.{read}
 use Rattle.grammar.proofs.Condition822.{decides, never-ten}
-use Rattle.addresses.specs.Editions.{edition822}
-use Rattle.addresses.specs.Editions.{symbolsIn}
-use Rattle.addresses.specs.Outcome.{Outcome, refusal, derived, decided}
-use Rattle.editions.specs.Outcome.{outcome822}
+use Rattle.addresses.specs.Believed.Editions.{edition822}
+use Rattle.addresses.specs.Believed.Editions.{symbolsIn}
+use Rattle.addresses.specs.Believed.Outcome.{Outcome, refusal, derived, decided}
+use Rattle.editions.specs.Believed.Outcome.{outcome822}
 
 -- this answer is no refusal with 10
 abbrev Shallow : Answer → Type 0

@@ -9,24 +9,24 @@ use lib.ListN.{length}
 use lib.Seq.{sets, length-sets}
 use types.Run.{OneOf, miss}
 use borrow.Author.Tests.{eq-eqb, ne-eqb}
-use Rattle.octets.specs.Choice.{both}
-use Rattle.octets.specs.Numbers.{levelLimit, endsTooSoon, noListGoesOn}
+use Rattle.octets.specs.Believed.Choice.{both}
+use Rattle.octets.specs.Believed.Numbers.{levelLimit, endsTooSoon, noListGoesOn}
 use Rattle.scanner.specs.declared.Next.the-variants.{Found}
-use Rattle.grammar.specs.Language.{unfit, unfinished}
-use Rattle.grammar.specs.Records.{AddressRecord, tableBytes}
+use Rattle.grammar.specs.Believed.Language.{unfit, unfinished}
+use Rattle.grammar.specs.Believed.Records.{AddressRecord, tableBytes}
 use Rattle.grammar.proofs.Records.{length-records}
 use Rattle.grammar.specs.Executable.Trees733.{Class, Atom, Quoted, At, LessThan, GreaterThan, Comma, Semicolon, Colon, Stray, Dot, Literal, Sym, of}
 use Rattle.grammar.specs.Executable.Machine822.{start}
 use Rattle.grammar.proofs.Condition822.{decides}
-use Rattle.addresses.specs.Editions.{classIn822, takenIn822}
-use Rattle.addresses.specs.Steps.{symbolsFrom, lexemeAt, Faultless}
-use Rattle.addresses.specs.Whole.{IsListed, IsRefused}
+use Rattle.addresses.specs.Believed.Editions.{classIn822, takenIn822}
+use Rattle.addresses.specs.Ties.Steps.{symbolsFrom, lexemeAt, Faultless}
+use Rattle.addresses.specs.Ties.Whole.{IsListed, IsRefused}
 use Rattle.addresses.proofs.ClassCases.{tag}
 use Rattle.addresses.proofs.NextLaws.{NextIs}
-use Rattle.editions.specs.Outcome.{verdict822}
-use Rattle.editions.specs.Places.{Walked, stepFrom, ends, stops, walkFrom, endsAt, noGroup}
+use Rattle.editions.specs.Believed.Outcome.{verdict822}
+use Rattle.editions.specs.Ties.Places.{Walked, stepFrom, ends, stops, walkFrom, endsAt, noGroup}
 use Rattle.editions.specs.declared.Walk.{Walk}
-use Rattle.editions.specs.Walks.{walkedOf, Fine, Holds, Goes, Stops}
+use Rattle.editions.specs.Ties.Walks.{walkedOf, Fine, Holds, Goes, Stops}
 use Rattle.editions.proofs.Follows.{walkedIn}
 use Rattle.editions.proofs.Verdicts.{loop-listed, loop-unfinished, loop-stopped}
 

@@ -5,12 +5,12 @@ use mathlib.Core.Path.{_≡_, refl, sym, ap, _∙_}
 use mathlib.Core.Bool.{Bool, true, false}
 use lib.Dec.{eqb, eqb→eq}
 use lib.ListN.{getD, List·getD-eq-default}
-use Rattle.octets.specs.Choice.{pick, both}
+use Rattle.octets.specs.Believed.Choice.{pick, both}
 use Rattle.octets.proofs.Tables.{at}
 use Rattle.scanner.specs.declared.Class.{Class}
-use Rattle.grammar.specs.Rfc733.{classNumber}
-use Rattle.editions.specs.Places.{Row, Effect, nothing, firstWord, furtherWord, mailboxRecord, mailboxEnd, angleRecord, angleEnd, groupRecord, groupEnd, refuse, no, rows, rowAt, nextPlace, effectOf, endsAt, effectNumber, cells, placeCount, columns, placeTable, noGroup, oneIf, parentOf}
-use Rattle.editions.specs.Walks.{effectFrom}
+use Rattle.grammar.specs.Believed.Rfc733.{classNumber}
+use Rattle.editions.specs.Ties.Places.{Row, Effect, nothing, firstWord, furtherWord, mailboxRecord, mailboxEnd, angleRecord, angleEnd, groupRecord, groupEnd, refuse, no, rows, rowAt, nextPlace, effectOf, endsAt, effectNumber, cells, placeCount, columns, placeTable, noGroup, oneIf, parentOf}
+use Rattle.editions.specs.Ties.Walks.{effectFrom}
 
 -- the number at an index, by the rows
 abbrev cellAt : ℕ → ℕ

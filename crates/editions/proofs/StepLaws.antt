@@ -6,17 +6,17 @@ use mathlib.Core.List.{List, [], _∷_, _++_}
 use mathlib.Core.Option.{none, some}
 use lib.ListN.{length, length-append}
 use lib.Seq.{sets}
-use Rattle.octets.specs.Numbers.{addressRecordSize, numberWidth}
-use Rattle.octets.specs.Stored.{bytesOf}
-use Rattle.scanner.specs.Symbols.{Lexeme}
+use Rattle.octets.specs.Believed.Numbers.{addressRecordSize, numberWidth}
+use Rattle.octets.specs.Believed.Stored.{bytesOf}
+use Rattle.scanner.specs.Believed.Symbols.{Lexeme}
 use Rattle.scanner.specs.declared.Class.{Class}
-use Rattle.grammar.specs.Records.{AddressRecord, setEnd, recordBytes, endOffset}
+use Rattle.grammar.specs.Believed.Records.{AddressRecord, setEnd, recordBytes, endOffset}
 use Rattle.grammar.proofs.RecordLaws.{end-stored, record-behind}
-use Rattle.editions.specs.Places.{Walked, walkedBy, placeCount, nextPlace, effectOf, effect, stepFrom, closeLast, closeAngle, closeGroup, openGroup, newRecord}
+use Rattle.editions.specs.Ties.Places.{Walked, walkedBy, placeCount, nextPlace, effectOf, effect, stepFrom, closeLast, closeAngle, closeGroup, openGroup, newRecord}
 use Rattle.editions.specs.declared.Walk.{Walk}
 use Rattle.editions.specs.declared.Stepped.{Stepped}
 use Rattle.editions.specs.declared.Stepped.the-variants.{On, Off}
-use Rattle.editions.specs.Walks.{effectFrom, walkBy, walkedOf, Fine, Holds, newBy, CloseIs, symbolOf, Goes, Stops, StepIs}
+use Rattle.editions.specs.Ties.Walks.{effectFrom, walkBy, walkedOf, Fine, Holds, newBy, CloseIs, symbolOf, Goes, Stops, StepIs}
 use Rattle.editions.proofs.Follows.{set-length}
 
 open-zero : (g c : ℕ) (f : Walked) (t : Lexeme) → g ≡ 0 → openGroup g c f t ≡ some (walkedBy c (f .start) (f .nameEnd) (suc (length (f .records))) (f .angle) (f .records ++ (newRecord 3 f t ∷ [])))

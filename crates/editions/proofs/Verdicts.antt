@@ -5,14 +5,14 @@ use mathlib.Core.Path.{_≡_, refl, sym, ap, _∙_}
 use mathlib.Core.Bool.{true, false}
 use mathlib.Core.List.{List}
 use mathlib.Core.Option.{Option, none, some}
-use Rattle.grammar.specs.Grammar.{Row}
-use Rattle.grammar.specs.Language.{unfit, unfinished, tooDeep, Verdict, accepted, refused}
-use Rattle.grammar.specs.Records.{records}
-use Rattle.grammar.specs.Rfc822.{Notion}
+use Rattle.grammar.specs.Believed.Grammar.{Row}
+use Rattle.grammar.specs.Believed.Language.{unfit, unfinished, tooDeep, Verdict, accepted, refused}
+use Rattle.grammar.specs.Believed.Records.{records}
+use Rattle.grammar.specs.Believed.Rfc822.{Notion}
 use Rattle.grammar.specs.Executable.Machines.{Result, ended, stopped, atEnd, verdictBy}
 use Rattle.grammar.specs.Executable.Trees822.{Class, Sym, bare, spec, empty, comma, idle, full, box, oneWord, moreWord}
 use Rattle.grammar.specs.Executable.Machine822.{inList, inGroup, bareIn, angleIn, routeIn, firstAt, nextAt, ofSpec, ofHop, State, place, word, phrase, local, localDot, at, domain, domainDot, opened, hop, route, boxed, closed, run, finish, start, read}
-use Rattle.editions.specs.Places.{Walked, WalkEnd, ends, stops, walkFrom, mayEnd}
+use Rattle.editions.specs.Ties.Places.{Walked, WalkEnd, ends, stops, walkFrom, mayEnd}
 use Rattle.editions.proofs.Follows.{walkedIn, Matches, matches}
 use Rattle.editions.proofs.WalkRecords.{list-records}
 

@@ -6,12 +6,12 @@ use mathlib.Core.Bool.{Bool, true, false}
 use mathlib.Core.List.{List, [], _∷_, _++_, append-assoc, append-nil, List·Memᴰ, List·Memᴰ·head as here, List·Memᴰ·tail as there}
 use mathlib.Core.Option.{Option, none, some}
 use lib.ListN.{length, length-append}
-use Rattle.octets.specs.Choice.{both}
+use Rattle.octets.specs.Believed.Choice.{both}
 use Rattle.octets.proofs.ChoiceLaws.{both-parts}
-use Rattle.grammar.specs.Grammar.{Makes, Item, symbol, part, Rule, Grammar, Row, nil, leaf, branch, yieldThen, yield, Fits, done, take, apply}
-use Rattle.grammar.specs.Language.{positionOf}
-use Rattle.grammar.specs.Records.{AddressRecord, recordBy, lastEnd, count, recordOf, recordsFrom, records}
-use Rattle.grammar.specs.Rfc822.{rulesOf, Notion, list, place, address, boxes, boxPlace, mailbox, routeAddr, addrSpec, route, hops, emptyPlaces, localPart, domain, subDomain, phrase, word, rfc822}
+use Rattle.grammar.specs.Believed.Grammar.{Makes, Item, symbol, part, Rule, Grammar, Row, nil, leaf, branch, yieldThen, yield, Fits, done, take, apply}
+use Rattle.grammar.specs.Believed.Language.{positionOf}
+use Rattle.grammar.specs.Believed.Records.{AddressRecord, recordBy, lastEnd, count, recordOf, recordsFrom, records}
+use Rattle.grammar.specs.Believed.Rfc822.{rulesOf, Notion, list, place, address, boxes, boxPlace, mailbox, routeAddr, addrSpec, route, hops, emptyPlaces, localPart, domain, subDomain, phrase, word, rfc822}
 use Rattle.grammar.proofs.Records.{length-from}
 use Rattle.grammar.specs.Executable.Trees822.{Piece, put, Class, At, LessThan, GreaterThan, Comma, Semicolon, Colon, Dot, Lexeme, Sym, of, Word, atomWord, quotedWord, Phrase, one, more, Sub, atomSub, literalSub, Domain, oneSub, moreSub, Local, oneWord, moreWord, Spec, spec, RouteAddr, noRoute, withRoute, routeAddrPiece, Route, Mailbox, bare, angle, routed, Place, empty, comma, Listed, idle, full, Address, box, group, wordPiece, phrasePiece, subPiece, domainPiece, localPiece, specPiece, routePiece, mailboxPiece, boxPlacePiece, boxesPiece, addressPiece, placePiece, listPiece, asRow}
 use Rattle.grammar.proofs.Pieces.{From}

@@ -7,9 +7,9 @@ use lib.Dec.{eqb, eqb→eq}
 use lib.ListN.{getD}
 use native.Mathlib.Omega.{arith}
 use Rattle.octets.proofs.Tables.{at}
-use Rattle.grammar.specs.Rfc733.{classNumber}
+use Rattle.grammar.specs.Believed.Rfc733.{classNumber}
 use Rattle.grammar.specs.Executable.Trees733.{Class, Atom, Quoted, At, LessThan, GreaterThan, Comma, Semicolon, Colon, Stray, Dot, Literal}
-use Rattle.engine.specs.Actions.{Mode, atPlace, atStart, atFirstAtom, wanting, atAtom, atQuoted, atWords, behindAt, atNode, behindAddress, modeNumber, Act, refuses, begins, adds, passes, opens, opensNamed, turnsTyped, endsAtComma, closes, endsAndCloses, finishes, endsAndFinishes, actNumber, no, entry, Row, rowOf, onClass, actionOf, columns, cells, endColumn, modeCount, modes, actionTable}
+use Rattle.engine.specs.Ties.Actions.{Mode, atPlace, atStart, atFirstAtom, wanting, atAtom, atQuoted, atWords, behindAt, atNode, behindAddress, modeNumber, Act, refuses, begins, adds, passes, opens, opensNamed, turnsTyped, endsAtComma, closes, endsAndCloses, finishes, endsAndFinishes, actNumber, no, entry, Row, rowOf, onClass, actionOf, columns, cells, endColumn, modeCount, modes, actionTable}
 
 pub mode-small : (m : Mode) → modeNumber m < modeCount
 mode-small atPlace = omega arith

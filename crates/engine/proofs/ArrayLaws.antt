@@ -6,7 +6,7 @@ use native.Mathlib.Omega.{arith}
 use lib.ListN.{length, getD, set, length-set}
 use lib.Seq.{getD-set-other, getD-set-same}
 use Rattle.grammar.specs.Executable.Machine733.{Here, inList, inTyped, Level, top, inAngle, inGroup, levelsHere, levelsAt}
-use Rattle.engine.specs.Stands.{levelSize, placeOf, Entry, HoldsHere, HoldsLevel}
+use Rattle.engine.specs.Ties.Stands.{levelSize, placeOf, Entry, HoldsHere, HoldsLevel}
 
 -- ---- below a place the array stays
 

@@ -6,14 +6,14 @@ use mathlib.Core.List.{List}
 use native.Mathlib.Omega.{arith}
 use lib.ListN.{getD, set}
 use lib.Seq.{sets}
-use Rattle.octets.specs.Numbers.{addressRecordSize}
-use Rattle.grammar.specs.Records.{recordBy, recordBytes}
-use Rattle.grammar.specs.Rfc733.{kindNumber, typedKind}
+use Rattle.octets.specs.Believed.Numbers.{addressRecordSize}
+use Rattle.grammar.specs.Believed.Records.{recordBy, recordBytes}
+use Rattle.grammar.specs.Believed.Rfc733.{kindNumber, typedKind}
 use Rattle.grammar.specs.Executable.Trees733.{Lexeme, AddressList, Address, typed}
 use Rattle.grammar.specs.Executable.Machine733.{Here, inList, inTyped, Level, top, inAngle, inGroup, Spot, State, close, levelsHere}
 use Rattle.grammar.proofs.TreeRecords.{nameStart, nameEnd}
-use Rattle.engine.specs.Stands.{placeOf, numberHere, parentHere, Entry, Stands}
-use Rattle.engine.specs.Turns.{OpenHere, LevelAt, SomeLevel, Closing, Closed, kindIf, endIf, loneKind, Ended, AtClose, GoesTo}
+use Rattle.engine.specs.Ties.Stands.{placeOf, numberHere, parentHere, Entry, Stands}
+use Rattle.engine.specs.Ties.Turns.{OpenHere, LevelAt, SomeLevel, Closing, Closed, kindIf, endIf, loneKind, Ended, AtClose, GoesTo}
 use Rattle.engine.specs.declared.Engine.{Engine}
 use Rattle.engine.proofs.ArrayLaws.{named, pushed}
 use Rattle.engine.proofs.TurnLaws.{engineBy, RightMark, addressIf, mark-closing, mark-closed, ended-closing}

@@ -5,15 +5,15 @@ use mathlib.Core.List.{List}
 use mathlib.Core.Option.{Option, none, some}
 use native.Mathlib.Omega.{arith}
 use lib.ListN.{length}
-use Rattle.octets.specs.Numbers.{messageLimit, levelLimit, noListGoesOn, endsTooSoon}
-use Rattle.grammar.specs.Language.{unfit}
+use Rattle.octets.specs.Believed.Numbers.{messageLimit, levelLimit, noListGoesOn, endsTooSoon}
+use Rattle.grammar.specs.Believed.Language.{unfit}
 use Rattle.grammar.specs.Executable.Machines.{go}
 use Rattle.grammar.specs.Executable.Trees733.{Class, Lexeme, Phrase, AddressList, Address}
 use Rattle.grammar.specs.Executable.Machine733.{Here, Level, top, inAngle, inGroup, State, list, phrase, want, close, enter, levelsAt, stepOn, finish, whole, start}
 use Rattle.grammar.proofs.TreeRecords.{listCount}
-use Rattle.engine.specs.Actions.{modeNumber, modeRoom, Act, refuses, begins, adds, passes, opens, opensNamed, turnsTyped, endsAtComma, closes, endsAndCloses, finishes, endsAndFinishes, actNumber, Action, entry, rowOf, actionOf}
-use Rattle.engine.specs.Stands.{modeOf, parentAt, storedList, Stands}
-use Rattle.engine.specs.Turns.{isAngle, kindIf, levelIf, endIf, Ended, Closed, GoesTo, StopsBy, Opening, AtClose, AtTyped, Turning, Finishing, FinishedList, Unfinished}
+use Rattle.engine.specs.Ties.Actions.{modeNumber, modeRoom, Act, refuses, begins, adds, passes, opens, opensNamed, turnsTyped, endsAtComma, closes, endsAndCloses, finishes, endsAndFinishes, actNumber, Action, entry, rowOf, actionOf}
+use Rattle.engine.specs.Ties.Stands.{modeOf, parentAt, storedList, Stands}
+use Rattle.engine.specs.Ties.Turns.{isAngle, kindIf, levelIf, endIf, Ended, Closed, GoesTo, StopsBy, Opening, AtClose, AtTyped, Turning, Finishing, FinishedList, Unfinished}
 use Rattle.engine.specs.declared.Engine.{Engine}
 use Rattle.engine.proofs.ActionLaws.{mode-small, act-is}
 use Rattle.engine.proofs.LevelLaws.{close-free}

@@ -8,17 +8,17 @@ use native.Mathlib.Omega.{arith}
 use borrow.Author.Tests.{lt-ltb, le-ltb, leb-true, leb-false, eq-eqb, ne-eqb}
 use lib.Dec.{eqb, ltb}
 use lib.ListN.{getD}
-use Rattle.octets.specs.Numbers.{levelLimit}
+use Rattle.octets.specs.Believed.Numbers.{levelLimit}
 use Rattle.grammar.specs.Executable.Trees733.{Class, Atom, At, LessThan, GreaterThan, Comma, Semicolon, Colon, AddressList, Address, quoted}
 use Rattle.grammar.specs.Executable.Machine733.{Here, Level, top, inAngle, inGroup, State, list, phrase, close, entered, enter, withinLimit, levelsAt, finish, whole}
 use Rattle.grammar.proofs.TreeRecords.{addressEnd}
-use Rattle.expected.specs.Things.{ifNamed, sumOf}
-use Rattle.expected.specs.Named.{goes, isSome, anywhere, takes, namedAt}
+use Rattle.expected.specs.Believed.Things.{ifNamed, sumOf}
+use Rattle.expected.specs.Executable.Named.{goes, isSome, anywhere, takes, namedAt}
 use Rattle.expected.proofs.ClassAlone.{word-by-atom}
-use Rattle.engine.specs.Actions.{modeRoom, Act, refuses, begins, adds, passes, opens, opensNamed, turnsTyped, endsAtComma, closes, endsAndCloses, finishes, endsAndFinishes, actNumber, entry, rowOf, actionOf}
-use Rattle.engine.specs.Stands.{placeOf, modeOf, HoldsLevel, storedAddress, Stands}
-use Rattle.engine.specs.Turns.{isAngle, kindIf, levelIf, endIf, OpenHere, SomeHere, Finishing}
-use Rattle.engine.specs.Expecting.{SomeStands, UnderTypedIs, ClosesIs}
+use Rattle.engine.specs.Ties.Actions.{modeRoom, Act, refuses, begins, adds, passes, opens, opensNamed, turnsTyped, endsAtComma, closes, endsAndCloses, finishes, endsAndFinishes, actNumber, entry, rowOf, actionOf}
+use Rattle.engine.specs.Ties.Stands.{placeOf, modeOf, HoldsLevel, storedAddress, Stands}
+use Rattle.engine.specs.Ties.Turns.{isAngle, kindIf, levelIf, endIf, OpenHere, SomeHere, Finishing}
+use Rattle.engine.specs.Ties.Expecting.{SomeStands, UnderTypedIs, ClosesIs}
 use Rattle.engine.specs.declared.Engine.{Engine}
 use Rattle.engine.proofs.LevelLaws.{close-holds, close-depth}
 use Rattle.engine.proofs.MachineLaws.{Does, does, EndsAndFinishes}

@@ -6,19 +6,19 @@ use mathlib.Core.List.{List}
 use native.Mathlib.Omega.{arith}
 use lib.ListN.{getD}
 use lib.Seq.{sets}
-use Rattle.octets.specs.Numbers.{addressRecordSize}
-use Rattle.octets.specs.Choice.{pick}
-use Rattle.octets.specs.Letters.{sameLetters}
-use Rattle.octets.specs.Text.{bytes}
-use Rattle.grammar.specs.Records.{recordBy, recordBytes}
-use Rattle.grammar.specs.Rfc733.{kindNumber, typedKind, include, postal, otherTyped}
+use Rattle.octets.specs.Believed.Numbers.{addressRecordSize}
+use Rattle.octets.specs.Believed.Choice.{pick}
+use Rattle.octets.specs.Believed.Letters.{sameLetters}
+use Rattle.octets.specs.Believed.Text.{bytes}
+use Rattle.grammar.specs.Believed.Records.{recordBy, recordBytes}
+use Rattle.grammar.specs.Believed.Rfc733.{kindNumber, typedKind, include, postal, otherTyped}
 use Rattle.grammar.specs.Executable.Trees733.{Lexeme, Place, Address, typed}
 use Rattle.grammar.specs.Executable.Machine733.{Here, inList, inTyped, Level, top, inAngle, inGroup, asList, close, levelsHere, levelsAt}
 use Rattle.grammar.proofs.TreeRecords.{listCount, addressCount, addressRecords, addressRecord}
 use Rattle.grammar.proofs.RecordLaws.{stored-behind, stored-around}
-use Rattle.engine.specs.Actions.{behindAddress}
-use Rattle.engine.specs.Stands.{modeOf, placeOf, numberHere, parentAt, parentHere, Entry, HoldsHere, HoldsLevel, storedHere, storedLevel}
-use Rattle.engine.specs.Turns.{OpenHere, LevelAt, Closing, Closed}
+use Rattle.engine.specs.Ties.Actions.{behindAddress}
+use Rattle.engine.specs.Ties.Stands.{modeOf, placeOf, numberHere, parentAt, parentHere, Entry, HoldsHere, HoldsLevel, storedHere, storedLevel}
+use Rattle.engine.specs.Ties.Turns.{OpenHere, LevelAt, Closing, Closed}
 
 -- ---- parents
 

@@ -5,28 +5,28 @@ use mathlib.Core.List.{List, []}
 use native.Mathlib.Omega.{arith}
 use lib.ListN.{length, getD}
 use lib.Seq.{sets}
-use Rattle.octets.specs.Numbers.{levelLimit}
-use Rattle.octets.specs.Text.{part}
-use Rattle.scanner.specs.Scanning.{scanBy}
-use Rattle.scanner.specs.Answers.{nextOf}
+use Rattle.octets.specs.Believed.Numbers.{levelLimit}
+use Rattle.octets.specs.Believed.Text.{part}
+use Rattle.scanner.specs.Believed.Scanning.{scanBy}
+use Rattle.scanner.specs.Believed.Answers.{nextOf}
 use Rattle.scanner.specs.declared.Next.{Next}
 use Rattle.scanner.specs.declared.Next.the-variants.{Found}
-use Rattle.scanner.specs.Meanings.{meaningAt}
-use Rattle.grammar.specs.Language.{unfinished}
-use Rattle.grammar.specs.Records.{tableBytes}
-use Rattle.grammar.specs.Rfc733.{classNumber}
+use Rattle.scanner.specs.Ties.Meanings.{meaningAt}
+use Rattle.grammar.specs.Believed.Language.{unfinished}
+use Rattle.grammar.specs.Believed.Records.{tableBytes}
+use Rattle.grammar.specs.Believed.Rfc733.{classNumber}
 use Rattle.grammar.specs.Executable.Machines.{ended, stopped, atEnd, standsBy}
 use Rattle.grammar.specs.Executable.Trees733.{Class, Atom, asRow}
 use Rattle.grammar.specs.Executable.Machine733.{State, stepOn, step, run, judge, asRows, answer}
 use Rattle.grammar.specs.Executable.Machine733 as machine
 use Rattle.grammar.proofs.TreeRecords.{tree-records, tree-count}
-use Rattle.addresses.specs.Steps.{symbolsFrom, symbolsAhead, lexemeAt, Faultless}
-use Rattle.addresses.specs.Whole.{Body, WholeIs}
+use Rattle.addresses.specs.Ties.Steps.{symbolsFrom, symbolsAhead, lexemeAt, Faultless}
+use Rattle.addresses.specs.Ties.Whole.{Body, WholeIs}
 use Rattle.addresses.proofs.NextLaws.{NextIs, next-is}
-use Rattle.engine.specs.Actions.{modeNumber, columns, endColumn, modeCount, entry, rowOf, actionOf, actionTable}
-use Rattle.engine.specs.Stands.{modeOf, stackSize, Stands}
-use Rattle.engine.specs.Turns.{Follows, GoesTo, StopsBy, Turning, Finishing, FinishedIs}
-use Rattle.engine.specs.Expecting.{stopOf, StopsAtEnd, StopsAtSymbol}
+use Rattle.engine.specs.Ties.Actions.{modeNumber, columns, endColumn, modeCount, entry, rowOf, actionOf, actionTable}
+use Rattle.engine.specs.Ties.Stands.{modeOf, stackSize, Stands}
+use Rattle.engine.specs.Ties.Turns.{Follows, GoesTo, StopsBy, Turning, Finishing, FinishedIs}
+use Rattle.engine.specs.Ties.Expecting.{stopOf, StopsAtEnd, StopsAtSymbol}
 use Rattle.engine.specs.declared.Engine.{Engine}
 use Rattle.engine.proofs.ActionLaws.{mode-small, entry-at, end-entry}
 use Rattle.grammar.specs.declared.Whole.{Whole}

@@ -1,7 +1,7 @@
 -- Both readers give the same. Assumes nothing.
 use mathlib.Core.Path.{_≡_, sym, ap, _∙_}
-use Rattle.octets.specs.Answers.{numberOf, positionOf, countOf}
-use Rattle.engine.specs.Same.{BothReadersSame}
+use Rattle.octets.specs.Believed.Answers.{numberOf, positionOf, countOf}
+use Rattle.engine.specs.Believed.Same.{BothReadersSame}
 
 pub both-readers : BothReadersSame
 both-readers message start end table r r′ after after′ p q =

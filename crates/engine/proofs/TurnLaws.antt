@@ -7,11 +7,11 @@ use mathlib.Core.Option.{Option}
 use native.Mathlib.Omega.{arith}
 use lib.ListN.{length, getD, length-set}
 use lib.Seq.{sets}
-use Rattle.octets.specs.Numbers.{levelLimit, addressRecordSize, noListGoesOn, tooManyLevels}
-use Rattle.octets.specs.Text.{part}
-use Rattle.grammar.specs.Language.{unfit, tooDeep}
-use Rattle.grammar.specs.Records.{AddressRecord, recordBy, recordBytes, tableBytes}
-use Rattle.grammar.specs.Rfc733.{kindNumber, typedKind, group}
+use Rattle.octets.specs.Believed.Numbers.{levelLimit, addressRecordSize, noListGoesOn, tooManyLevels}
+use Rattle.octets.specs.Believed.Text.{part}
+use Rattle.grammar.specs.Believed.Language.{unfit, tooDeep}
+use Rattle.grammar.specs.Believed.Records.{AddressRecord, recordBy, recordBytes, tableBytes}
+use Rattle.grammar.specs.Believed.Rfc733.{kindNumber, typedKind, group}
 use Rattle.grammar.specs.Executable.Machines.{go}
 use Rattle.grammar.specs.Executable.Trees733.{Class, Atom, Quoted, Lexeme, Word, atomWord, quotedWord, Phrase, one, more, empty, comma, AddressList, idle, Address, mailbox, angle, quoted}
 use Rattle.grammar.specs.Executable.Trees733 as trees
@@ -19,9 +19,9 @@ use Rattle.grammar.specs.Executable.Machine733.{Here, inList, inTyped, Level, t
 use Rattle.grammar.proofs.Complete.{begin, enter-within, enter-beyond}
 use Rattle.grammar.proofs.TreeRecords.{listCount, addressCount, addressRecord, listRecords, nameStart, nameEnd, wordLexeme}
 use Rattle.grammar.proofs.RecordLaws.{stored-around}
-use Rattle.engine.specs.Actions.{modeNumber, behindAddress, atWords}
-use Rattle.engine.specs.Stands.{modeOf, levelSize, placeOf, Ordered, numberHere, parentAt, parentHere, Entry, HoldsHere, HoldsLevel, storedHere, storedList, FirstAtom, NameIs, Stands}
-use Rattle.engine.specs.Turns.{kindIf, levelIf, endIf, loneKind, Ended, lone, boxed, OpenHere, LevelAt, Closing, Closed, Follows, GoesTo, StopsBy, Opening, AtClose, AtTyped}
+use Rattle.engine.specs.Ties.Actions.{modeNumber, behindAddress, atWords}
+use Rattle.engine.specs.Ties.Stands.{modeOf, levelSize, placeOf, Ordered, numberHere, parentAt, parentHere, Entry, HoldsHere, HoldsLevel, storedHere, storedList, FirstAtom, NameIs, Stands}
+use Rattle.engine.specs.Ties.Turns.{kindIf, levelIf, endIf, loneKind, Ended, lone, boxed, OpenHere, LevelAt, Closing, Closed, Follows, GoesTo, StopsBy, Opening, AtClose, AtTyped}
 use Rattle.engine.specs.declared.Engine.{Engine}
 use Rattle.engine.proofs.LevelLaws.{close-free, close-holds, close-mode, close-depth}
 use Rattle.engine.proofs.ArrayLaws.{holds-agrees, entry-as, named, named-under, named-entry, pushed, pushed-under, pushed-entry}

@@ -1,7 +1,4 @@
 -- The second address reader: what it has to do with the first; its table; what its numbers and its array stand for; and what
 -- could stand where it stops.
-pub mod Same
-pub mod Actions
-pub mod Stands
-pub mod Turns
-pub mod Expecting
+pub mod Believed
+pub mod Ties

@@ -7,26 +7,26 @@ use mathlib.Core.List.{List, []}
 use lib.Dec.{ltb}
 use lib.ListN.{length, take}
 use lib.Seq.{sets}
-use Rattle.octets.specs.Choice.{pick}
-use Rattle.octets.specs.Numbers.{messageLimit, levelLimit, addressRecordSize}
-use Rattle.octets.specs.Stored.{roomFor}
+use Rattle.octets.specs.Believed.Choice.{pick}
+use Rattle.octets.specs.Believed.Numbers.{messageLimit, levelLimit, addressRecordSize}
+use Rattle.octets.specs.Believed.Stored.{roomFor}
 use Rattle.octets.specs.declared.answers.Answer.the-variants.{Accepted, Refused, NoRoom}
-use Rattle.scanner.specs.Scanning.{Scanned, next, scan, symbolsOf}
-use Rattle.scanner.specs.Answers.{unlessFault, faultOf}
-use Rattle.grammar.specs.Language.{Verdict, accepted, refused, number, positionOf}
-use Rattle.grammar.specs.Records.{count, records, tableBytes}
-use Rattle.grammar.specs.Rfc733.{Derivation}
+use Rattle.scanner.specs.Believed.Scanning.{Scanned, next, scan, symbolsOf}
+use Rattle.scanner.specs.Believed.Answers.{unlessFault, faultOf}
+use Rattle.grammar.specs.Believed.Language.{Verdict, accepted, refused, number, positionOf}
+use Rattle.grammar.specs.Believed.Records.{count, records, tableBytes}
+use Rattle.grammar.specs.Believed.Rfc733.{Derivation}
 use Rattle.grammar.specs.Executable.Machine733.{answer}
 use Rattle.grammar.proofs.Condition3.{answer-derives}
 use Rattle.grammar.specs.Executable.Trees733.{Class, Sym}
-use Rattle.addresses.specs.Condition3.{IsList}
-use Rattle.addresses.specs.Editions.{bodySymbols}
-use Rattle.addresses.specs.Outcome.{Outcome, refusal, derived, outcome}
+use Rattle.addresses.specs.Believed.Condition3.{IsList}
+use Rattle.addresses.specs.Believed.Editions.{bodySymbols}
+use Rattle.addresses.specs.Believed.Outcome.{Outcome, refusal, derived, outcome}
 use Rattle.addresses.proofs.Judgements.{ListBody, RefusedBody, faulty-read, refused-read, listed-read}
-use Rattle.plain.specs.Meaning.{meaning}
-use Rattle.plain.specs.PlainText.{plainText, addressesText}
-use Rattle.plain.specs.Written.{written, plainOutcome}
-use Rattle.equality.specs.Exchange.{SameAnswer}
+use Rattle.plain.specs.Believed.Meaning.{meaning}
+use Rattle.plain.specs.Believed.PlainText.{plainText, addressesText}
+use Rattle.plain.specs.Believed.Written.{written, plainOutcome}
+use Rattle.equality.specs.Believed.Exchange.{SameAnswer}
 use Rattle.equality.proofs.Shifts.{AlikeSymbols, no-symbol, one-symbol, AlikeScans, both-ended, both-next, both-fault}
 use Rattle.equality.proofs.Relabels.{derived-alike}
 use Rattle.equality.proofs.Verdicts.{refused-alike}

@@ -3,10 +3,10 @@ use Prim.Native.Nat.{ℕ, suc, _+_}
 use mathlib.Core.Path.{_≡_, refl}
 use mathlib.Core.Bool.{Bool, true, false}
 use mathlib.Core.List.{List, [], _∷_, _++_}
-use Rattle.octets.specs.Classes.{classTable}
-use Rattle.octets.specs.Numbers.{byteAbove127, strayControl}
-use Rattle.scanner.specs.Kinds.{kindOf, characterKind}
-use Rattle.scanner.specs.Scanning.{State, outside, inAtom, inQuoted, takingInQuoted, inComment, takingInComment, go, halt, symbol, atom, single, moveOutside, endingWith, moveInAtom, moveInQuoted, closed, moveInComment, take}
+use Rattle.octets.specs.Believed.Classes.{classTable}
+use Rattle.octets.specs.Believed.Numbers.{byteAbove127, strayControl}
+use Rattle.scanner.specs.Believed.Kinds.{kindOf, characterKind}
+use Rattle.scanner.specs.Believed.Scanning.{State, outside, inAtom, inQuoted, takingInQuoted, inComment, takingInComment, go, halt, symbol, atom, single, moveOutside, endingWith, moveInAtom, moveInQuoted, closed, moveInComment, take}
 use Rattle.scanner.specs.declared.Class.{Class}
 use Rattle.scanner.specs.declared.Class.the-variants.{Quoted, At, LessThan, GreaterThan, Comma, Semicolon, Colon, Stray}
 use Rattle.plain.proofs.ByteKinds.{KindView, isWhite, isControl, isReturn, isPlain, isOpen, isClose, isLess, isGreater, isAt, isComma, isSemicolon, isColon, isBackslash, isQuote, isAbove, byte-view}

@@ -5,15 +5,15 @@ use mathlib.Core.List.{List}
 use borrow.Author.Tests.{le-leb}
 use lib.ListN.{length, drop}
 use lib.Seq.{take-append-seam}
-use Rattle.grammar.specs.Rfc733.{Derivation}
-use Rattle.addresses.specs.Outcome.{refusal}
+use Rattle.grammar.specs.Believed.Rfc733.{Derivation}
+use Rattle.addresses.specs.Believed.Outcome.{refusal}
 use Rattle.addresses.proofs.Judgements.{listed-read, scanned-body}
-use Rattle.plain.specs.Meaning.{Word, atom, quotedString, Words, noWord, andWord, Addresses, noAddress, andAddress, Address, address}
-use Rattle.plain.specs.PlainText.{plainText}
-use Rattle.plain.specs.RoundTrip.{AcceptedBody}
-use Rattle.plain.specs.Written.{written, plainOutcome}
+use Rattle.plain.specs.Believed.Meaning.{Word, atom, quotedString, Words, noWord, andWord, Addresses, noAddress, andAddress, Address, address}
+use Rattle.plain.specs.Believed.PlainText.{plainText}
+use Rattle.plain.specs.Believed.RoundTrip.{AcceptedBody}
+use Rattle.plain.specs.Believed.Written.{written, plainOutcome}
 use Rattle.plain.proofs.RoundTrips.{same-text}
-use Rattle.equality.specs.Cards.{SameWord, SameWords, SameList, SameAddress, card, EqualTextsMeanEqualAddresses, EqualCardsMeanEqualAddresses}
+use Rattle.equality.specs.Believed.Cards.{SameWord, SameWords, SameList, SameAddress, card, EqualTextsMeanEqualAddresses, EqualCardsMeanEqualAddresses}
 
 -- ---- the same addresses are equal meanings
 

@@ -3,12 +3,12 @@ use Prim.Native.Nat.{ℕ}
 use native.Mathlib.Omega.{arith}
 use mathlib.Core.List.{List, _++_}
 use lib.ListN.{take, length-append}
-use Rattle.scanner.specs.Scanning.{scan}
-use Rattle.grammar.specs.Rfc733.{Derivation}
-use Rattle.addresses.specs.Condition3.{IsList}
-use Rattle.addresses.specs.Editions.{bodySymbols}
+use Rattle.scanner.specs.Believed.Scanning.{scan}
+use Rattle.grammar.specs.Believed.Rfc733.{Derivation}
+use Rattle.addresses.specs.Believed.Condition3.{IsList}
+use Rattle.addresses.specs.Believed.Editions.{bodySymbols}
 use Rattle.addresses.proofs.Judgements.{scanned-body, list-scanned}
-use Rattle.equality.specs.Exchange.{Place, MayHoldComment, messageWith, endWith, Holds, AcceptedWith, StillAccepted, CommentsDoNotCount}
+use Rattle.equality.specs.Believed.Exchange.{Place, MayHoldComment, messageWith, endWith, Holds, AcceptedWith, StillAccepted, CommentsDoNotCount}
 use Rattle.equality.proofs.Shifts.{AlikeScans}
 use Rattle.equality.proofs.Exchanges.{bodies-scan-alike}
 use Rattle.equality.proofs.AlikeBodies.{faultless-too, Checked, Alike, list-again, alike, same-read, same-plain, same-written, same-text}

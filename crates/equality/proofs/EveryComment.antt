@@ -7,18 +7,18 @@ use mathlib.Core.List.{List, [], _∷_, _++_, append-nil}
 use mathlib.Core.Option.{Option, none, some}
 use lib.ListN.{length, drop}
 use lib.Seq.{drop-append-le}
-use Rattle.octets.specs.Classes.{classTable, classOf}
-use Rattle.octets.specs.Numbers.{commentNotClosed}
-use Rattle.octets.specs.Octets.{openByte}
+use Rattle.octets.specs.Believed.Classes.{classTable, classOf}
+use Rattle.octets.specs.Believed.Numbers.{commentNotClosed}
+use Rattle.octets.specs.Believed.Octets.{openByte}
 use Rattle.octets.specs.declared.answers.Answer.the-variants.{Accepted, Refused}
-use Rattle.scanner.specs.Kinds.{kindOf, characterKind}
-use Rattle.scanner.specs.Characters.{Character, character, foldAt, InFold, lineFeed, white, charactersFrom, charactersAt}
-use Rattle.scanner.specs.Characters as characters
-use Rattle.scanner.specs.Scanning.{Scanned, faultAt, State, outside, inAtom, inQuoted, takingInQuoted, inLiteral, takingInLiteral, inComment, takingInComment, Move, go, halt, move, followedBy, then, scanFrom, scan}
-use Rattle.scanner.specs.Answers.{unlessFault, faultOf}
+use Rattle.scanner.specs.Believed.Kinds.{kindOf, characterKind}
+use Rattle.scanner.specs.Believed.Characters.{Character, character, foldAt, InFold, lineFeed, white, charactersFrom, charactersAt}
+use Rattle.scanner.specs.Believed.Characters as characters
+use Rattle.scanner.specs.Believed.Scanning.{Scanned, faultAt, State, outside, inAtom, inQuoted, takingInQuoted, inLiteral, takingInLiteral, inComment, takingInComment, Move, go, halt, move, followedBy, then, scanFrom, scan}
+use Rattle.scanner.specs.Believed.Answers.{unlessFault, faultOf}
 use Rattle.scanner.proofs.CharacterLaws.{plain-here, no-fold}
 use Rattle.grammar.specs.Executable.Trees733.{Sym}
-use Rattle.equality.specs.Comments.{stateOf, stateAfter, opensComment, commentMayFollow, closes, BeginsWithComment, EveryCommentIsOne}
+use Rattle.equality.specs.Believed.Comments.{stateOf, stateAfter, opensComment, commentMayFollow, closes, BeginsWithComment, EveryCommentIsOne}
 use Rattle.equality.proofs.InComments.{never, closesBy, Within, comment, taking, closes-within, Does, faults, leaves, goes-on, does}
 use Rattle.equality.proofs.Splits.{fold-here, apart-before-open, split}
 use Rattle.equality.proofs.Through.{endedBy}

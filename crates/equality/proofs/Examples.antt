@@ -4,15 +4,15 @@ use mathlib.Core.Path.{_≡_, refl}
 use mathlib.Core.Bool.{true, false}
 use native.Mathlib.Omega.{arith}
 use mathlib.Core.List.{List, [], _∷_, _++_}
-use Rattle.octets.specs.Classes.{classOf, classTable}
-use Rattle.octets.specs.Letters.{lower, same}
-use Rattle.octets.specs.Octets.{lineFeedByte, returnByte}
-use Rattle.octets.specs.Text.{bytes}
-use Rattle.scanner.specs.Kinds.{kindOf}
-use Rattle.scanner.specs.Characters.{charactersFrom}
-use Rattle.plain.specs.Meaning.{Word, atom, quotedString}
-use Rattle.equality.specs.Cards.{SameWord}
-use Rattle.equality.specs.Comments.{isComment, commentMayFollow}
+use Rattle.octets.specs.Believed.Classes.{classOf, classTable}
+use Rattle.octets.specs.Believed.Letters.{lower, same}
+use Rattle.octets.specs.Believed.Octets.{lineFeedByte, returnByte}
+use Rattle.octets.specs.Believed.Text.{bytes}
+use Rattle.scanner.specs.Believed.Kinds.{kindOf}
+use Rattle.scanner.specs.Believed.Characters.{charactersFrom}
+use Rattle.plain.specs.Believed.Meaning.{Word, atom, quotedString}
+use Rattle.equality.specs.Believed.Cards.{SameWord}
+use Rattle.equality.specs.Believed.Comments.{isComment, commentMayFollow}
 
 data Row : Type 0 where
   -- bytes that are one comment, and bytes that are not

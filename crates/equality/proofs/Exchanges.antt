@@ -8,15 +8,15 @@ use borrow.Author.Tests.{eqb-true}
 use lib.Dec.{eqb}
 use lib.ListN.{length, take, drop}
 use lib.Seq.{take-append-add, drop-append-le}
-use Rattle.octets.specs.Classes.{classTable}
-use Rattle.octets.specs.Octets.{openByte}
+use Rattle.octets.specs.Believed.Classes.{classTable}
+use Rattle.octets.specs.Believed.Octets.{openByte}
 use Rattle.octets.proofs.ChoiceLaws.{both-parts}
-use Rattle.scanner.specs.Characters.{Character, character, charactersFrom}
-use Rattle.scanner.specs.Characters as characters
-use Rattle.scanner.specs.Kinds.{characterKind}
-use Rattle.scanner.specs.Scanning.{Scanned, ended, State, outside, inComment, Move, go, halt, move, then, scanFrom, scan}
-use Rattle.equality.specs.Comments.{stateOf, stateAfter, opensComment, closes, isComment}
-use Rattle.equality.specs.Exchange.{Place, MayHoldComment, messageWith, endWith}
+use Rattle.scanner.specs.Believed.Characters.{Character, character, charactersFrom}
+use Rattle.scanner.specs.Believed.Characters as characters
+use Rattle.scanner.specs.Believed.Kinds.{characterKind}
+use Rattle.scanner.specs.Believed.Scanning.{Scanned, ended, State, outside, inComment, Move, go, halt, move, then, scanFrom, scan}
+use Rattle.equality.specs.Believed.Comments.{stateOf, stateAfter, opensComment, closes, isComment}
+use Rattle.equality.specs.Believed.Exchange.{Place, MayHoldComment, messageWith, endWith}
 use Rattle.equality.proofs.Splits.{apart-before-open, apart-behind, split}
 use Rattle.equality.proofs.Shifts.{AlikeScans, both-fault, alike-followed, alike-from, same-symbols, shifted}
 use Rattle.equality.proofs.InComments.{never}

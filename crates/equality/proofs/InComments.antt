@@ -4,11 +4,11 @@ use native.Mathlib.Omega.{arith}
 use mathlib.Core.Path.{_≡_, refl, ap, _∙_}
 use mathlib.Core.Bool.{Bool, true, false}
 use mathlib.Core.List.{List, []}
-use Rattle.octets.specs.Classes.{classTable}
-use Rattle.scanner.specs.Kinds.{characterKind}
-use Rattle.scanner.specs.Characters.{Character}
-use Rattle.scanner.specs.Scanning.{State, outside, inComment, takingInComment, Move, go, halt, closed, moveInComment, take, move}
-use Rattle.equality.specs.Comments.{stateOf, closedBy, closes}
+use Rattle.octets.specs.Believed.Classes.{classTable}
+use Rattle.scanner.specs.Believed.Kinds.{characterKind}
+use Rattle.scanner.specs.Believed.Characters.{Character}
+use Rattle.scanner.specs.Believed.Scanning.{State, outside, inComment, takingInComment, Move, go, halt, closed, moveInComment, take, move}
+use Rattle.equality.specs.Believed.Comments.{stateOf, closedBy, closes}
 use Rattle.equality.proofs.ByteMoves.{character-view, InComment, stays, opens, comment-by, Behind, taken, behind-by}
 use Rattle.equality.proofs.ByteMoves as byte
 

@@ -4,13 +4,13 @@ use mathlib.Core.Path.{_≡_, refl, sym, ap, _∙_}
 use mathlib.Core.Bool.{Bool, true, false}
 use mathlib.Core.List.{List, [], _∷_}
 use native.Mathlib.Omega.{arith}
-use Rattle.octets.specs.Classes.{classTable, classOf}
-use Rattle.octets.specs.Octets.{openByte}
-use Rattle.scanner.specs.Kinds.{kindOf}
-use Rattle.scanner.specs.Characters.{Character, character, foldAt, InFold, none, lineFeed, white, charactersFrom}
-use Rattle.scanner.specs.Scanning.{State, inComment, Move}
+use Rattle.octets.specs.Believed.Classes.{classTable, classOf}
+use Rattle.octets.specs.Believed.Octets.{openByte}
+use Rattle.scanner.specs.Believed.Kinds.{kindOf}
+use Rattle.scanner.specs.Believed.Characters.{Character, character, foldAt, InFold, none, lineFeed, white, charactersFrom}
+use Rattle.scanner.specs.Believed.Scanning.{State, inComment, Move}
 use Rattle.scanner.proofs.CharacterLaws.{plain-here}
-use Rattle.equality.specs.Comments.{isEmpty, closes}
+use Rattle.equality.specs.Believed.Comments.{isEmpty, closes}
 use Rattle.equality.proofs.InComments.{never, closesBy, Within, comment, taking, closes-within, Does, faults, leaves, goes-on, does}
 use Rattle.equality.proofs.Splits.{fold-here, lastByte, NoLineEnd, fold-enough}
 

@@ -4,12 +4,12 @@ use mathlib.Core.Path.{_≡_, refl, sym, ap, ap₂, _∙_}
 use mathlib.Core.Bool.{Bool}
 use mathlib.Core.List.{List, [], _∷_, _++_}
 use mathlib.Core.Option.{Option, none, some}
-use Rattle.octets.specs.Choice.{pick, both}
-use Rattle.grammar.specs.Grammar.{Item, Makes, Rule, Grammar, Row, nil, leaf, branch, yieldThen, yield, levels, begins, Allowed, Fits, done, take, apply}
-use Rattle.grammar.specs.Records.{meaningOf, partOf, nameOf, count}
-use Rattle.grammar.specs.Rfc733.{Derivation, DerivedList}
+use Rattle.octets.specs.Believed.Choice.{pick, both}
+use Rattle.grammar.specs.Believed.Grammar.{Item, Makes, Rule, Grammar, Row, nil, leaf, branch, yieldThen, yield, levels, begins, Allowed, Fits, done, take, apply}
+use Rattle.grammar.specs.Believed.Records.{meaningOf, partOf, nameOf, count}
+use Rattle.grammar.specs.Believed.Rfc733.{Derivation, DerivedList}
 use Rattle.grammar.specs.Executable.Trees733.{Class, Sym}
-use Rattle.plain.specs.Meaning.{noWord, andSymbol, Words, wordsAfter, Addresses, noAddress, andAddress, addressOf, addressesAfter, meaning}
+use Rattle.plain.specs.Believed.Meaning.{noWord, andSymbol, Words, wordsAfter, Addresses, noAddress, andAddress, addressOf, addressesAfter, meaning}
 use Rattle.equality.proofs.Shifts.{AlikeSymbols, no-symbol, one-symbol, AlikeSymbol}
 
 -- ---- rows of the same rules over alike symbols

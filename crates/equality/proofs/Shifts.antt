@@ -3,10 +3,10 @@ use Prim.Native.Nat.{ℕ, zero, suc, _+_}
 use mathlib.Core.Path.{_≡_, refl}
 use mathlib.Core.Bool.{Bool, true, false}
 use mathlib.Core.List.{List, [], _∷_, _++_}
-use Rattle.octets.specs.Classes.{classTable}
-use Rattle.octets.specs.Numbers.{quotedNotClosed, commentNotClosed}
-use Rattle.scanner.specs.Characters.{Character, character, foldAt, InFold, none, lineFeed, white, charactersFrom}
-use Rattle.scanner.specs.Scanning.{Scanned, ended, next, faultAt, State, outside, inAtom, inQuoted, takingInQuoted, inComment, takingInComment, Move, go, halt, atom, moveOutside, endingWith, moveInAtom, moveInQuoted, closed, moveInComment, take, move, atEnd, followedBy, then, scanFrom}
+use Rattle.octets.specs.Believed.Classes.{classTable}
+use Rattle.octets.specs.Believed.Numbers.{quotedNotClosed, commentNotClosed}
+use Rattle.scanner.specs.Believed.Characters.{Character, character, foldAt, InFold, none, lineFeed, white, charactersFrom}
+use Rattle.scanner.specs.Believed.Scanning.{Scanned, ended, next, faultAt, State, outside, inAtom, inQuoted, takingInQuoted, inComment, takingInComment, Move, go, halt, atom, moveOutside, endingWith, moveInAtom, moveInQuoted, closed, moveInComment, take, move, atEnd, followedBy, then, scanFrom}
 use Rattle.scanner.proofs.CharacterLaws.{plain-here}
 use Rattle.grammar.specs.Executable.Trees733.{Sym}
 use Rattle.plain.proofs.ByteKinds.{KindView}

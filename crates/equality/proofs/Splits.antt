@@ -6,8 +6,8 @@ use mathlib.Core.Bool.{Bool, true, false}
 use mathlib.Core.List.{List, [], _∷_, _++_}
 use borrow.Author.Tests.{ne-eqb}
 use lib.ListN.{length}
-use Rattle.octets.specs.Octets.{lineFeedByte, returnByte, openByte}
-use Rattle.scanner.specs.Characters.{character, foldAt, InFold, none, lineFeed, white, charactersFrom}
+use Rattle.octets.specs.Believed.Octets.{lineFeedByte, returnByte, openByte}
+use Rattle.scanner.specs.Believed.Characters.{character, foldAt, InFold, none, lineFeed, white, charactersFrom}
 use Rattle.scanner.proofs.CharacterLaws.{plain-here, fold-within}
 
 -- ---- a byte that begins a fold

@@ -4,15 +4,15 @@ use native.Mathlib.Omega.{arith}
 use mathlib.Core.Path.{_≡_, refl, sym, ap, _∙_}
 use mathlib.Core.Bool.{true}
 use mathlib.Core.List.{List, [], _∷_, _++_}
-use Rattle.octets.specs.Classes.{classTable, classOf}
-use Rattle.octets.specs.Octets.{openByte}
-use Rattle.scanner.specs.Symbols.{Symbol}
-use Rattle.scanner.specs.Kinds.{kindOf}
-use Rattle.scanner.specs.Characters.{Character, charactersFrom}
-use Rattle.scanner.specs.Characters as characters
-use Rattle.scanner.specs.Scanning.{State, outside, inAtom, inQuoted, takingInQuoted, inLiteral, takingInLiteral, inComment, takingInComment, Move, atom, closed, followedBy, then, scanFrom}
+use Rattle.octets.specs.Believed.Classes.{classTable, classOf}
+use Rattle.octets.specs.Believed.Octets.{openByte}
+use Rattle.scanner.specs.Believed.Symbols.{Symbol}
+use Rattle.scanner.specs.Believed.Kinds.{kindOf}
+use Rattle.scanner.specs.Believed.Characters.{Character, charactersFrom}
+use Rattle.scanner.specs.Believed.Characters as characters
+use Rattle.scanner.specs.Believed.Scanning.{State, outside, inAtom, inQuoted, takingInQuoted, inLiteral, takingInLiteral, inComment, takingInComment, Move, atom, closed, followedBy, then, scanFrom}
 use Rattle.scanner.specs.declared.Class.{Class}
-use Rattle.equality.specs.Comments.{opensComment, isEmpty, closes}
+use Rattle.equality.specs.Believed.Comments.{opensComment, isEmpty, closes}
 use Rattle.equality.proofs.InComments.{never, closesBy, Within, comment, closes-within, Does, faults, leaves, goes-on, does}
 use Rattle.equality.proofs.Shifts.{AlikeCharacters, none-left, one-more, shifted, AlikeStates, outsides, comments}
 

@@ -1,2 +1,2 @@
 -- Document 01, "Checked examples": the table, and the statement over its rows.
-pub mod Examples
+pub mod Believed

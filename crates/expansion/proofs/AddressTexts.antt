@@ -6,25 +6,25 @@ use Prim.Native.Nat.{ℕ, _+_, _*_, _-_, _≤_}
 use native.Mathlib.Omega.{arith}
 use lib.ListN.{length}
 use lib.Seq.{sets}
-use Rattle.octets.specs.Choice.{pick}
-use Rattle.octets.specs.Writing.{Wrote}
-use Rattle.grammar.specs.Rfc733.{sameClass}
-use Rattle.scanner.specs.Scanning.{scanBy, symbol}
-use Rattle.scanner.specs.Answers.{nextOf}
+use Rattle.octets.specs.Believed.Choice.{pick}
+use Rattle.octets.specs.Ties.Writing.{Wrote}
+use Rattle.grammar.specs.Believed.Rfc733.{sameClass}
+use Rattle.scanner.specs.Believed.Scanning.{scanBy, symbol}
+use Rattle.scanner.specs.Believed.Answers.{nextOf}
 use Rattle.scanner.specs.declared.Class.{Class}
 use Rattle.scanner.specs.declared.Class.the-variants.{Atom, Quoted, At, LessThan, GreaterThan, Comma, Semicolon, Colon, Stray, Dot, Literal}
 use Rattle.scanner.specs.declared.Next.{Next}
 use Rattle.scanner.specs.declared.Next.the-variants.{Found}
-use Rattle.scanner.specs.Meanings.{meaningAt}
+use Rattle.scanner.specs.Ties.Meanings.{meaningAt}
 use Rattle.scanner.proofs.Unfolding.{SymbolAt, found}
-use Rattle.plain.specs.Walking.{symbolText, after, colonNext, walkText}
-use Rattle.plain.specs.Writing.{textLimit, isColon}
+use Rattle.plain.specs.Ties.Walking.{symbolText, after, colonNext, walkText}
+use Rattle.plain.specs.Ties.Writing.{textLimit, isColon}
 use Rattle.plain.specs.declared.places.Place.{Place}
 use Rattle.plain.specs.declared.places.Place.the-variants.{Start}
 use Rattle.plain.proofs.WalkSteps.{colon-of, NoneComes}
-use Rattle.expansion.specs.Walk.{Sym, ends, untilEnd}
-use Rattle.addresses.specs.Steps.{symbolsFrom}
-use Rattle.expansion.specs.Steps.{addressFrom}
+use Rattle.expansion.specs.Ties.Walk.{Sym, ends, untilEnd}
+use Rattle.addresses.specs.Ties.Steps.{symbolsFrom}
+use Rattle.expansion.specs.Ties.Steps.{addressFrom}
 use Rattle.expansion.proofs.SeekSteps.{no-symbols, next-symbol}
 
 -- where an address ends no ":" stands

@@ -5,29 +5,29 @@ use mathlib.Core.Path.{_≡_, refl, sym, ap, _∙_}
 use mathlib.Core.List.{List, [], _++_}
 use lib.ListN.{length, take}
 use lib.Seq.{sets}
-use Rattle.octets.specs.Classes.{classTable}
-use Rattle.octets.specs.Numbers.{openingLimit}
+use Rattle.octets.specs.Believed.Classes.{classTable}
+use Rattle.octets.specs.Believed.Numbers.{openingLimit}
 use Rattle.octets.specs.declared.answers.Answer.the-variants.{Accepted, Refused, NoRoom}
 use Rattle.octets.proofs.AnswerLaws.{answered}
 use Rattle.octets.proofs.Parts.{no-front}
 use Rattle.octets.proofs.Writes.{too-long, fitting}
-use Rattle.grammar.specs.Rfc733.{Derivation}
-use Rattle.addresses.specs.Outcome as addresses
-use Rattle.addresses.specs.Outcome.{outcome}
+use Rattle.grammar.specs.Believed.Rfc733.{Derivation}
+use Rattle.addresses.specs.Believed.Outcome as addresses
+use Rattle.addresses.specs.Believed.Outcome.{outcome}
 use Rattle.addresses.proofs.Judgements.{RefusedBody, listed-read, scanned-unlisted, unscanned}
 use Rattle.addresses.proofs.Told.{SomeList, refused-told}
-use Rattle.plain.specs.Meaning.{meaning}
-use Rattle.plain.specs.PlainText.{addressesText}
-use Rattle.plain.specs.RoundTrip.{AcceptedBody}
-use Rattle.plain.specs.Written.{written}
+use Rattle.plain.specs.Believed.Meaning.{meaning}
+use Rattle.plain.specs.Believed.PlainText.{addressesText}
+use Rattle.plain.specs.Believed.RoundTrip.{AcceptedBody}
+use Rattle.plain.specs.Believed.Written.{written}
 use Rattle.plain.specs.declared.places.Place.the-variants.{Start}
 use Rattle.plain.proofs.PlainLaws.{accepted-list}
-use Rattle.expansion.specs.Expansion.{Expansion, stopped, reached, expansion}
-use Rattle.expansion.specs.Outcome.{Outcome, refusal, expanded, expandOutcome, AnsweredBy}
-use Rattle.expansion.specs.Promises.{Promises}
-use Rattle.expansion.specs.Walk.{halted, wrote, walked}
-use Rattle.addresses.specs.Steps.{symbolsFrom}
-use Rattle.expansion.specs.Steps.{TextWalked, BodyWent, BodyWalked, trailOutcome, ListExpanded}
+use Rattle.expansion.specs.Believed.Expansion.{Expansion, stopped, reached, expansion}
+use Rattle.expansion.specs.Believed.Outcome.{Outcome, refusal, expanded, expandOutcome, AnsweredBy}
+use Rattle.expansion.specs.Believed.Promises.{Promises}
+use Rattle.expansion.specs.Ties.Walk.{halted, wrote, walked}
+use Rattle.addresses.specs.Ties.Steps.{symbolsFrom}
+use Rattle.expansion.specs.Ties.Steps.{TextWalked, BodyWent, BodyWalked, trailOutcome, ListExpanded}
 use Rattle.expansion.specs.declared.Around.the-variants.{Body}
 use Rattle.expansion.specs.declared.Expanded.{Expanded}
 use Rattle.expansion.specs.declared.Stage.{Stage}

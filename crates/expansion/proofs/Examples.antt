@@ -5,16 +5,16 @@ use mathlib.Core.Bool.{Bool, true}
 use mathlib.Core.List.{List, [], _∷_, _++_}
 use lib.Dec.{eqb}
 use lib.ListN.{length, replicate, take}
-use Rattle.octets.specs.Choice.{both}
-use Rattle.octets.specs.Classes.{classOf, classTable}
-use Rattle.octets.specs.Letters.{lower, same, sameBytes}
-use Rattle.octets.specs.Text.{bytes}
-use Rattle.octets.specs.Answers.{numberOf, positionOf, countOf}
-use Rattle.scanner.specs.Kinds.{kindOf}
-use Rattle.scanner.specs.Characters.{charactersFrom}
-use Rattle.scanner.specs.Scanning.{scanFrom, symbolsOf}
-use Rattle.scanner.specs.Answers.{unlessFault}
-use Rattle.expansion.specs.Outcome.{expandOutcome}
+use Rattle.octets.specs.Believed.Choice.{both}
+use Rattle.octets.specs.Believed.Classes.{classOf, classTable}
+use Rattle.octets.specs.Believed.Letters.{lower, same, sameBytes}
+use Rattle.octets.specs.Believed.Text.{bytes}
+use Rattle.octets.specs.Believed.Answers.{numberOf, positionOf, countOf}
+use Rattle.scanner.specs.Believed.Kinds.{kindOf}
+use Rattle.scanner.specs.Believed.Characters.{charactersFrom}
+use Rattle.scanner.specs.Believed.Scanning.{scanFrom, symbolsOf}
+use Rattle.scanner.specs.Believed.Answers.{unlessFault}
+use Rattle.expansion.specs.Believed.Outcome.{expandOutcome}
 
 -- a record of a store: its name padded with zeros, its list with spaces
 abbrev stored : List ℕ → List ℕ → List ℕ

@@ -9,30 +9,30 @@ use borrow.Author.Tests.{ltb-false, leb-false}
 use lib.Dec.{eqb, ltb, leb}
 use lib.ListN.{length, take}
 use lib.Seq.{take-length}
-use Rattle.octets.specs.Choice.{pick}
-use Rattle.octets.specs.Numbers.{levelLimit, messageLimit, openingLimit}
+use Rattle.octets.specs.Believed.Choice.{pick}
+use Rattle.octets.specs.Believed.Numbers.{levelLimit, messageLimit, openingLimit}
 use Rattle.octets.specs.declared.answers.Answer.the-variants.{Refused}
-use Rattle.scanner.specs.Scanning.{scan, symbolsOf}
-use Rattle.scanner.specs.Answers.{faultOf}
+use Rattle.scanner.specs.Believed.Scanning.{scan, symbolsOf}
+use Rattle.scanner.specs.Believed.Answers.{faultOf}
 use Rattle.scanner.proofs.BodyChecks.{in-order}
-use Rattle.grammar.specs.Grammar.{levels}
-use Rattle.grammar.specs.Rfc733.{Derivation, DerivedList, kindNumber, typedKind}
-use Rattle.grammar.specs.Rfc733 as rfc733
+use Rattle.grammar.specs.Believed.Grammar.{levels}
+use Rattle.grammar.specs.Believed.Rfc733.{Derivation, DerivedList, kindNumber, typedKind}
+use Rattle.grammar.specs.Believed.Rfc733 as rfc733
 use Rattle.grammar.specs.Executable.Trees733.{Colon, Comma, LessThan, GreaterThan, Semicolon, Sym, of, Place, empty, comma, AddressList, idle, full, mailbox, angle, group, quoted, typed, asRow}
 use Rattle.grammar.proofs.Trees.{nodesThen, placeThen, listThen, addressThen, placeLevels, listLevels, addressLevels}
 use Rattle.grammar.specs.Executable.Trees733 as trees
 use Rattle.grammar.proofs.Rows.{row-levels, tree-derived}
-use Rattle.plain.specs.Meaning.{atom, noWord, andWord, Addresses, noAddress, andAddress, Address, address, meaning}
-use Rattle.plain.specs.PlainText.{addressesText}
-use Rattle.plain.specs.RoundTrip.{AcceptedBody}
+use Rattle.plain.specs.Believed.Meaning.{atom, noWord, andWord, Addresses, noAddress, andAddress, Address, address, meaning}
+use Rattle.plain.specs.Believed.PlainText.{addressesText}
+use Rattle.plain.specs.Believed.RoundTrip.{AcceptedBody}
 use Rattle.plain.proofs.TreeMeanings.{phraseMeaning, nameMeaning, nodesMeaning, addressMeaning, typedMeaning, addressesDepth, addressDepth, typed-depth}
 use Rattle.plain.proofs.Writable.{WritableList, WritableAddress, listOf, addressOf}
 use Rattle.plain.proofs.Writable as writable
 use Rattle.plain.proofs.ScannedWords.{WritableSymbols, writable-symbols, phrase-fine, name-fine, nodes-fine}
 use Rattle.plain.proofs.RoundTrips.{reread-writable}
-use Rattle.expansion.specs.Store.{leadsTo, listIn}
-use Rattle.expansion.specs.Expansion.{Expansion, stopped, reached, andThen, Opening, expandInclude, expandRow, expandStored, openedWithin, expansion}
-use Rattle.expansion.specs.Promises.{NoInclude, NotInclude, ReadsBack, Promised}
+use Rattle.expansion.specs.Believed.Store.{leadsTo, listIn}
+use Rattle.expansion.specs.Believed.Expansion.{Expansion, stopped, reached, andThen, Opening, expandInclude, expandRow, expandStored, openedWithin, expansion}
+use Rattle.expansion.specs.Believed.Promises.{NoInclude, NotInclude, ReadsBack, Promised}
 use Rattle.expansion.proofs.TreeExpansion.{placeExpansion, listExpansion, addressExpansion, row-expansion}
 use Rattle.addresses.proofs.Judgements.{Judged, refusedAt, listed, judged, listed-read}
 

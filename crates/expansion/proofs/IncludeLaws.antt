@@ -5,25 +5,25 @@ use mathlib.Core.Path.{_≡_, refl, sym, ap, ap₂, _∙_}
 use mathlib.Core.Bool.{Bool, true, false}
 use mathlib.Core.List.{List, [], _∷_}
 use mathlib.Core.Option.{none}
-use Rattle.octets.specs.Choice.{pick, both}
-use Rattle.octets.specs.Letters.{sameLetters}
-use Rattle.octets.specs.Text.{bytes, part}
+use Rattle.octets.specs.Believed.Choice.{pick, both}
+use Rattle.octets.specs.Believed.Letters.{sameLetters}
+use Rattle.octets.specs.Believed.Text.{bytes, part}
 use Rattle.octets.proofs.ChoiceLaws.{both-false}
-use Rattle.scanner.specs.Scanning.{scanBy}
-use Rattle.scanner.specs.Answers.{nextOf}
+use Rattle.scanner.specs.Believed.Scanning.{scanBy}
+use Rattle.scanner.specs.Believed.Answers.{nextOf}
 use Rattle.scanner.specs.declared.Class.{Class}
 use Rattle.scanner.specs.declared.Class.the-variants.{Atom, Colon}
 use Rattle.scanner.specs.declared.Next.{Next}
-use Rattle.scanner.specs.Meanings.{meaningAt}
+use Rattle.scanner.specs.Ties.Meanings.{meaningAt}
 use Rattle.scanner.proofs.Unfolding.{SymbolAt}
-use Rattle.grammar.specs.Grammar.{begins}
-use Rattle.grammar.specs.Rfc733.{sameClass}
+use Rattle.grammar.specs.Believed.Grammar.{begins}
+use Rattle.grammar.specs.Believed.Rfc733.{sameClass}
 use Rattle.grammar.proofs.HouseRule.{same-class}
 use Rattle.plain.specs.declared.places.Place.{Place}
 use Rattle.plain.proofs.WalkSteps.{NoneComes}
-use Rattle.expansion.specs.Walk.{opens, includeNext, includeHere, behindOne, sought}
-use Rattle.addresses.specs.Steps.{symbolsFrom}
-use Rattle.expansion.specs.Steps.{IncludeComes, IncludeWordIs, IncludeIs, InTypedIs, OpenedIs, asRecord}
+use Rattle.expansion.specs.Ties.Walk.{opens, includeNext, includeHere, behindOne, sought}
+use Rattle.addresses.specs.Ties.Steps.{symbolsFrom}
+use Rattle.expansion.specs.Ties.Steps.{IncludeComes, IncludeWordIs, IncludeIs, InTypedIs, OpenedIs, asRecord}
 use Rattle.expansion.specs.declared.Include.{Include}
 use Rattle.expansion.specs.declared.Include.the-variants.{Behind, Otherwise}
 use Rattle.expansion.specs.declared.Levels.{Levels}

@@ -6,14 +6,14 @@ use mathlib.Core.Bool.{Bool, true, false}
 use mathlib.Core.List.{List, [], _∷_}
 use borrow.Author.Tests.{lt-ltb, le-ltb}
 use lib.ListN.{length}
-use Rattle.octets.specs.Choice.{pick}
-use Rattle.octets.specs.Numbers.{levelLimit}
+use Rattle.octets.specs.Believed.Choice.{pick}
+use Rattle.octets.specs.Believed.Numbers.{levelLimit}
 use Rattle.scanner.specs.declared.Class.{Class}
 use Rattle.scanner.specs.declared.Class.the-variants.{Atom, Colon}
 use Rattle.plain.specs.declared.places.Place.{Place}
-use Rattle.plain.specs.Walking.{afterAtom}
-use Rattle.expansion.specs.Walk.{isTyping, levelsAfter, withList, withTyped, withoutOne, withoutTyped}
-use Rattle.expansion.specs.Steps.{bitsOf, LevelsAre, Follows, LevelsAfter}
+use Rattle.plain.specs.Ties.Walking.{afterAtom}
+use Rattle.expansion.specs.Ties.Walk.{isTyping, levelsAfter, withList, withTyped, withoutOne, withoutTyped}
+use Rattle.expansion.specs.Ties.Steps.{bitsOf, LevelsAre, Follows, LevelsAfter}
 use Rattle.expansion.specs.declared.Levels.{Levels}
 
 -- 2 ^ n

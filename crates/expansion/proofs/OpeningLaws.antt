@@ -9,24 +9,24 @@ use types.Run.{OneOf}
 use denote.Enum.Declared.{tagOf}
 use lib.Dec.{ltb, leb}
 use lib.ListN.{length}
-use Rattle.octets.specs.Choice.{pick, both}
-use Rattle.octets.specs.Numbers.{levelLimit, openingLimit, tooManyLevels, tooManyOpenings}
+use Rattle.octets.specs.Believed.Choice.{pick, both}
+use Rattle.octets.specs.Believed.Numbers.{levelLimit, openingLimit, tooManyLevels, tooManyOpenings}
 use Rattle.octets.specs.declared.answers.Answer.{Answer}
 use Rattle.octets.specs.declared.answers.Answer.the-variants.{Refused}
 use Rattle.octets.proofs.answers.Answer as answer-declared
 use Rattle.octets.proofs.ChoiceLaws.{both-parts}
-use Rattle.scanner.specs.Scanning.{scan, symbolsOf}
-use Rattle.grammar.specs.Grammar.{levels}
-use Rattle.grammar.specs.Rfc733.{Derivation}
-use Rattle.addresses.specs.Outcome.{bodyRead, outcome}
-use Rattle.addresses.specs.Within.{listWithin}
+use Rattle.scanner.specs.Believed.Scanning.{scan, symbolsOf}
+use Rattle.grammar.specs.Believed.Grammar.{levels}
+use Rattle.grammar.specs.Believed.Rfc733.{Derivation}
+use Rattle.addresses.specs.Believed.Outcome.{bodyRead, outcome}
+use Rattle.addresses.specs.Believed.Within.{listWithin}
 use Rattle.addresses.proofs.Judgements.{ListBody, refusedAt, listed, judged, listed-read}
 use Rattle.addresses.proofs.Told.{refused-told, some-list}
 use Rattle.addresses.proofs.WithinLaws.{within-listed, within-not}
 use Rattle.plain.specs.declared.places.Place.{Place}
-use Rattle.expansion.specs.Store.{listIn}
-use Rattle.expansion.specs.Walk.{Trail, halted, walkWithin}
-use Rattle.expansion.specs.Steps.{Continuation, faultIn, walkSymbols, RecordOpens, OpeningIs}
+use Rattle.expansion.specs.Believed.Store.{listIn}
+use Rattle.expansion.specs.Ties.Walk.{Trail, halted, walkWithin}
+use Rattle.expansion.specs.Ties.Steps.{Continuation, faultIn, walkSymbols, RecordOpens, OpeningIs}
 use Rattle.expansion.specs.declared.Around.the-variants.{Inside}
 use Rattle.expansion.specs.declared.Opening.{Opening}
 use Rattle.expansion.specs.declared.Opening.the-variants.{Faulty}

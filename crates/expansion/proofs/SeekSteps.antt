@@ -3,22 +3,22 @@ use Prim.Native.Nat.{ℕ, _-_, _≤_}
 use native.Mathlib.Omega.{arith}
 use mathlib.Core.Path.{_≡_, refl, sym, ap, _∙_}
 use mathlib.Core.List.{List, [], _∷_}
-use Rattle.scanner.specs.Scanning.{Scanned, ended, next, faultAt, symbolsOf, scanBy, symbol}
-use Rattle.scanner.specs.Answers.{nextOf}
+use Rattle.scanner.specs.Believed.Scanning.{Scanned, ended, next, faultAt, symbolsOf, scanBy, symbol}
+use Rattle.scanner.specs.Believed.Answers.{nextOf}
 use Rattle.scanner.specs.declared.Class.{Class}
 use Rattle.scanner.specs.declared.Class.the-variants.{Atom, Quoted, At, LessThan, GreaterThan, Comma, Semicolon, Colon, Stray, Dot, Literal}
 use Rattle.scanner.specs.declared.Next.{Next}
-use Rattle.scanner.specs.Meanings.{meaningAt}
+use Rattle.scanner.specs.Ties.Meanings.{meaningAt}
 use Rattle.scanner.proofs.Unfolding.{SymbolAt}
 use Rattle.plain.proofs.WalkSteps.{NoneComes}
 use mathlib.Core.Bool.{Bool, true, false}
-use Rattle.octets.specs.Choice.{pick, both}
-use Rattle.expansion.specs.Walk.{Sym, ends, innerAfter, single, neither, angled, heldFrom, heldBy, Phase, nothing, notWords, only, namedBy, firstFrom, firstOf, soughtBy, sought}
-use Rattle.addresses.specs.Steps.{symbolsFrom}
-use Rattle.expansion.specs.Steps.{asHeld, sortOf, skipTo, asPhase, onStep, OnlyIs, turnOf, onTurn, namedIf, asRecord}
+use Rattle.octets.specs.Believed.Choice.{pick, both}
+use Rattle.expansion.specs.Ties.Walk.{Sym, ends, innerAfter, single, neither, angled, heldFrom, heldBy, Phase, nothing, notWords, only, namedBy, firstFrom, firstOf, soughtBy, sought}
+use Rattle.addresses.specs.Ties.Steps.{symbolsFrom}
+use Rattle.expansion.specs.Ties.Steps.{asHeld, sortOf, skipTo, asPhase, onStep, OnlyIs, turnOf, onTurn, namedIf, asRecord}
 use mathlib.Core.Option.{Option, none, some}
-use Rattle.expansion.specs.Store.{orElse}
-use Rattle.expansion.specs.Walk as seek
+use Rattle.expansion.specs.Believed.Store.{orElse}
+use Rattle.expansion.specs.Ties.Walk as seek
 use Rattle.expansion.proofs.StoreLaws.{InStore, lowest-in, else-in, pick-in}
 use Rattle.expansion.specs.declared.Turn.{Turn}
 use Rattle.expansion.specs.declared.Turn.the-variants.{Closes, Parts, Within}

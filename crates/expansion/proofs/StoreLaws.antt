@@ -9,13 +9,13 @@ use lib.Dec.{eqb}
 use lib.ListN.{length, take, drop, getD, length-take}
 use lib.Seq.{sets, sets-eq, length-take-le, take-append-seam}
 use Rattle.octets.proofs.LetterLaws.{lengths-differ, same-self, same-bytes}
-use Rattle.octets.specs.Text.{part}
-use Rattle.octets.specs.Numbers.{storeRecordSize, storeNameSize}
-use Rattle.octets.specs.Stored.{roomFor}
-use Rattle.octets.specs.Choice.{pick}
+use Rattle.octets.specs.Believed.Text.{part}
+use Rattle.octets.specs.Believed.Numbers.{storeRecordSize, storeNameSize}
+use Rattle.octets.specs.Believed.Stored.{roomFor}
+use Rattle.octets.specs.Believed.Choice.{pick}
 use mathlib.Core.Option.{Option, none, some}
-use Rattle.octets.specs.Letters.{sameBytes}
-use Rattle.expansion.specs.Store.{beforeTrimmed, withoutZeros, nameIn, firstNamed, lowest, orElse}
+use Rattle.octets.specs.Believed.Letters.{sameBytes}
+use Rattle.expansion.specs.Believed.Store.{beforeTrimmed, withoutZeros, nameIn, firstNamed, lowest, orElse}
 
 before-more : (b : ℕ) (bs : List ℕ) → (0 < length bs) → beforeTrimmed b bs ≡ b ∷ bs
 before-more b [] h = absurd (omega (arith, h))

@@ -5,16 +5,16 @@ use mathlib.Core.Bool.{Bool, true, false}
 use mathlib.Core.List.{List, append-nil}
 use mathlib.Core.Option.{none, some}
 use lib.Dec.{eqb}
-use Rattle.octets.specs.Choice.{pick}
-use Rattle.grammar.specs.Grammar.{nil, leaf}
-use Rattle.grammar.specs.Records.{partOf}
-use Rattle.grammar.specs.Rfc733.{Derivation, kindNumber, typedKind}
-use Rattle.grammar.specs.Rfc733 as rfc733
+use Rattle.octets.specs.Believed.Choice.{pick}
+use Rattle.grammar.specs.Believed.Grammar.{nil, leaf}
+use Rattle.grammar.specs.Believed.Records.{partOf}
+use Rattle.grammar.specs.Believed.Rfc733.{Derivation, kindNumber, typedKind}
+use Rattle.grammar.specs.Believed.Rfc733 as rfc733
 use Rattle.grammar.specs.Executable.Trees733.{Atom, Colon, Comma, LessThan, GreaterThan, Semicolon, of, atomWord, quotedWord, Phrase, one, more, Nodes, first, next, Place, empty, comma, AddressList, idle, full, mailbox, angle, group, quoted, typed, wordRow, phraseRow, nodesRow, placeRow, listRow, addressRow, asRow}
 use Rattle.grammar.specs.Executable.Trees733 as trees
-use Rattle.plain.specs.Meaning.{atom, noWord, andWord, Addresses, noAddress, andAddress, Address, address, wordsOf, nodesOf, addressesAfter}
+use Rattle.plain.specs.Believed.Meaning.{atom, noWord, andWord, Addresses, noAddress, andAddress, Address, address, wordsOf, nodesOf, addressesAfter}
 use Rattle.plain.proofs.TreeMeanings.{phraseMeaning, nameMeaning, nodesMeaning, addressMeaning, of-typed, name-words, node-words, after-address}
-use Rattle.expansion.specs.Expansion.{Expansion, stopped, reached, andThen, Opening, otherType, expandInclude, expandRow}
+use Rattle.expansion.specs.Believed.Expansion.{Expansion, stopped, reached, andThen, Opening, otherType, expandInclude, expandRow}
 
 -- ---- what comes next
 

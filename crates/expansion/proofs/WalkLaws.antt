@@ -7,24 +7,24 @@ use mathlib.Core.List.{List, []}
 use lib.Dec.{ltb, leb}
 use lib.ListN.{length}
 use lib.Seq.{take-length}
-use Rattle.octets.specs.Choice.{pick}
-use Rattle.octets.specs.Numbers.{levelLimit, openingLimit}
-use Rattle.scanner.specs.Scanning.{scan, symbolsOf}
-use Rattle.grammar.specs.Grammar.{levels}
-use Rattle.grammar.specs.Rfc733.{Derivation, DerivedList}
+use Rattle.octets.specs.Believed.Choice.{pick}
+use Rattle.octets.specs.Believed.Numbers.{levelLimit, openingLimit}
+use Rattle.scanner.specs.Believed.Scanning.{scan, symbolsOf}
+use Rattle.grammar.specs.Believed.Grammar.{levels}
+use Rattle.grammar.specs.Believed.Rfc733.{Derivation, DerivedList}
 use Rattle.grammar.specs.Executable.Trees733.{Sym, asRow}
 use Rattle.grammar.proofs.Rows.{row-levels, tree-derived}
-use Rattle.addresses.specs.Editions.{bodySymbols}
-use Rattle.addresses.specs.Outcome.{bodyRead}
+use Rattle.addresses.specs.Believed.Editions.{bodySymbols}
+use Rattle.addresses.specs.Believed.Outcome.{bodyRead}
 use Rattle.addresses.proofs.Judgements.{refusedAt, judged, listed-read}
 use Rattle.addresses.proofs.Judgements as judgements
-use Rattle.plain.specs.Meaning.{Addresses, noAddress}
-use Rattle.plain.specs.PlainText.{addressesText}
+use Rattle.plain.specs.Believed.Meaning.{Addresses, noAddress}
+use Rattle.plain.specs.Believed.PlainText.{addressesText}
 use Rattle.plain.specs.declared.places.Place.{Place}
 use Rattle.plain.proofs.Walks.{Begin, plainly, spot, comma-spot, front-plain}
-use Rattle.expansion.specs.Store.{listIn}
-use Rattle.expansion.specs.Expansion.{Expansion, stopped, Opening, expandRow, openedWithin, expansion}
-use Rattle.expansion.specs.Walk.{Trail, halted, wrote, before, writing, walk, walkWithin, walked}
+use Rattle.expansion.specs.Believed.Store.{listIn}
+use Rattle.expansion.specs.Believed.Expansion.{Expansion, stopped, Opening, expandRow, openedWithin, expansion}
+use Rattle.expansion.specs.Ties.Walk.{Trail, halted, wrote, before, writing, walk, walkWithin, walked}
 use Rattle.expansion.proofs.TreeExpansion.{listExpansion, row-expansion}
 use Rattle.expansion.proofs.WalkThrough.{onward, listed, clear-comma, onward-same, unmoved, through-list}
 

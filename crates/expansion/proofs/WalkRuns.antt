@@ -6,26 +6,26 @@ use mathlib.Core.Bool.{Bool, true, false}
 use mathlib.Core.List.{List, [], _∷_}
 use mathlib.Core.Option.{Option, none, some}
 use lib.ListN.{length}
-use Rattle.octets.specs.Choice.{pick}
-use Rattle.octets.specs.Classes.{classTable}
-use Rattle.octets.specs.Numbers.{messageLimit, levelLimit, openingLimit, storeRecordSize, leadsNowhere}
+use Rattle.octets.specs.Believed.Choice.{pick}
+use Rattle.octets.specs.Believed.Classes.{classTable}
+use Rattle.octets.specs.Believed.Numbers.{messageLimit, levelLimit, openingLimit, storeRecordSize, leadsNowhere}
 use Rattle.octets.proofs.Writes.{wrote-both}
-use Rattle.scanner.specs.Scanning.{scan, scanBy, symbolsOf}
-use Rattle.scanner.specs.Answers.{nextOf}
+use Rattle.scanner.specs.Believed.Scanning.{scan, scanBy, symbolsOf}
+use Rattle.scanner.specs.Believed.Answers.{nextOf}
 use Rattle.scanner.specs.declared.Class.{Class}
 use Rattle.scanner.specs.declared.Class.the-variants.{Atom, Quoted, At, LessThan, GreaterThan, Comma, Semicolon, Colon, Stray, Dot, Literal}
 use Rattle.scanner.specs.declared.Next.{Next}
 use Rattle.scanner.specs.declared.Next.the-variants.{Found, Ended, Fault}
-use Rattle.scanner.specs.Meanings.{meaningAt}
+use Rattle.scanner.specs.Ties.Meanings.{meaningAt}
 use Rattle.scanner.proofs.Unfolding.{SymbolAt, found}
-use Rattle.plain.specs.Walking.{symbolText, after, afterComma, colonNext}
-use Rattle.plain.specs.Writing.{isColon}
+use Rattle.plain.specs.Ties.Walking.{symbolText, after, afterComma, colonNext}
+use Rattle.plain.specs.Ties.Writing.{isColon}
 use Rattle.plain.specs.declared.places.Place.{Place}
 use Rattle.plain.proofs.WalkSteps.{colon-of, NoneComes, behind, behind-falls}
-use Rattle.expansion.specs.Store.{listIn}
-use Rattle.expansion.specs.Walk.{Sym, Trail, halted, wrote, before, ends, includeHere, behindOne, inTyped, levelsAfter, innerAfter, WalkOpening, writing, skipping, sought, includeTrail, walk, walkWithin}
-use Rattle.addresses.specs.Steps.{symbolsFrom}
-use Rattle.expansion.specs.Steps.{LevelsAre, LevelsAfter, skipTo, IncludeBegins, OpenedIs, placeOf, levelsAround, joinedStage, openedStage, WriteOnIs, Continuation, walkSymbols, RecordOpens, OpeningIs, Onward, symbolShare, textShare, Goes, Halts, RecordWalked, TextWalked}
+use Rattle.expansion.specs.Believed.Store.{listIn}
+use Rattle.expansion.specs.Ties.Walk.{Sym, Trail, halted, wrote, before, ends, includeHere, behindOne, inTyped, levelsAfter, innerAfter, WalkOpening, writing, skipping, sought, includeTrail, walk, walkWithin}
+use Rattle.addresses.specs.Ties.Steps.{symbolsFrom}
+use Rattle.expansion.specs.Ties.Steps.{LevelsAre, LevelsAfter, skipTo, IncludeBegins, OpenedIs, placeOf, levelsAround, joinedStage, openedStage, WriteOnIs, Continuation, walkSymbols, RecordOpens, OpeningIs, Onward, symbolShare, textShare, Goes, Halts, RecordWalked, TextWalked}
 use Rattle.expansion.specs.declared.Around.{Around}
 use Rattle.expansion.specs.declared.Around.the-variants.{Inside}
 use Rattle.expansion.specs.declared.Levels.{Levels}

@@ -8,27 +8,27 @@ use mathlib.Core.Option.{Option, none, some}
 use lib.Dec.{eqb}
 use borrow.Author.Tests.{lt-ltb}
 use lib.ListN.{length}
-use Rattle.octets.specs.Choice.{pick, both}
+use Rattle.octets.specs.Believed.Choice.{pick, both}
 use Rattle.octets.proofs.ChoiceLaws.{both-parts}
-use Rattle.octets.specs.Letters.{sameLetters}
-use Rattle.octets.specs.Numbers.{levelLimit}
-use Rattle.octets.specs.Text.{bytes}
-use Rattle.grammar.specs.Rfc733.{sameClass, kindNumber, typedKind, include, postal, otherTyped}
+use Rattle.octets.specs.Believed.Letters.{sameLetters}
+use Rattle.octets.specs.Believed.Numbers.{levelLimit}
+use Rattle.octets.specs.Believed.Text.{bytes}
+use Rattle.grammar.specs.Believed.Rfc733.{sameClass, kindNumber, typedKind, include, postal, otherTyped}
 use Rattle.grammar.specs.Executable.Trees733.{Class, Atom, Quoted, At, LessThan, GreaterThan, Comma, Semicolon, Colon, Stray, Dot, Literal, Lexeme, Sym, of, atomWord, quotedWord, Phrase, one, more, Nodes, first, next, comma, AddressList, idle, full, mailbox, angle, group, quoted, typed}
 use Rattle.grammar.proofs.Trees.{wordSymbol, phraseThen, nodesThen, placeThen, listThen, addressThen, placeLawful, listLawful, addressLawful, placeLevels, listLevels, addressLevels}
 use Rattle.grammar.specs.Executable.Trees733 as trees
 use Rattle.grammar.proofs.HouseRule.{oneAtom, placeAtomGroup, listAtomGroup, atomColon-list, oneAtom-false, oneAtom-true}
 use Rattle.grammar.proofs.HouseRule as house
-use Rattle.plain.specs.Meaning.{atom, noWord, andWord, Addresses, noAddress, andAddress, Address, address, meaning}
-use Rattle.plain.specs.PlainText.{wordText, phraseText, nodesText, atomGroup, addressesText, addressText}
-use Rattle.plain.specs.Walking.{gapText, gapBefore, afterAtom, afterComma, after, colonNext, symbolText}
+use Rattle.plain.specs.Believed.Meaning.{atom, noWord, andWord, Addresses, noAddress, andAddress, Address, address, meaning}
+use Rattle.plain.specs.Believed.PlainText.{wordText, phraseText, nodesText, atomGroup, addressesText, addressText}
+use Rattle.plain.specs.Ties.Walking.{gapText, gapBefore, afterAtom, afterComma, after, colonNext, symbolText}
 use Rattle.plain.specs.declared.places.Place.{Place}
 use Rattle.plain.specs.declared.places.Place.the-variants.{Start, Bare, BareComma, Named, Typing, Word, Node, Closed, Parted}
 use Rattle.plain.proofs.TreeMeanings.{wordMeaning, phraseMeaning, nameMeaning, nodesMeaning, placeMeaning, listMeaning, addressMeaning, typedMeaning, of-typed, atom-group}
 use Rattle.plain.proofs.Walks.{space-behind, no-colon-nodes, Begin, plainly, barely, namely, front, spot, comma-spot, Opens, spot-opens, joint, front-named, front-bare, front-plain}
-use Rattle.expansion.specs.Store.{leadsTo, onlyMailboxes, isMailbox}
-use Rattle.expansion.specs.Expansion.{Expansion, stopped, reached, andThen, Opening, expandInclude}
-use Rattle.expansion.specs.Walk.{Trail, halted, wrote, before, withoutTyped, withTyped, inTyped, isTyping, withList, levelsAfter, ends, includeWord, includeNext, behindOne, opens, writing, skipping, innerAfter, WalkOpening, sought, walk}
+use Rattle.expansion.specs.Believed.Store.{leadsTo, onlyMailboxes, isMailbox}
+use Rattle.expansion.specs.Believed.Expansion.{Expansion, stopped, reached, andThen, Opening, expandInclude}
+use Rattle.expansion.specs.Ties.Walk.{Trail, halted, wrote, before, withoutTyped, withTyped, inTyped, isTyping, withList, levelsAfter, ends, includeWord, includeNext, behindOne, opens, writing, skipping, innerAfter, WalkOpening, sought, walk}
 use Rattle.expansion.proofs.TreeExpansion.{placeExpansion, listExpansion, addressExpansion}
 use Rattle.expansion.proofs.Seeking.{Joins, sought-address}
 

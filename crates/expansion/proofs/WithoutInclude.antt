@@ -3,16 +3,16 @@ use Prim.Native.Nat.{ℕ, _+_}
 use mathlib.Core.Path.{_≡_, refl, sym, ap, _∙_}
 use mathlib.Core.Bool.{Bool, true, false}
 use mathlib.Core.List.{List}
-use Rattle.octets.specs.Numbers.{openingLimit}
-use Rattle.octets.specs.Choice.{pick}
-use Rattle.grammar.specs.Rfc733.{Derivation, DerivedList, kindNumber, typedKind}
+use Rattle.octets.specs.Believed.Numbers.{openingLimit}
+use Rattle.octets.specs.Believed.Choice.{pick}
+use Rattle.grammar.specs.Believed.Rfc733.{Derivation, DerivedList, kindNumber, typedKind}
 use Rattle.grammar.specs.Executable.Trees733.{Sym, Place, empty, comma, AddressList, idle, full, mailbox, angle, group, quoted, typed}
 use Rattle.grammar.specs.Executable.Trees733 as trees
 use Rattle.grammar.proofs.Rows.{tree-derived}
-use Rattle.plain.specs.Meaning.{Addresses, noAddress, andAddress, address, atom, noWord, andWord, meaning}
+use Rattle.plain.specs.Believed.Meaning.{Addresses, noAddress, andAddress, address, atom, noWord, andWord, meaning}
 use Rattle.plain.proofs.TreeMeanings.{nameMeaning, placeMeaning, listMeaning, addressMeaning, meaning-row}
-use Rattle.expansion.specs.Expansion.{reached, andThen, Opening, expandInclude, expandRow, openedWithin, expansion}
-use Rattle.expansion.specs.Promises.{NoInclude, NotInclude}
+use Rattle.expansion.specs.Believed.Expansion.{reached, andThen, Opening, expandInclude, expandRow, openedWithin, expansion}
+use Rattle.expansion.specs.Believed.Promises.{NoInclude, NotInclude}
 use Rattle.expansion.proofs.TreeExpansion.{placeExpansion, listExpansion, addressExpansion, row-expansion}
 
 -- addresses behind others

@@ -1,7 +1,3 @@
 -- Document 02, CR 10: stored lists, and an address list with its Includes replaced by them.
-pub mod Store
-pub mod Expansion
-pub mod Outcome
-pub mod Promises
-pub mod Walk
-pub mod Steps
+pub mod Believed
+pub mod Ties

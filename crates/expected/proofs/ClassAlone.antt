@@ -5,9 +5,9 @@ use mathlib.Core.Bool.{Bool, true, false}
 use mathlib.Core.Option.{Option, none, some}
 use Rattle.grammar.specs.Executable.Trees733.{Class, Atom, Quoted, At, LessThan, GreaterThan, Comma, Semicolon, Colon, Stray, Dot, Literal, Lexeme, Word, atomWord, quotedWord, Phrase, AddressList, idle, full}
 use Rattle.grammar.specs.Executable.Machine733.{Here, Level, State, list, phrase, firstAt, nextAt, node, want, Spot, Began, complete, begun, onWord, onAt, onComma, onGreaterThan, onSemicolon, onLessThan, onColon, inList, inTyped, entered, withinLimit, endAngle, endGroup, top, inAngle, inGroup, phraseColon, stepOn}
-use Rattle.octets.specs.Choice.{either}
-use Rattle.expected.specs.Things.{word}
-use Rattle.expected.specs.Named.{goes, takes, namedAt}
+use Rattle.octets.specs.Believed.Choice.{either}
+use Rattle.expected.specs.Believed.Things.{word}
+use Rattle.expected.specs.Executable.Named.{goes, takes, namedAt}
 
 -- ---- each class
 

@@ -3,14 +3,14 @@ use Prim.Native.Nat.{ℕ, _+_}
 use mathlib.Core.Path.{_≡_, refl}
 use mathlib.Core.List.{List, [], _∷_, _++_}
 use lib.ListN.{length, replicate}
-use Rattle.octets.specs.Classes.{classOf, classTable}
-use Rattle.octets.specs.Letters.{lower, same}
-use Rattle.octets.specs.Text.{bytes}
-use Rattle.scanner.specs.Kinds.{kindOf}
-use Rattle.scanner.specs.Characters.{charactersFrom}
-use Rattle.scanner.specs.Scanning.{scanFrom, symbolsOf}
-use Rattle.scanner.specs.Answers.{unlessFault}
-use Rattle.expected.specs.Named.{expectedIn}
+use Rattle.octets.specs.Believed.Classes.{classOf, classTable}
+use Rattle.octets.specs.Believed.Letters.{lower, same}
+use Rattle.octets.specs.Believed.Text.{bytes}
+use Rattle.scanner.specs.Believed.Kinds.{kindOf}
+use Rattle.scanner.specs.Believed.Characters.{charactersFrom}
+use Rattle.scanner.specs.Believed.Scanning.{scanFrom, symbolsOf}
+use Rattle.scanner.specs.Believed.Answers.{unlessFault}
+use Rattle.expected.specs.Executable.Named.{expectedIn}
 
 -- a body, read as a message of its own, and what is named for it
 data Row : Type 0 where

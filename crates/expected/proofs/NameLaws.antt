@@ -5,10 +5,10 @@ use mathlib.Core.Path.{_≡_, refl, sym, ap, _∙_}
 use mathlib.Core.Bool.{Bool, true, false, true≢false}
 use mathlib.Core.List.{List, _++_, append-nil, append-cancel-right}
 use mathlib.Core.Option.{Option, none, some}
-use Rattle.octets.specs.Choice.{either}
-use Rattle.grammar.specs.Grammar.{levels}
-use Rattle.grammar.specs.Language.{AtMost, upTo, Refusal, unfit, unfinished, tooDeep, Verdict, accepted, refused}
-use Rattle.grammar.specs.Rfc733.{Derivation, DerivedList, RightWithin}
+use Rattle.octets.specs.Believed.Choice.{either}
+use Rattle.grammar.specs.Believed.Grammar.{levels}
+use Rattle.grammar.specs.Believed.Language.{AtMost, upTo, Refusal, unfit, unfinished, tooDeep, Verdict, accepted, refused}
+use Rattle.grammar.specs.Believed.Rfc733.{Derivation, DerivedList, RightWithin}
 use Rattle.grammar.specs.Executable.Trees733.{Class, Atom, Quoted, At, LessThan, GreaterThan, Comma, Semicolon, Colon, Sym, of, AddressList, asRow}
 use Rattle.grammar.proofs.Trees.{listLevels, DerivedTree}
 use Rattle.grammar.specs.Executable.Machines.{Step, go, stop, standsBy}
@@ -17,9 +17,9 @@ use Rattle.grammar.specs.Executable.Machine733.{State, step, run, read, judge, 
 use Rattle.grammar.proofs.Steps.{machine}
 use Rattle.grammar.proofs.Rows.{row-levels, row-derived, tree-derived}
 use Rattle.grammar.proofs.Condition3.{answer-only, goes-on-row, goes-on-tree}
-use Rattle.expected.specs.Things.{Thing, word, at, atSign, lessThan, greaterThan, comma, semicolon, colon, bodyEnd, IsOf, GoesOnWith, Could, goesOn, ends, ExactlyWhereRefused, ExactlyAtTheEnd, Alike, sameClass, bothWords, AlikeGoOn}
-use Rattle.expected.specs.Things as things
-use Rattle.expected.specs.Named.{NamesExactly, goes, isSome, anywhere, takes, namedAt, named}
+use Rattle.expected.specs.Believed.Things.{Thing, word, at, atSign, lessThan, greaterThan, comma, semicolon, colon, bodyEnd, IsOf, GoesOnWith, Could, goesOn, ends, ExactlyWhereRefused, ExactlyAtTheEnd, Alike, sameClass, bothWords, AlikeGoOn}
+use Rattle.expected.specs.Believed.Things as things
+use Rattle.expected.specs.Executable.Named.{NamesExactly, goes, isSome, anywhere, takes, namedAt, named}
 use Rattle.expected.proofs.ClassAlone.{word-same, step-any}
 
 -- ---- a symbol that a state takes is one with which a list goes on

@@ -1,3 +1,3 @@
 -- Document 02, CR 3: what could have stood at the place of a refusal.
-pub mod Things
-pub mod Named
+pub mod Believed
+pub mod Executable

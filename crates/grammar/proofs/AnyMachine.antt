@@ -6,8 +6,8 @@ use native.Mathlib.Decide.{decLe}
 use mathlib.Core.Path.{_≡_, refl, sym, ap, _∙_}
 use mathlib.Core.List.{List, [], _∷_, _++_, append-assoc, append-nil}
 use mathlib.Core.Option.{Option, none, some}
-use Rattle.scanner.specs.Symbols.{Symbol}
-use Rattle.grammar.specs.Language.{AtMost, MoreThan, upTo, GoesOn, FirstRefused, Refusal, unfit, unfinished, tooDeep, Verdict, accepted, refused, Right}
+use Rattle.scanner.specs.Believed.Symbols.{Symbol}
+use Rattle.grammar.specs.Believed.Language.{AtMost, MoreThan, upTo, GoesOn, FirstRefused, Refusal, unfit, unfinished, tooDeep, Verdict, accepted, refused, Right}
 use Rattle.grammar.proofs.OnlyRight.{goes-on-at, refused-whole}
 use Rattle.grammar.specs.Executable.Machines.{Step, Result, after, runBy, atEnd, verdictBy, standsAfter, standsBy, go, stop, ended, stopped}
 

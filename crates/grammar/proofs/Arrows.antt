@@ -5,9 +5,9 @@ use mathlib.Core.Path.{_≡_, refl, ap, _∙_}
 use mathlib.Core.Bool.{Bool, true, false}
 use mathlib.Core.List.{List, [], _∷_}
 use mathlib.Core.Option.{Option, none, some}
-use Rattle.octets.specs.Choice.{pick}
-use Rattle.scanner.specs.Symbols.{Lexeme, Symbol}
-use Rattle.grammar.specs.Language.{AtMost, MoreThan, GoesOn, FirstRefused, unfit, unfinished, tooDeep, Verdict, accepted, refused, Right}
+use Rattle.octets.specs.Believed.Choice.{pick}
+use Rattle.scanner.specs.Believed.Symbols.{Lexeme, Symbol}
+use Rattle.grammar.specs.Believed.Language.{AtMost, MoreThan, GoesOn, FirstRefused, unfit, unfinished, tooDeep, Verdict, accepted, refused, Right}
 use Rattle.grammar.specs.Executable.Machines.{Result, ended, stopped, after, runBy, atEnd, verdictBy, Arrow, look, taken, stepBy}
 use Rattle.grammar.proofs.AnyMachine.{Steady, Machine}
 use Rattle.grammar.proofs.Pieces.{mark}

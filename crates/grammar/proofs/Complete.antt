@@ -6,7 +6,7 @@ use mathlib.Core.Bool.{Bool, true, false, true≢false}
 use mathlib.Core.List.{List, [], _∷_}
 use mathlib.Core.Option.{Option, none, some}
 use borrow.Author.Tests.{leb-true, leb-false}
-use Rattle.grammar.specs.Language.{tooDeep, accepted}
+use Rattle.grammar.specs.Believed.Language.{tooDeep, accepted}
 use Rattle.grammar.specs.Executable.Trees733.{Atom, LessThan, Semicolon, Colon, Lexeme, Sym, of, Word, atomWord, quotedWord, Phrase, one, more, Nodes, first, next, Place, empty, comma, AddressList, idle, full, Address, mailbox, angle, group, quoted, typed}
 use Rattle.grammar.proofs.Trees.{wordSymbol, phraseThen, nameThen, nodesThen, placeThen, listThen, addressThen, placeLevels, listLevels, addressLevels, placeLawful, listLawful, addressLawful, houseRule, DerivedTree}
 use Rattle.grammar.proofs.HouseRule.{oneAtom, atomNamed, atomGroup, placeAtomGroup, listAtomGroup, atomColon-list}

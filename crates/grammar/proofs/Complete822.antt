@@ -3,10 +3,10 @@ use Prim.Native.Nat.{ℕ}
 use mathlib.Core.Path.{_≡_, refl, ap, _∙_}
 use mathlib.Core.List.{List, [], _∷_}
 use mathlib.Core.Option.{some}
-use Rattle.grammar.specs.Grammar.{Row, yield}
-use Rattle.grammar.specs.Language.{accepted}
-use Rattle.grammar.specs.Rfc733.{sameClass}
-use Rattle.grammar.specs.Rfc822.{Notion}
+use Rattle.grammar.specs.Believed.Grammar.{Row, yield}
+use Rattle.grammar.specs.Believed.Language.{accepted}
+use Rattle.grammar.specs.Believed.Rfc733.{sameClass}
+use Rattle.grammar.specs.Believed.Rfc822.{Notion}
 use Rattle.grammar.specs.Executable.Machines.{go, verdictBy, atEnd, Arrow}
 use Rattle.grammar.proofs.AnyMachine.{Machine}
 use Rattle.grammar.proofs.Arrows as any

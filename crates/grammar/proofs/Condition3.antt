@@ -6,9 +6,9 @@ use mathlib.Core.Option.{Option, none, some}
 use mathlib.Core.List.{List, [], _∷_}
 use Rattle.scanner.specs.declared.Class.{Class}
 use Rattle.scanner.specs.declared.Class.the-variants.{Atom, Quoted, At, LessThan, GreaterThan, Comma, Semicolon, Colon, Stray, Dot, Literal}
-use Rattle.grammar.specs.Grammar.{levels}
-use Rattle.grammar.specs.Language.{GoesOn, FirstRefused, unfit, unfinished, tooDeep, Verdict, accepted, refused, Right}
-use Rattle.grammar.specs.Rfc733.{list, rfc733, Derivation, DerivedList, RightWithin}
+use Rattle.grammar.specs.Believed.Grammar.{levels}
+use Rattle.grammar.specs.Believed.Language.{GoesOn, FirstRefused, unfit, unfinished, tooDeep, Verdict, accepted, refused, Right}
+use Rattle.grammar.specs.Believed.Rfc733.{list, rfc733, Derivation, DerivedList, RightWithin}
 use Rattle.grammar.proofs.AnyReader as any-reader
 use Rattle.grammar.specs.Executable.{Decides733}
 use Rattle.grammar.proofs.AnyMachine as any-machine

@@ -3,9 +3,9 @@ use Prim.Native.Nat.{ℕ, _≤_}
 use mathlib.Core.Path.{_≡_, refl}
 use mathlib.Core.Bool.{true}
 use mathlib.Core.List.{List}
-use Rattle.grammar.specs.Grammar.{Row, levels}
-use Rattle.grammar.specs.Language.{tooDeep, refused, Right}
-use Rattle.grammar.specs.Rfc822.{Notion, list, place, address, boxes, boxPlace, mailbox, routeAddr, addrSpec, route, hops, emptyPlaces, localPart, domain, subDomain, phrase, word, rulesOf, rfc822}
+use Rattle.grammar.specs.Believed.Grammar.{Row, levels}
+use Rattle.grammar.specs.Believed.Language.{tooDeep, refused, Right}
+use Rattle.grammar.specs.Believed.Rfc822.{Notion, list, place, address, boxes, boxPlace, mailbox, routeAddr, addrSpec, route, hops, emptyPlaces, localPart, domain, subDomain, phrase, word, rulesOf, rfc822}
 use Rattle.grammar.proofs.AnyMachine as any-machine
 use Rattle.grammar.proofs.Arrows as arrows
 use Rattle.grammar.proofs.Ranks as ranks

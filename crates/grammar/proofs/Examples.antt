@@ -5,13 +5,13 @@ use native.Mathlib.Omega.{arith}
 use mathlib.Core.Path.{_≡_, refl}
 use mathlib.Core.List.{List, [], _∷_}
 use lib.ListN.{length}
-use Rattle.octets.specs.Letters.{lower, same}
-use Rattle.octets.specs.Numbers.{levelLimit}
-use Rattle.octets.specs.Text.{bytes}
-use Rattle.grammar.specs.Grammar.{levels}
-use Rattle.grammar.specs.Language.{Verdict, accepted, refused, verdictNumber, verdictPosition}
-use Rattle.grammar.specs.Records.{AddressRecord, recordBy, records, tableBytes}
-use Rattle.grammar.specs.Rfc733.{Derivation, DerivedList}
+use Rattle.octets.specs.Believed.Letters.{lower, same}
+use Rattle.octets.specs.Believed.Numbers.{levelLimit}
+use Rattle.octets.specs.Believed.Text.{bytes}
+use Rattle.grammar.specs.Believed.Grammar.{levels}
+use Rattle.grammar.specs.Believed.Language.{Verdict, accepted, refused, verdictNumber, verdictPosition}
+use Rattle.grammar.specs.Believed.Records.{AddressRecord, recordBy, records, tableBytes}
+use Rattle.grammar.specs.Believed.Rfc733.{Derivation, DerivedList}
 use Rattle.grammar.proofs.OnlyRight.{unfit-none}
 use Rattle.grammar.specs.Executable.Trees733.{Class, Atom, Quoted, At, LessThan, GreaterThan, Comma, Semicolon, Colon, Stray, Sym, of}
 use Rattle.grammar.proofs.Order.{InOrder}

@@ -1,8 +1,8 @@
 -- The machine of RFC 822: what its states stand for; every arrow keeps it, and what is given at the end is derived. Assumes nothing.
 use mathlib.Core.Path.{refl}
 use mathlib.Core.List.{List, [], _∷_}
-use Rattle.grammar.specs.Grammar.{yieldThen}
-use Rattle.grammar.specs.Rfc822.{Notion}
+use Rattle.grammar.specs.Believed.Grammar.{yieldThen}
+use Rattle.grammar.specs.Believed.Rfc822.{Notion}
 use Rattle.grammar.specs.Executable.Trees822.{Piece, Class, At, LessThan, Comma, Colon, Dot, Sym, of, spec, Mailbox, bare, idle, full, box, wordPiece, phrasePiece, domainPiece, localPiece, emptiesPiece, hopsPiece, routePiece, mailboxPiece, boxPlacePiece, addressPiece, placePiece}
 use Rattle.grammar.proofs.Arrows.{Keeps, Gives}
 use Rattle.grammar.proofs.Trees822.{DerivedList, row-derived}

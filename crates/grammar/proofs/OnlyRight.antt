@@ -4,8 +4,8 @@ use native.Mathlib.Omega.{arith}
 use native.Mathlib.Decide.{decLe}
 use mathlib.Core.Path.{_≡_, refl, sym, ap, _∙_}
 use mathlib.Core.List.{List, [], _∷_, _++_, append-assoc, append-nil, head-eq-of-cons-eq, tail-eq-of-cons-eq}
-use Rattle.scanner.specs.Symbols.{Symbol}
-use Rattle.grammar.specs.Language.{AtMost, MoreThan, upTo, GoesOn, FirstRefused, unfit, unfinished, tooDeep, Verdict, accepted, refused, Right}
+use Rattle.scanner.specs.Believed.Symbols.{Symbol}
+use Rattle.grammar.specs.Believed.Language.{AtMost, MoreThan, upTo, GoesOn, FirstRefused, unfit, unfinished, tooDeep, Verdict, accepted, refused, Right}
 
 -- two splits of one list: the same, or the first or the second is the shorter
 data Splits {C : Type 0} (p : List (Symbol C)) (x : Symbol C) (y : List (Symbol C)) (p′ : List (Symbol C)) (x′ : Symbol C) (y′ : List (Symbol C)) : Type 0 where

@@ -4,8 +4,8 @@ use native.Mathlib.Omega.{arith}
 use mathlib.Core.Path.{_≡_, refl, ap, ap₂, _∙_}
 use mathlib.Core.List.{List, [], _∷_, List·Memᴰ, List·Memᴰ·head as here, List·Memᴰ·tail as there}
 use lib.ListN.{length, getD}
-use Rattle.scanner.specs.Symbols.{Lexeme, Symbol}
-use Rattle.grammar.specs.Grammar.{Item, symbol, part, Rule, Grammar, Row, nil, leaf, yield, Allowed, Fits, done, take, apply, Derived}
+use Rattle.scanner.specs.Believed.Symbols.{Lexeme, Symbol}
+use Rattle.grammar.specs.Believed.Grammar.{Item, symbol, part, Rule, Grammar, Row, nil, leaf, yield, Allowed, Fits, done, take, apply, Derived}
 use Rattle.grammar.specs.Executable.Trees822.{Piece, piece, put}
 
 -- the symbol of a class with a lexeme

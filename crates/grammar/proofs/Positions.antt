@@ -7,13 +7,13 @@ use mathlib.Core.List.{List, [], _∷_, _++_}
 use mathlib.Core.Option.{Option, none, some}
 use lib.ListN.{length, getD}
 use lib.Seq.{sets}
-use Rattle.octets.specs.Numbers.{addressRecordSize, numberWidth}
-use Rattle.octets.specs.Stored.{numberFrom, numberAt}
+use Rattle.octets.specs.Believed.Numbers.{addressRecordSize, numberWidth}
+use Rattle.octets.specs.Believed.Stored.{numberFrom, numberAt}
 use Rattle.octets.proofs.RecordsBack.{joined, record-back, number-back}
-use Rattle.scanner.specs.Symbols.{Symbol}
-use Rattle.grammar.specs.Grammar.{Makes, Rule, Row, nil, leaf, branch, yieldThen, yield}
-use Rattle.grammar.specs.Language.{positionOf}
-use Rattle.grammar.specs.Records.{AddressRecord, noRecord, lastEnd, partOf, nameOf, count, recordOf, recordsFrom, records, recordBytes, tableBytes, recordIn}
+use Rattle.scanner.specs.Believed.Symbols.{Symbol}
+use Rattle.grammar.specs.Believed.Grammar.{Makes, Rule, Row, nil, leaf, branch, yieldThen, yield}
+use Rattle.grammar.specs.Believed.Language.{positionOf}
+use Rattle.grammar.specs.Believed.Records.{AddressRecord, noRecord, lastEnd, partOf, nameOf, count, recordOf, recordsFrom, records, recordBytes, tableBytes, recordIn}
 use Rattle.grammar.proofs.Records.{length-records, length-recordBytes, parent-smaller}
 
 -- ---- symbols

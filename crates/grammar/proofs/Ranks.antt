@@ -6,10 +6,10 @@ use mathlib.Core.Bool.{Bool, true}
 use mathlib.Core.List.{List, [], _∷_, List·Memᴰ, List·Memᴰ·head as here, List·Memᴰ·tail as there}
 use lib.Dec.{leb}
 use borrow.Author.Tests.{leb-true}
-use Rattle.octets.specs.Choice.{pick, both}
+use Rattle.octets.specs.Believed.Choice.{pick, both}
 use Rattle.octets.proofs.ChoiceLaws.{both-parts}
-use Rattle.scanner.specs.Symbols.{Symbol}
-use Rattle.grammar.specs.Grammar.{Item, symbol, part, Rule, Grammar, Row, levels, Fits, done, take, apply, Derived}
+use Rattle.scanner.specs.Believed.Symbols.{Symbol}
+use Rattle.grammar.specs.Believed.Grammar.{Item, symbol, part, Rule, Grammar, Row, levels, Fits, done, take, apply, Derived}
 
 module _ {C N : Type 0} (rank : N → ℕ) where
   -- with so many levels around them, no part of these items passes the bound

@@ -5,11 +5,11 @@ use Prim.Native.Nat.{ℕ, zero, suc, _+_, _*_, _≤_, _<_}
 use native.Mathlib.Omega.{arith}
 use lib.ListN.{length, set, length-append}
 use lib.Seq.{sets}
-use Rattle.octets.specs.Numbers.{addressRecordSize, numberWidth}
-use Rattle.octets.specs.Stored.{bytesOf, numberAt}
+use Rattle.octets.specs.Believed.Numbers.{addressRecordSize, numberWidth}
+use Rattle.octets.specs.Believed.Stored.{bytesOf, numberAt}
 use Rattle.octets.proofs.Parts.{sets-append, set-sets, sets-behind-first}
 use Rattle.octets.proofs.StoredLaws.{number-out}
-use Rattle.grammar.specs.Records.{AddressRecord, recordBy, noRecord, setEnd, recordBytes, endOffset, tableBytes, recordFrom}
+use Rattle.grammar.specs.Believed.Records.{AddressRecord, recordBy, noRecord, setEnd, recordBytes, endOffset, tableBytes, recordFrom}
 use Rattle.grammar.proofs.Records.{length-recordBytes, length-tableBytes, tableBytes-append}
 use Rattle.grammar.specs.Executable.Trees733.{Place, empty, comma, AddressList, idle, full, Address, mailbox, angle, group, quoted, typed}
 use Rattle.grammar.proofs.TreeRecords.{placeCount, listCount, addressCount, placeRecords, listRecords, insideRecords, addressRecords}

@@ -5,9 +5,9 @@ use mathlib.Core.Path.{_≡_, refl, sym, ap, _∙_}
 use mathlib.Core.List.{List, [], _∷_, _++_, append-assoc}
 use mathlib.Core.Option.{Option, none, some}
 use lib.ListN.{length, getD, length-append}
-use Rattle.octets.specs.Numbers.{addressRecordSize}
-use Rattle.grammar.specs.Grammar.{Makes, Rule, Row, nil, leaf, branch}
-use Rattle.grammar.specs.Records.{AddressRecord, count, recordsFrom, records, recordBytes, tableBytes}
+use Rattle.octets.specs.Believed.Numbers.{addressRecordSize}
+use Rattle.grammar.specs.Believed.Grammar.{Makes, Rule, Row, nil, leaf, branch}
+use Rattle.grammar.specs.Believed.Records.{AddressRecord, count, recordsFrom, records, recordBytes, tableBytes}
 
 -- ---- a parent's number is smaller than its child's
 

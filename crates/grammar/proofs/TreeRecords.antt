@@ -4,11 +4,11 @@ use native.Mathlib.Omega.{arith}
 use mathlib.Core.Path.{_≡_, refl, sym, ap, _∙_}
 use mathlib.Core.List.{List, [], _∷_, _++_, append-assoc, append-nil}
 use mathlib.Core.Option.{Option, none, some}
-use Rattle.grammar.specs.Grammar.{Row, nil, leaf, branch, yieldThen, yield}
-use Rattle.grammar.specs.Language.{positionOf}
-use Rattle.grammar.specs.Records.{AddressRecord, recordBy, lastEnd, partOf, count, recordsFrom, records}
-use Rattle.grammar.specs.Rfc733.{Derivation, kindNumber, typedKind}
-use Rattle.grammar.specs.Rfc733 as rfc
+use Rattle.grammar.specs.Believed.Grammar.{Row, nil, leaf, branch, yieldThen, yield}
+use Rattle.grammar.specs.Believed.Language.{positionOf}
+use Rattle.grammar.specs.Believed.Records.{AddressRecord, recordBy, lastEnd, partOf, count, recordsFrom, records}
+use Rattle.grammar.specs.Believed.Rfc733.{Derivation, kindNumber, typedKind}
+use Rattle.grammar.specs.Believed.Rfc733 as rfc
 use Rattle.grammar.specs.Executable.Trees733.{Lexeme, LessThan, GreaterThan, Colon, Semicolon, Comma, At, Sym, of, Word, atomWord, quotedWord, Phrase, one, more, Nodes, first, next, Place, empty, comma, AddressList, idle, full, Address, mailbox, angle, group, quoted, typed, wordRow, phraseRow, nodeRow, nodesRow, placeRow, listRow, addressRow, asRow}
 use Rattle.grammar.proofs.Trees.{wordSymbol, phraseThen, nodesThen, listThen, addressThen}
 use Rattle.grammar.proofs.Rows.{phrase-yield, list-yield, address-yield}

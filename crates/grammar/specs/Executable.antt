@@ -3,11 +3,11 @@
 use Prim.Native.Nat.{ℕ, _≤_}
 use mathlib.Core.Path.{_≡_}
 use mathlib.Core.List.{List}
-use Rattle.scanner.specs.Symbols.{Symbol}
-use Rattle.grammar.specs.Grammar.{Grammar, Row, Derived, levels}
-use Rattle.grammar.specs.Language.{Verdict, Right}
-use Rattle.grammar.specs.Rfc733 as of733
-use Rattle.grammar.specs.Rfc822 as of822
+use Rattle.scanner.specs.Believed.Symbols.{Symbol}
+use Rattle.grammar.specs.Believed.Grammar.{Grammar, Row, Derived, levels}
+use Rattle.grammar.specs.Believed.Language.{Verdict, Right}
+use Rattle.grammar.specs.Believed.Rfc733 as of733
+use Rattle.grammar.specs.Believed.Rfc822 as of822
 use Rattle.grammar.specs.Executable.Machine733.{answer}
 use Rattle.grammar.specs.Executable.Machine822.{read}
 pub mod Machines

@@ -9,11 +9,11 @@ use borrow.Author.Tests.{le-leb, lt-leb, eq-eqb, ne-eqb}
 use lib.Dec.{eqb}
 use lib.ListN.{length, drop, getD, List·getD-eq-default}
 use lib.Seq.{getD-drop}
-use Rattle.octets.specs.Choice.{both}
-use Rattle.octets.specs.Classes.{isWhite}
-use Rattle.octets.specs.Octets.{lineFeedByte, returnByte, colonByte}
+use Rattle.octets.specs.Believed.Choice.{both}
+use Rattle.octets.specs.Believed.Classes.{isWhite}
+use Rattle.octets.specs.Believed.Octets.{lineFeedByte, returnByte, colonByte}
 use Rattle.octets.proofs.ChoiceLaws.{both-true, both-false}
-use Rattle.header.specs.Fields.{nameHolds, nameStartsWith, crlf, endsBody}
+use Rattle.header.specs.Believed.Fields.{nameHolds, nameStartsWith, crlf, endsBody}
 
 module _ (b : ℕ) where
   -- SPACE, else HTAB

@@ -8,9 +8,9 @@ use native.Mathlib.Omega.{arith}
 use borrow.Author.Tests.{eqb-true, eqb-false}
 use lib.Dec.{eqb}
 use lib.ListN.{length, drop, getD}
-use Rattle.octets.specs.Classes.{isWhite}
-use Rattle.octets.specs.Octets.{colonByte}
-use Rattle.header.specs.Fields.{Field, fieldOf, Header, field, ended, fault, fieldsOf, Place, lineStart, inName, inBody, beforeLineFeed, nameHolds, nameStartsWith, crlf, endsBody, headerAt, headerOf}
+use Rattle.octets.specs.Believed.Classes.{isWhite}
+use Rattle.octets.specs.Believed.Octets.{colonByte}
+use Rattle.header.specs.Believed.Fields.{Field, fieldOf, Header, field, ended, fault, fieldsOf, Place, lineStart, inName, inBody, beforeLineFeed, nameHolds, nameStartsWith, crlf, endsBody, headerAt, headerOf}
 use Rattle.header.proofs.ByteLaws.{crlf-last, body-other}
 use Rattle.header.proofs.HeaderLaws.{ends, moves, empty-line, name-starts, no-name, name-ends, name-fault, name-white, name-other, body-fault, body-goes, body-ends}
 

@@ -7,10 +7,10 @@ use native.Mathlib.Numerals.{add-one}
 use borrow.Author.Tests.{lt-ltb, le-ltb, eq-eqb, ne-eqb}
 use lib.ListN.{length, drop, getD, drop-of-length-le}
 use lib.Seq.{drop-cons}
-use Rattle.octets.specs.Classes.{isWhite}
-use Rattle.octets.specs.Numbers.{nameFault, byteAbove127}
-use Rattle.octets.specs.Octets.{colonByte}
-use Rattle.header.specs.Fields.{fieldOf, field, ended, fault, Place, lineStart, inName, inBody, beforeLineFeed, nameHolds, nameStartsWith, crlf, endsBody, atLineStart, atName, atBody, move, atEnd, follow, headerFrom, headerAt}
+use Rattle.octets.specs.Believed.Classes.{isWhite}
+use Rattle.octets.specs.Believed.Numbers.{nameFault, byteAbove127}
+use Rattle.octets.specs.Believed.Octets.{colonByte}
+use Rattle.header.specs.Believed.Fields.{fieldOf, field, ended, fault, Place, lineStart, inName, inBody, beforeLineFeed, nameHolds, nameStartsWith, crlf, endsBody, atLineStart, atName, atBody, move, atEnd, follow, headerFrom, headerAt}
 use Rattle.header.proofs.ByteLaws.{first-byte}
 
 module _ (message : List ℕ) where

@@ -7,11 +7,11 @@ use native.Mathlib.Numerals.{add-one}
 use lib.Dec.{T, eqb, leb, eqb→eq, leb→le}
 use lib.ListN.{length, take, drop, getD, drop-of-length-le}
 use lib.Seq.{drop-cons, getD-take}
-use Rattle.octets.specs.Choice.{both}
-use Rattle.octets.specs.Letters.{sameBytes, sameLetters}
+use Rattle.octets.specs.Believed.Choice.{both}
+use Rattle.octets.specs.Believed.Letters.{sameBytes, sameLetters}
 use Rattle.octets.proofs.LetterLaws.{same-bytes}
 use Rattle.octets.proofs.Tables.{is-true, both-left, both-right}
-use Rattle.header.specs.Names.{KnownName, knownIn}
+use Rattle.header.specs.Believed.Names.{KnownName, knownIn}
 use Rattle.header.specs.declared.names.Known.the-variants.{Date, Other}
 
 -- what `getD` gives past the known names

@@ -9,12 +9,12 @@ use borrow.Author.Tests.{lt-ltb, le-ltb}
 use lib.Dec.{ltb}
 use lib.ListN.{length, getD}
 use lib.Seq.{sets}
-use Rattle.octets.specs.Numbers.{messageLimit, fieldRecordSize, numberWidth}
-use Rattle.octets.specs.Stored.{numberAt, roomFor}
+use Rattle.octets.specs.Believed.Numbers.{messageLimit, fieldRecordSize, numberWidth}
+use Rattle.octets.specs.Believed.Stored.{numberAt, roomFor}
 use Rattle.octets.proofs.RecordsBack.{joined, number-back}
 use Rattle.octets.specs.declared.answers.Answer.the-variants.{Accepted}
-use Rattle.header.specs.Fields.{Field, Header, field, ended, fault, fieldsOf, headerOf}
-use Rattle.header.specs.Split.{recordOf, recordsOf, answerIn, answerFor, splitAnswer, splitTable}
+use Rattle.header.specs.Believed.Fields.{Field, Header, field, ended, fault, fieldsOf, headerOf}
+use Rattle.header.specs.Believed.Split.{recordOf, recordsOf, answerIn, answerFor, splitAnswer, splitTable}
 use Rattle.header.proofs.FieldLaws.{Ordered, noField, fields-ordered}
 use Rattle.header.proofs.RecordLaws.{length-record}
 

@@ -5,11 +5,11 @@ use Prim.Native.Nat.{ℕ, _+_, _*_}
 use native.Mathlib.Omega.{arith}
 use lib.ListN.{length}
 use lib.Seq.{sets}
-use Rattle.octets.specs.Numbers.{fieldRecordSize, numberWidth}
-use Rattle.octets.specs.Stored.{bytesOf}
+use Rattle.octets.specs.Believed.Numbers.{fieldRecordSize, numberWidth}
+use Rattle.octets.specs.Believed.Stored.{bytesOf}
 use Rattle.octets.proofs.Parts.{sets-append}
-use Rattle.header.specs.Fields.{Field, fieldOf, Header, field}
-use Rattle.header.specs.Split.{recordOf, recordsOf}
+use Rattle.header.specs.Believed.Fields.{Field, fieldOf, Header, field}
+use Rattle.header.specs.Believed.Split.{recordOf, recordsOf}
 
 -- four runs of one length, one behind the other, are one
 four-runs : (u v w x table : List ℕ) (i n : ℕ) → length u ≡ n → length v ≡ n → length w ≡ n

@@ -6,14 +6,14 @@ use native.Mathlib.Omega.{arith}
 use borrow.Author.Tests.{lt-ltb, le-ltb}
 use lib.ListN.{length}
 use lib.Seq.{sets, length-sets}
-use Rattle.octets.specs.Numbers.{messageLimit, fieldRecordSize, messageTooLong}
-use Rattle.octets.specs.Stored.{roomFor}
-use Rattle.octets.specs.Answers.{Answered}
+use Rattle.octets.specs.Believed.Numbers.{messageLimit, fieldRecordSize, messageTooLong}
+use Rattle.octets.specs.Believed.Stored.{roomFor}
+use Rattle.octets.specs.Believed.Answers.{Answered}
 use Rattle.octets.proofs.AnswerLaws.{answered}
 use Rattle.octets.specs.declared.answers.Answer.{Answer}
 use Rattle.octets.specs.declared.answers.Answer.the-variants.{Accepted, Refused, NoRoom}
-use Rattle.header.specs.Fields.{fieldOf, Header, ended, fault, lineStart, headerAt, headerOf}
-use Rattle.header.specs.Split.{recordOf, recordsOf, answerIn, answerFor, splitAnswer, tableAfter, splitTable}
+use Rattle.header.specs.Believed.Fields.{fieldOf, Header, ended, fault, lineStart, headerAt, headerOf}
+use Rattle.header.specs.Believed.Split.{recordOf, recordsOf, answerIn, answerFor, splitAnswer, tableAfter, splitTable}
 use Rattle.header.proofs.RecordLaws.{records-stored}
 use Rattle.header.proofs.StepLaws.{Gave}
 

@@ -1,5 +1,3 @@
 -- What document 01 says of fields and of known field names.
-pub mod Fields
-pub mod Split
-pub mod Names
-pub mod Steps
+pub mod Believed
+pub mod Ties

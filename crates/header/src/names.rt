@@ -1,8 +1,8 @@
 // The known field names.
 ghost use mathlib.Core.Path.{_≡_};
 ghost use lib.Dec.{eqb};
-ghost use Rattle.octets.specs.Letters.{lower as lowerOf};
-ghost use Rattle.header.specs.Names.{knownOf, holdsAddresses};
+ghost use Rattle.octets.specs.Believed.Letters.{lower as lowerOf};
+ghost use Rattle.header.specs.Believed.Names.{knownOf, holdsAddresses};
 use octets::letters::lower;
 
 // Which known name a name is.

@@ -11,30 +11,30 @@ use lib.Dec.{ltb}
 use lib.ListN.{length}
 use lib.Seq.{sets}
 use lib.IntN.{ℤ}
-use Rattle.octets.specs.Numbers.{addressRecordSize, tableRecords, tooLittleRoom}
-use Rattle.octets.specs.Octets.{lineFeedByte}
-use Rattle.octets.specs.Text.{bytes}
-use Rattle.octets.specs.Writing.{WroteBy}
+use Rattle.octets.specs.Believed.Numbers.{addressRecordSize, tableRecords, tooLittleRoom}
+use Rattle.octets.specs.Believed.Octets.{lineFeedByte}
+use Rattle.octets.specs.Believed.Text.{bytes}
+use Rattle.octets.specs.Ties.Writing.{WroteBy}
 use Rattle.octets.proofs.Writes.{wrote-as, wrote-three}
 use Rattle.octets.specs.declared.answers.Answer.{Answer}
 use Rattle.octets.specs.declared.answers.Answer.the-variants.{Accepted, Refused, NoRoom}
-use Rattle.header.specs.Names.{holdsAddresses}
+use Rattle.header.specs.Believed.Names.{holdsAddresses}
 use Rattle.header.specs.declared.names.Known.{Known}
 use Rattle.header.specs.declared.names.Known.the-variants as known
 use Rattle.header.proofs.names.Known.{the-type}
 use Rattle.scanner.specs.declared.Class.{Class}
-use Rattle.grammar.specs.Grammar.{Row}
-use Rattle.grammar.specs.Records.{noRecord, count, records, tableBytes, recordIn}
+use Rattle.grammar.specs.Believed.Grammar.{Row}
+use Rattle.grammar.specs.Believed.Records.{noRecord, count, records, tableBytes, recordIn}
 use Rattle.grammar.proofs.Records.{length-records}
 use Rattle.grammar.proofs.Positions.{ReadBack}
-use Rattle.addresses.specs.Outcome.{Outcome, refusal, derived, outcomeBy}
-use Rattle.editions.specs.Outcome.{outcomeOf}
+use Rattle.addresses.specs.Believed.Outcome.{Outcome, refusal, derived, outcomeBy}
+use Rattle.editions.specs.Believed.Outcome.{outcomeOf}
 use Rattle.editions.proofs.Judgements.{AnsweredBy, JudgedOf, refusedAt, listed as list-of, judged-of, unchanged-733}
 use Rattle.dates.specs.declared.DateAnswer.{DateAnswer}
 use Rattle.dates.specs.declared.DateAnswer.the-variants as date
-use Rattle.listing.specs.Lines.{signed, addressLine, refusedLine}
-use Rattle.listing.specs.Listing.{each, listed, unlessRefused, addressBody, dateText, otherBody, body}
-use Rattle.listing.specs.Putting.{tabulate}
+use Rattle.listing.specs.Believed.Lines.{signed, addressLine, refusedLine}
+use Rattle.listing.specs.Believed.Listing.{each, listed, unlessRefused, addressBody, dateText, otherBody, body}
+use Rattle.listing.specs.Ties.Putting.{tabulate}
 use Rattle.listing.proofs.TableLaws.{tabulated}
 
 module _ (edition : ℕ) (message : List ℕ) (start end : ℕ) (table : List ℕ) (size : 24576 ≡ length table) where

@@ -8,7 +8,7 @@ use native.Mathlib.Omega.{arith}
 use borrow.Author.Tests.{lt-ltb, le-ltb}
 use lib.Dec.{ltb}
 use Rattle.io.specs.Digits.{glyph, digits, Fewest}
-use Rattle.listing.specs.Lines.{digitsOf}
+use Rattle.listing.specs.Believed.Lines.{digitsOf}
 
 ten-pow : (j : ℕ) → 10 ^ suc j ≡ 10 ^ j * 10
 ten-pow j = simp unary-clauses

@@ -3,26 +3,26 @@ use mathlib.Core.Path.{_≡_, refl}
 use mathlib.Core.List.{List, [], _∷_, _++_}
 use Prim.Native.Nat.{ℕ}
 use Prim.Native.String.{String}
-use Rattle.octets.specs.Classes.{classOf, classOf822, classTable, classTable822}
-use Rattle.octets.specs.Letters.{lower, same}
-use Rattle.octets.specs.Octets.{returnByte, lineFeedByte}
-use Rattle.octets.specs.Text.{bytes}
-use Rattle.scanner.specs.Characters.{charactersFrom}
-use Rattle.scanner.specs.Kinds.{kindOf}
-use Rattle.scanner.specs.Scanning.{scanFrom, symbolsOf}
-use Rattle.scanner.specs.Answers.{unlessFault}
-use Rattle.header.specs.Fields.{nameHolds, nameStartsWith, crlf, endsBody, atLineStart, atName, atBody, headerFrom}
-use Rattle.header.specs.Names.{knownNames, knownIn}
-use Rattle.header.specs.Split.{answerIn, answerFor}
-use Rattle.dates.specs.Names.{called, place}
-use Rattle.dates.specs.Parts.{isMark, isRun, keyOf, runs, parts}
-use Rattle.dates.specs.Grammar.{number, offsetOf}
-use Rattle.dates.specs.Calendar.{leap, monthLength, daysBeforeMonth, daysOfYears, dayNumber}
-use Rattle.dates.specs.Form.{firstKey, firstBytes, after, done, digitsOf as digitsPart, named, secondAfter, minuteAfter, hourOf, zoneNamed, zoneOf, hourAfter, pastDash, yearAfter, monthAfter, dayAfter, readingOf}
-use Rattle.dates.specs.Answers.{dayExists, timeExists, nameTrue, momentOf}
-use Rattle.dates.specs.Outcome.{dateAnswer}
-use Rattle.listing.specs.Lines.{digitsOf, signed, spaced}
-use Rattle.listing.specs.Listing.{each, fieldText, listing}
+use Rattle.octets.specs.Believed.Classes.{classOf, classOf822, classTable, classTable822}
+use Rattle.octets.specs.Believed.Letters.{lower, same}
+use Rattle.octets.specs.Believed.Octets.{returnByte, lineFeedByte}
+use Rattle.octets.specs.Believed.Text.{bytes}
+use Rattle.scanner.specs.Believed.Characters.{charactersFrom}
+use Rattle.scanner.specs.Believed.Kinds.{kindOf}
+use Rattle.scanner.specs.Believed.Scanning.{scanFrom, symbolsOf}
+use Rattle.scanner.specs.Believed.Answers.{unlessFault}
+use Rattle.header.specs.Believed.Fields.{nameHolds, nameStartsWith, crlf, endsBody, atLineStart, atName, atBody, headerFrom}
+use Rattle.header.specs.Believed.Names.{knownNames, knownIn}
+use Rattle.header.specs.Believed.Split.{answerIn, answerFor}
+use Rattle.dates.specs.Believed.Names.{called, place}
+use Rattle.dates.specs.Believed.Parts.{isMark, isRun, keyOf, runs, parts}
+use Rattle.dates.specs.Believed.Grammar.{number, offsetOf}
+use Rattle.dates.specs.Believed.Calendar.{leap, monthLength, daysBeforeMonth, daysOfYears, dayNumber}
+use Rattle.dates.specs.Executable.Form.{firstKey, firstBytes, after, done, digitsOf as digitsPart, named, secondAfter, minuteAfter, hourOf, zoneNamed, zoneOf, hourAfter, pastDash, yearAfter, monthAfter, dayAfter, readingOf}
+use Rattle.dates.specs.Believed.Answers.{dayExists, timeExists, nameTrue, momentOf}
+use Rattle.dates.specs.Believed.Outcome.{dateAnswer}
+use Rattle.listing.specs.Believed.Lines.{digitsOf, signed, spaced}
+use Rattle.listing.specs.Believed.Listing.{each, fieldText, listing}
 
 -- an edition, lines of a message, each ended by CRLF, and the lines printed for it, each ended by LF
 pub record Row : Type 0 where

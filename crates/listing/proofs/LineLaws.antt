@@ -3,15 +3,15 @@ use mathlib.Core.Path.{_≡_}
 use mathlib.Core.List.{List, [], _∷_, _++_}
 use Prim.Native.Nat.{ℕ, _+_, _*_}
 use native.Mathlib.Omega.{arith}
-use Rattle.octets.specs.Numbers.{fieldRecordSize, addressRecordSize}
-use Rattle.octets.specs.Octets.{lineFeedByte}
-use Rattle.octets.specs.Stored.{numberAt}
-use Rattle.octets.specs.Text.{bytes}
-use Rattle.octets.specs.Writing.{WroteBy}
+use Rattle.octets.specs.Believed.Numbers.{fieldRecordSize, addressRecordSize}
+use Rattle.octets.specs.Believed.Octets.{lineFeedByte}
+use Rattle.octets.specs.Believed.Stored.{numberAt}
+use Rattle.octets.specs.Believed.Text.{bytes}
+use Rattle.octets.specs.Ties.Writing.{WroteBy}
 use Rattle.octets.proofs.Writes.{wrote-both}
-use Rattle.grammar.specs.Records.{recordIn}
-use Rattle.listing.specs.Lines.{spaced, fieldLine, addressLine, refusedLine}
-use Rattle.listing.specs.Putting.{number, four, fieldIn}
+use Rattle.grammar.specs.Believed.Records.{recordIn}
+use Rattle.listing.specs.Believed.Lines.{spaced, fieldLine, addressLine, refusedLine}
+use Rattle.listing.specs.Ties.Putting.{number, four, fieldIn}
 
 -- the end of a line
 abbrev ending : List ℕ → List ℕ

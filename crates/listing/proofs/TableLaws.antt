@@ -4,8 +4,8 @@ use mathlib.Core.List.{List, [], _∷_}
 use Prim.Native.Nat.{ℕ, zero, suc, _+_, _-_, _≤_, _<_}
 use native.Mathlib.Omega.{arith}
 use lib.ListN.{length, getD}
-use Rattle.listing.specs.Listing.{each}
-use Rattle.listing.specs.Putting.{tabulate}
+use Rattle.listing.specs.Believed.Listing.{each}
+use Rattle.listing.specs.Ties.Putting.{tabulate}
 
 module _ {A : Type 0} (text : A → List ℕ → List ℕ) (thing : ℕ → A) (many i : ℕ) (rest : List ℕ) where
   -- all of them are left

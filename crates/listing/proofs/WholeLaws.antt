@@ -5,16 +5,16 @@ use Prim.Native.Nat.{ℕ, _+_, _*_, _/_, _≤_, _<_}
 use native.Mathlib.Omega.{arith}
 use lib.ListN.{length, getD, drop}
 use lib.Seq.{sets}
-use Rattle.octets.specs.Numbers.{fieldRecordSize, tableRecords}
-use Rattle.octets.specs.Writing.{WroteBy, inWindow}
+use Rattle.octets.specs.Believed.Numbers.{fieldRecordSize, tableRecords}
+use Rattle.octets.specs.Ties.Writing.{WroteBy, inWindow}
 use Rattle.octets.proofs.Writes.{nothing-more, window-all}
 use Rattle.octets.specs.declared.answers.Answer.{Answer}
 use Rattle.octets.specs.declared.answers.Answer.the-variants.{Accepted, Refused, NoRoom}
-use Rattle.header.specs.Fields.{Field, fieldsOf, headerOf}
-use Rattle.header.specs.Split.{answerFor, splitAnswer, splitTable}
+use Rattle.header.specs.Believed.Fields.{Field, fieldsOf, headerOf}
+use Rattle.header.specs.Believed.Split.{answerFor, splitAnswer, splitTable}
 use Rattle.header.proofs.FieldLaws.{noField, fields-ordered}
 use Rattle.header.proofs.ReadBack.{Stands, accept}
-use Rattle.listing.specs.Putting.{tabulate, fieldIn, Named, Holds, Fits}
+use Rattle.listing.specs.Ties.Putting.{tabulate, fieldIn, Named, Holds, Fits}
 use Rattle.listing.proofs.TableLaws.{tabulated}
 
 -- a text that is written from its start on

@@ -1,4 +1,3 @@
 -- Document 01, "Checked examples": what the program prints for a message.
-pub mod Lines
-pub mod Listing
-pub mod Putting
+pub mod Believed
+pub mod Ties

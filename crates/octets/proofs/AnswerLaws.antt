@@ -2,7 +2,7 @@
 use Prim.Native.Nat.{ℕ}
 use mathlib.Core.Path.{_≡_, ap}
 use mathlib.Core.List.{List}
-use Rattle.octets.specs.Answers.{told, Answered}
+use Rattle.octets.specs.Believed.Answers.{told, Answered}
 use Rattle.octets.specs.declared.answers.Answer.{Answer}
 
 pub answered : {answer r : Answer} {bytes after : List ℕ} → r ≡ answer → after ≡ bytes → Answered answer bytes r after

@@ -4,7 +4,7 @@ use mathlib.Core.Logic.{_⊎_, inl, inr}
 use mathlib.Core.Bool.{Bool, true, false}
 use Prim.Native.Nat.{ℕ}
 use native.Mathlib.Omega.{arith}
-use Rattle.octets.specs.Choice.{both, either}
+use Rattle.octets.specs.Believed.Choice.{both, either}
 
 pub both-true : (t : Bool) → both t true ≡ t
 both-true true = refl

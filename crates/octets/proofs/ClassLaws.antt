@@ -5,8 +5,8 @@ use mathlib.Core.Path.{_≡_}
 use mathlib.Core.List.{List}
 use lib.Dec.{T, eqb, eqb→eq}
 use lib.ListN.{length, getD}
-use Rattle.octets.specs.Tests.{every}
-use Rattle.octets.specs.Classes.{classOf, isClassOf, byRange}
+use Rattle.octets.specs.Believed.Tests.{every}
+use Rattle.octets.specs.Believed.Classes.{classOf, isClassOf, byRange}
 use Rattle.octets.proofs.Tables.{both-left, both-right, at}
 
 pub entry : (table : List ℕ) → T (byRange table) → (b : ℕ) → b < 256 → getD table b 0 ≡ classOf b

@@ -9,8 +9,8 @@ use borrow.Author.Tests.{le-leb, lt-leb, eq-eqb, ne-eqb, eqb-true}
 use lib.Dec.{eqb}
 use lib.ListN.{length, drop, getD, drop-of-length-le}
 use lib.Seq.{drop-cons}
-use Rattle.octets.specs.Choice.{both}
-use Rattle.octets.specs.Letters.{lower, same, sameBytes}
+use Rattle.octets.specs.Believed.Choice.{both}
+use Rattle.octets.specs.Believed.Letters.{lower, same, sameBytes}
 use Rattle.octets.proofs.ChoiceLaws.{both-false, both-parts}
 
 -- only a capital letter has another small letter

@@ -7,7 +7,7 @@ use native.Mathlib.Numerals.{add-one}
 use native.Mathlib.Omega.{arith}
 use lib.ListN.{length, getD, take, drop, set, length-drop}
 use lib.Seq.{sets, sets-eq, drop-at, drop-cons, drop-drop, take-append-seam, take-set-le, take-nil, take-take, drop-set-lt, set-comm, set-out, length-take-le, getD-set-other}
-use Rattle.octets.specs.Text.{part}
+use Rattle.octets.specs.Believed.Text.{part}
 
 module _ {A : Type 0} where
   -- a part of no elements in front of the rest changes nothing

@@ -6,7 +6,7 @@ use native.Mathlib.Nat.{zero-mul, suc-mul, mul-le-mul-right}
 use native.Mathlib.Omega.{arith}
 use lib.ListN.{length, getD, drop, length-append, List·getD-append}
 use lib.Seq.{sets, getD-take, getD-drop, getD-append-add}
-use Rattle.octets.specs.Stored.{bytesOf, bytesAt, numberFrom, numberAt}
+use Rattle.octets.specs.Believed.Stored.{bytesOf, bytesAt, numberFrom, numberAt}
 use Rattle.octets.proofs.Parts.{part-sets}
 use Rattle.octets.proofs.StoredLaws.{number-bytesOf}
 

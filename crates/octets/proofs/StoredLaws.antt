@@ -10,7 +10,7 @@ use lib.Dec.{lit<}
 use lib.ListN.{length, getD, take, drop, set, length-append, List·getD-eq-default}
 use lib.Seq.{sets, length-sets, drop-cons, sets-eq, take-at, drop-at, take-append-le, length-take-le}
 use Rattle.octets.proofs.Parts.{part-sets}
-use Rattle.octets.specs.Stored.{bytesOf, bytesAt, numberFrom, numberAt}
+use Rattle.octets.specs.Believed.Stored.{bytesOf, bytesAt, numberFrom, numberAt}
 
 -- as many bytes as the width says
 pub length-bytesOf : (width x : ℕ) → length (bytesOf width x) ≡ width

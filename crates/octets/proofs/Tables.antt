@@ -6,8 +6,8 @@ use Prim.Native.Nat.{ℕ, zero, suc, _+_, _<_}
 use native.Mathlib.Nat.{add-zero, zero-add, add-suc, suc-add, le-of-suc-le-suc, not-suc-le-zero}
 use lib.Dec.{T}
 use lib.ListN.{length, getD}
-use Rattle.octets.specs.Choice.{both}
-use Rattle.octets.specs.Tests.{every}
+use Rattle.octets.specs.Believed.Choice.{both}
+use Rattle.octets.specs.Believed.Tests.{every}
 
 pub is-true : (t : Bool) → T t → t ≡ true
 is-true true h = refl

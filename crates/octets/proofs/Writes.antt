@@ -10,8 +10,8 @@ use borrow.Author.Tests.{le-leb, lt-leb}
 use lib.ListN.{length, drop, set, drop-of-length-le}
 use lib.Seq.{sets, sets-eq}
 use Rattle.octets.specs.declared.answers.Answer.the-variants.{Accepted, NoRoom}
-use Rattle.octets.specs.Writing.{WroteBy, Wrote, inWindow}
-use Rattle.octets.specs.Fitting.{fittingAnswer, fittingText}
+use Rattle.octets.specs.Ties.Writing.{WroteBy, Wrote, inWindow}
+use Rattle.octets.specs.Believed.Fitting.{fittingAnswer, fittingText}
 use Rattle.octets.proofs.Parts.{no-front}
 
 -- ---- texts written

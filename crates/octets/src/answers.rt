@@ -1,6 +1,6 @@
 // The answer of an entry point.
 ghost use mathlib.Core.Path.{_≡_};
-ghost use Rattle.octets.specs.Answers.{numberOf, positionOf, countOf};
+ghost use Rattle.octets.specs.Believed.Answers.{numberOf, positionOf, countOf};
 use crate::numbers::ACCEPTED;
 use crate::numbers::TOO_LITTLE_ROOM;
 

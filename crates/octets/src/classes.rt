@@ -2,7 +2,7 @@
 ghost use mathlib.Core.Path.{_≡_};
 ghost use lib.Dec.{T};
 ghost use lib.ListN.{getD};
-ghost use Rattle.octets.specs.Classes.{classOf, byRange};
+ghost use Rattle.octets.specs.Believed.Classes.{classOf, byRange};
 
 pub const WHITE: u8 = 0;
 

@@ -1,6 +1,6 @@
 // Letter case, and equality of two texts with case ignored and without.
 ghost use mathlib.Core.Path.{_≡_};
-ghost use Rattle.octets.specs.Letters.{lower as lowerOf, sameBytes, sameLetters};
+ghost use Rattle.octets.specs.Believed.Letters.{lower as lowerOf, sameBytes, sameLetters};
 
 // The small letter of a capital one; any other byte is itself.
 pub fn lower(b: u8) -> u8

@@ -2,7 +2,7 @@
 ghost use mathlib.Core.Path.{_≡_};
 ghost use lib.ListN.{set};
 ghost use lib.Seq.{sets};
-ghost use Rattle.octets.specs.Stored.{bytesOf, numberAt};
+ghost use Rattle.octets.specs.Believed.Stored.{bytesOf, numberAt};
 
 // Store a byte at a place; past the end nothing is stored.
 pub fn store_byte(table: &mut [u8], at: usize, b: u8)

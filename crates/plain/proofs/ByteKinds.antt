@@ -9,13 +9,13 @@ use borrow.Author.Tests.{ne-eqb, ltb-true}
 use lib.Dec.{ltb, eqb, T}
 use lib.ListN.{getD, List·getD-eq-default}
 use mir.Val.{hasKey}
-use Rattle.octets.specs.Choice.{pick, either}
-use Rattle.octets.specs.Classes.{classOf, classTable, white, control, letter, openParenthesis, closeParenthesis, lessThan, greaterThan, atSign, comma, semicolon, colon, backslash, quote, above127, dot, openBracket, closeBracket}
+use Rattle.octets.specs.Believed.Choice.{pick, either}
+use Rattle.octets.specs.Believed.Classes.{classOf, classTable, white, control, letter, openParenthesis, closeParenthesis, lessThan, greaterThan, atSign, comma, semicolon, colon, backslash, quote, above127, dot, openBracket, closeBracket}
 use Rattle.octets.proofs.Tables.{is-true, at}
-use Rattle.octets.specs.Tests.{every}
-use Rattle.scanner.specs.Kinds.{kindOfClass, kindOf}
+use Rattle.octets.specs.Believed.Tests.{every}
+use Rattle.scanner.specs.Believed.Kinds.{kindOfClass, kindOf}
 use Rattle.scanner.proofs.MoveLaws.{tag}
-use Rattle.plain.specs.PlainText.{needsBackslash}
+use Rattle.plain.specs.Believed.PlainText.{needsBackslash}
 
 -- ---- the kinds of RFC 733 by cases
 

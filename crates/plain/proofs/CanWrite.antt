@@ -7,7 +7,7 @@ use borrow.Author.Tests.{ltb-true, leb-true, lt-ltb, le-ltb, le-leb, lt-leb}
 use lib.Dec.{leb}
 use lib.ListN.{length}
 use Rattle.octets.proofs.ChoiceLaws.{both-parts}
-use Rattle.plain.specs.Writing.{textLimit, writtenLimit, canWrite}
+use Rattle.plain.specs.Ties.Writing.{textLimit, writtenLimit, canWrite}
 
 module _ (text : List ℕ) (start end n : ℕ) where
   -- it stands in the text, and a count holds what is written

@@ -8,28 +8,28 @@ use mathlib.Core.Option.{Option, none, some}
 use lib.Dec.{T, leb, leb→le}
 use lib.ListN.{length, take, getD}
 use lib.Seq.{take-length}
-use Rattle.octets.specs.Classes.{classOf, classTable}
-use Rattle.octets.specs.Choice.{both}
-use Rattle.octets.specs.Letters.{lower, same, sameBytes}
-use Rattle.octets.specs.Numbers.{messageLimit, levelLimit}
-use Rattle.octets.specs.Text.{bytes}
+use Rattle.octets.specs.Believed.Classes.{classOf, classTable}
+use Rattle.octets.specs.Believed.Choice.{both}
+use Rattle.octets.specs.Believed.Letters.{lower, same, sameBytes}
+use Rattle.octets.specs.Believed.Numbers.{messageLimit, levelLimit}
+use Rattle.octets.specs.Believed.Text.{bytes}
 use Rattle.octets.specs.declared.answers.Answer.the-variants.{Accepted, Refused}
 use Rattle.octets.proofs.Tables.{is-true, at, both-left, both-right}
-use Rattle.octets.specs.Tests.{every}
+use Rattle.octets.specs.Believed.Tests.{every}
 use Rattle.octets.proofs.LetterLaws.{same-bytes}
-use Rattle.scanner.specs.Kinds.{kindOf}
-use Rattle.scanner.specs.Characters.{charactersFrom}
-use Rattle.scanner.specs.Scanning.{Scanned, ended, next, faultAt, scanFrom, scan, symbolsOf}
+use Rattle.scanner.specs.Believed.Kinds.{kindOf}
+use Rattle.scanner.specs.Believed.Characters.{charactersFrom}
+use Rattle.scanner.specs.Believed.Scanning.{Scanned, ended, next, faultAt, scanFrom, scan, symbolsOf}
 use Rattle.scanner.proofs.BodyChecks.{in-order}
-use Rattle.scanner.specs.Answers.{unlessFault, faultOf}
-use Rattle.grammar.specs.Language.{Verdict, accepted, refused}
-use Rattle.grammar.specs.Grammar.{levels}
-use Rattle.grammar.specs.Rfc733.{Derivation, DerivedList}
+use Rattle.scanner.specs.Believed.Answers.{unlessFault, faultOf}
+use Rattle.grammar.specs.Believed.Language.{Verdict, accepted, refused}
+use Rattle.grammar.specs.Believed.Grammar.{levels}
+use Rattle.grammar.specs.Believed.Rfc733.{Derivation, DerivedList}
 use Rattle.grammar.specs.Executable.Trees733.{Class}
 use Rattle.grammar.specs.Executable.Machine733.{answer}
 use Rattle.grammar.proofs.Condition3.{answer-derives}
-use Rattle.plain.specs.PlainText.{plainText}
-use Rattle.plain.specs.RoundTrip.{AcceptedBody}
+use Rattle.plain.specs.Believed.PlainText.{plainText}
+use Rattle.plain.specs.Believed.RoundTrip.{AcceptedBody}
 
 -- ---- the plain text of a body, if it is accepted
 

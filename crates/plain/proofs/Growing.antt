@@ -5,16 +5,16 @@ use mathlib.Core.Path.{_≡_, refl, sym, ap, ap₂, _∙_}
 use mathlib.Core.Bool.{Bool, true, false}
 use mathlib.Core.List.{List, [], _∷_}
 use mathlib.Core.Option.{Option, none, some}
-use Rattle.octets.specs.Choice.{pick}
-use Rattle.octets.specs.Text.{bytes}
-use Rattle.grammar.specs.Rfc733.{kindNumber}
-use Rattle.grammar.specs.Rfc733 as rfc733
+use Rattle.octets.specs.Believed.Choice.{pick}
+use Rattle.octets.specs.Believed.Text.{bytes}
+use Rattle.grammar.specs.Believed.Rfc733.{kindNumber}
+use Rattle.grammar.specs.Believed.Rfc733 as rfc733
 use Rattle.grammar.specs.Executable.Trees733.{Class, Atom, Quoted, At, LessThan, GreaterThan, Comma, Semicolon, Colon, Lexeme, Sym, of, atomWord, quotedWord, Phrase, one, more, Nodes, first, next, Place, comma, AddressList, idle, full}
 use Rattle.grammar.proofs.Trees.{wordSymbol, phraseThen, nameThen, nodesThen, placeThen, listThen, addressThen, houseRule, placeLawful, listLawful, addressLawful, listLevels, DerivedTree}
 use Rattle.grammar.specs.Executable.Trees733 as trees
 use Rattle.grammar.proofs.HouseRule.{placeAtomGroup, listAtomGroup, atomColon-list}
-use Rattle.plain.specs.Meaning.{Word, atom, quotedString, Words, noWord, andWord, Addresses, noAddress, andAddress, Address, address}
-use Rattle.plain.specs.PlainText.{atomGroup, firstAtomGroup}
+use Rattle.plain.specs.Believed.Meaning.{Word, atom, quotedString, Words, noWord, andWord, Addresses, noAddress, andAddress, Address, address}
+use Rattle.plain.specs.Believed.PlainText.{atomGroup, firstAtomGroup}
 use Rattle.plain.proofs.TreeMeanings.{wordMeaning, phraseMeaning, nameMeaning, nodesMeaning, placeMeaning, listMeaning, addressMeaning, typedMeaning, atom-group, addressesDepth, list-depth}
 use Rattle.plain.proofs.Writable.{WritablePhrase, WritableList, empty, also, WritableAddress, mailbox, angle, group, quoted, typed, listOf, addressOf, Mark, mark, marks, wordMarks, phraseMarks, atMark, nodesMarks, commaMark, gapMarks, listMarks, addressMarks}
 

@@ -3,21 +3,21 @@ use mathlib.Core.Path.{_≡_, sym, ap, _∙_}
 use mathlib.Core.List.{List}
 use Prim.Native.Nat.{ℕ}
 use lib.ListN.{take}
-use Rattle.octets.specs.Classes.{classTable}
-use Rattle.octets.specs.Answers.{told}
+use Rattle.octets.specs.Believed.Classes.{classTable}
+use Rattle.octets.specs.Believed.Answers.{told}
 use Rattle.octets.proofs.AnswerLaws.{answered}
-use Rattle.octets.specs.Fitting.{fittingAnswer, fittingText}
+use Rattle.octets.specs.Believed.Fitting.{fittingAnswer, fittingText}
 use Rattle.octets.specs.declared.answers.Answer.{Answer}
 use Rattle.octets.specs.declared.answers.Answer.the-variants.{Refused}
-use Rattle.grammar.specs.Rfc733.{Derivation}
-use Rattle.addresses.specs.Outcome.{Outcome, AnsweredBy, refusal, outcome}
+use Rattle.grammar.specs.Believed.Rfc733.{Derivation}
+use Rattle.addresses.specs.Believed.Outcome.{Outcome, AnsweredBy, refusal, outcome}
 use Rattle.addresses.proofs.Judgements.{ListBody, listed-read, scanned-body, scanned-unlisted, unscanned, list-scanned}
 use Rattle.addresses.proofs.Told.{SomeList, refused-told}
-use Rattle.plain.specs.PlainText.{plainText}
-use Rattle.plain.specs.Walking.{writtenText}
-use Rattle.plain.specs.RoundTrip.{AcceptedBody}
-use Rattle.plain.specs.Condition2.{Condition2}
-use Rattle.plain.specs.Written.{written, plainOutcome}
+use Rattle.plain.specs.Believed.PlainText.{plainText}
+use Rattle.plain.specs.Ties.Walking.{writtenText}
+use Rattle.plain.specs.Believed.RoundTrip.{AcceptedBody}
+use Rattle.plain.specs.Believed.Condition2.{Condition2}
+use Rattle.plain.specs.Believed.Written.{written, plainOutcome}
 use Rattle.plain.proofs.RoundTrips.{round-trip, written-accepted}
 
 module _ (message : List ℕ) (start end : ℕ) where

@@ -7,13 +7,13 @@ use native.Mathlib.Omega.{arith}
 use borrow.Author.Tests.{eqb-true, lt-ltb, le-ltb}
 use lib.Dec.{eqb, ltb}
 use lib.ListN.{length, getD}
-use Rattle.octets.specs.Choice.{pick}
-use Rattle.octets.specs.Classes.{white, control, openParenthesis, closeParenthesis, lessThan, greaterThan, atSign, comma, semicolon, colon, backslash, quote, above127, dot, openBracket, closeBracket}
-use Rattle.scanner.specs.Kinds.{kindOfClass, kindOf}
-use Rattle.scanner.specs.Characters.{Character, character, foldAt, charactersAt}
+use Rattle.octets.specs.Believed.Choice.{pick}
+use Rattle.octets.specs.Believed.Classes.{white, control, openParenthesis, closeParenthesis, lessThan, greaterThan, atSign, comma, semicolon, colon, backslash, quote, above127, dot, openBracket, closeBracket}
+use Rattle.scanner.specs.Believed.Kinds.{kindOfClass, kindOf}
+use Rattle.scanner.specs.Believed.Characters.{Character, character, foldAt, charactersAt}
 use Rattle.scanner.proofs.CharacterLaws.{no-character, plain-at, fold-at, fold-within}
-use Rattle.scanner.specs.Meanings.{Walk, inside, taking, datum, walked, dataFrom}
-use Rattle.plain.specs.Writing.{roleOf}
+use Rattle.scanner.specs.Ties.Meanings.{Walk, inside, taking, datum, walked, dataFrom}
+use Rattle.plain.specs.Ties.Writing.{roleOf}
 use Rattle.plain.specs.declared.Role.{Role}
 use Rattle.plain.specs.declared.Role.the-variants.{Datum, Takes, Closes}
 

@@ -8,22 +8,22 @@ use lib.Dec.{eqb, T}
 use lib.ListN.{getD}
 use mir.Val.{hasKey}
 use types.Run.{hit}
-use Rattle.octets.specs.Choice.{pick, either}
-use Rattle.octets.specs.Classes.{classOf, classTable, letter, backslash, quote}
-use Rattle.octets.specs.Letters.{lower, same}
-use Rattle.octets.specs.Text.{bytes}
+use Rattle.octets.specs.Believed.Choice.{pick, either}
+use Rattle.octets.specs.Believed.Classes.{classOf, classTable, letter, backslash, quote}
+use Rattle.octets.specs.Believed.Letters.{lower, same}
+use Rattle.octets.specs.Believed.Text.{bytes}
 use Rattle.octets.specs.declared.answers.Answer.the-variants.{Accepted}
 use Rattle.octets.proofs.ChoiceLaws.{both-false}
-use Rattle.scanner.specs.Symbols.{Symbol}
-use Rattle.scanner.specs.Kinds.{kindOfClass, kindOf}
-use Rattle.scanner.specs.Characters.{foldAt, none, charactersFrom}
-use Rattle.scanner.specs.Scanning.{Scanned, ended, next, State, outside, inAtom, inQuoted, takingInQuoted, atomClass, move, then, scanFrom, symbolsOf}
-use Rattle.scanner.specs.Scanning as scanning
-use Rattle.scanner.specs.Answers.{unlessFault, faultOf}
+use Rattle.scanner.specs.Believed.Symbols.{Symbol}
+use Rattle.scanner.specs.Believed.Kinds.{kindOfClass, kindOf}
+use Rattle.scanner.specs.Believed.Characters.{foldAt, none, charactersFrom}
+use Rattle.scanner.specs.Believed.Scanning.{Scanned, ended, next, State, outside, inAtom, inQuoted, takingInQuoted, atomClass, move, then, scanFrom, symbolsOf}
+use Rattle.scanner.specs.Believed.Scanning as scanning
+use Rattle.scanner.specs.Believed.Answers.{unlessFault, faultOf}
 use Rattle.scanner.proofs.MoveLaws.{tag, quoted-data, taken}
 use Rattle.grammar.specs.Executable.Trees733.{Class, Atom, Quoted, LessThan, GreaterThan, Semicolon, Colon}
-use Rattle.plain.specs.Meaning.{Word, atom, quotedString, Words, noWord, andWord, Addresses, noAddress, andAddress}
-use Rattle.plain.specs.PlainText.{needsBackslash, backslashText, dataText, quotedText, wordText, spaceBehind, phraseText, nodesText, firstAtomGroup, groupGap, commaBehind, addressesText, addressText}
+use Rattle.plain.specs.Believed.Meaning.{Word, atom, quotedString, Words, noWord, andWord, Addresses, noAddress, andAddress}
+use Rattle.plain.specs.Believed.PlainText.{needsBackslash, backslashText, dataText, quotedText, wordText, spaceBehind, phraseText, nodesText, firstAtomGroup, groupGap, commaBehind, addressesText, addressText}
 use Rattle.plain.proofs.TreeMeanings.{typed-text}
 use Rattle.plain.proofs.ByteKinds.{KindView, isWhite, isControl, isReturn, isPlain, isOpen, isClose, isLess, isGreater, isAt, isComma, isSemicolon, isColon, isBackslash, isQuote, isAbove, dataKeys, takenKeys, IsPlain, IsDatum}
 use Rattle.plain.proofs.Writable.{Each, WritableAtom, WritableWord, WritableWords, WritablePhrase, WritableList, empty, also, WritableAddress, mailbox, angle, group, quoted, typed, listOf, addressOf, Mark, mark, marks, wordMarks, phraseMarks, atMark, nodesMarks, commaMark, commaMarks, gapMarks, listMarks, addressMarks}

@@ -5,24 +5,24 @@ use mathlib.Core.Path.{_≡_, sym, ap, _∙_}
 use mathlib.Core.List.{List, []}
 use lib.ListN.{length, take}
 use lib.Seq.{take-length}
-use Rattle.octets.specs.Classes.{classTable}
-use Rattle.octets.specs.Numbers.{messageLimit, levelLimit}
+use Rattle.octets.specs.Believed.Classes.{classTable}
+use Rattle.octets.specs.Believed.Numbers.{messageLimit, levelLimit}
 use Rattle.octets.specs.declared.answers.Answer.the-variants.{Accepted, Refused}
-use Rattle.scanner.specs.Scanning.{symbolsOf, scan}
-use Rattle.scanner.specs.Answers.{faultOf}
+use Rattle.scanner.specs.Believed.Scanning.{symbolsOf, scan}
+use Rattle.scanner.specs.Believed.Answers.{faultOf}
 use Rattle.scanner.proofs.BodyChecks.{in-order}
-use Rattle.grammar.specs.Grammar.{levels}
-use Rattle.grammar.specs.Language.{accepted}
-use Rattle.grammar.specs.Rfc733.{Derivation, DerivedList}
+use Rattle.grammar.specs.Believed.Grammar.{levels}
+use Rattle.grammar.specs.Believed.Language.{accepted}
+use Rattle.grammar.specs.Believed.Rfc733.{Derivation, DerivedList}
 use Rattle.grammar.proofs.Trees.{listThen}
 use Rattle.grammar.specs.Executable.Trees733.{asRow}
 use Rattle.grammar.proofs.Rows.{row-levels, row-derived, tree-derived}
 use Rattle.grammar.specs.Executable.Machine733.{answer}
 use Rattle.grammar.proofs.Condition3.{one-derivation, answer-accepts}
-use Rattle.plain.specs.Meaning.{Addresses, meaning, SameAddresses}
-use Rattle.plain.specs.PlainText.{addressesText, plainText}
-use Rattle.plain.specs.Walking.{writtenText}
-use Rattle.plain.specs.RoundTrip.{AcceptedBody, RoundTrip}
+use Rattle.plain.specs.Believed.Meaning.{Addresses, meaning, SameAddresses}
+use Rattle.plain.specs.Believed.PlainText.{addressesText, plainText}
+use Rattle.plain.specs.Ties.Walking.{writtenText}
+use Rattle.plain.specs.Believed.RoundTrip.{AcceptedBody, RoundTrip}
 use Rattle.plain.proofs.TreeMeanings.{listMeaning, meaning-row, addressesDepth, list-depth}
 use Rattle.plain.proofs.Writable.{WritableList, listOf}
 use Rattle.plain.proofs.Reading.{seen-faultless, seen-marks, reads-plain}

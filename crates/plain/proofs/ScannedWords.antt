@@ -9,25 +9,25 @@ use mathlib.Core.Logic.{_⊎_, inl, inr, ⊎-elim}
 use borrow.Author.Tests.{eqb-true}
 use lib.Dec.{eqb}
 use lib.ListN.{getD}
-use Rattle.octets.specs.Choice.{pick}
-use Rattle.octets.specs.Classes.{classOf, classTable, letter, white}
-use Rattle.octets.specs.Classes as classes
-use Rattle.octets.specs.Letters.{sameLetters}
-use Rattle.octets.specs.Octets.{lineFeedByte, returnByte}
-use Rattle.octets.specs.Text.{bytes}
+use Rattle.octets.specs.Believed.Choice.{pick}
+use Rattle.octets.specs.Believed.Classes.{classOf, classTable, letter, white}
+use Rattle.octets.specs.Believed.Classes as classes
+use Rattle.octets.specs.Believed.Letters.{sameLetters}
+use Rattle.octets.specs.Believed.Octets.{lineFeedByte, returnByte}
+use Rattle.octets.specs.Believed.Text.{bytes}
 use Rattle.octets.proofs.ChoiceLaws.{both-parts, either-parts}
-use Rattle.scanner.specs.Kinds.{kindOfClass, kindOf, characterKind}
-use Rattle.scanner.specs.Characters.{Character, character, foldAt, InFold, lineFeed, charactersFrom, charactersAt}
-use Rattle.scanner.specs.Characters as characters
-use Rattle.scanner.specs.Scanning.{Scanned, next, faultAt, State, outside, inAtom, inQuoted, takingInQuoted, inLiteral, takingInLiteral, inComment, takingInComment, Move, go, halt, atomClass, moveOutside, endingWith, moveInAtom, moveInQuoted, closed, moveInComment, take, move, atEnd, followedBy, then, scanFrom, scan, symbolsOf}
-use Rattle.scanner.specs.Scanning as scanning
+use Rattle.scanner.specs.Believed.Kinds.{kindOfClass, kindOf, characterKind}
+use Rattle.scanner.specs.Believed.Characters.{Character, character, foldAt, InFold, lineFeed, charactersFrom, charactersAt}
+use Rattle.scanner.specs.Believed.Characters as characters
+use Rattle.scanner.specs.Believed.Scanning.{Scanned, next, faultAt, State, outside, inAtom, inQuoted, takingInQuoted, inLiteral, takingInLiteral, inComment, takingInComment, Move, go, halt, atomClass, moveOutside, endingWith, moveInAtom, moveInQuoted, closed, moveInComment, take, move, atEnd, followedBy, then, scanFrom, scan, symbolsOf}
+use Rattle.scanner.specs.Believed.Scanning as scanning
 use Rattle.scanner.proofs.MoveLaws.{tag}
 use Rattle.grammar.specs.Executable.Trees733.{Class, Atom, Quoted, At, LessThan, GreaterThan, Comma, Semicolon, Colon, Stray, Dot, Literal, Sym, of, atomWord, quotedWord, Phrase, one, more, Nodes, first, Place, comma, AddressList, idle, full}
 use Rattle.grammar.proofs.Trees.{wordSymbol, phraseThen, nameThen, nodesThen, placeThen, listThen, addressThen}
 use Rattle.grammar.specs.Executable.Trees733 as trees
-use Rattle.grammar.specs.Rfc733.{kindNumber}
-use Rattle.grammar.specs.Rfc733 as rfc733
-use Rattle.plain.specs.Meaning.{noWord, Addresses, andAddress, Address, address}
+use Rattle.grammar.specs.Believed.Rfc733.{kindNumber}
+use Rattle.grammar.specs.Believed.Rfc733 as rfc733
+use Rattle.plain.specs.Believed.Meaning.{noWord, Addresses, andAddress, Address, address}
 use Rattle.plain.proofs.TreeMeanings.{wordMeaning, phraseMeaning, nameMeaning, nodesMeaning, placeMeaning, listMeaning, addressMeaning, typedMeaning}
 use Rattle.plain.proofs.ByteKinds.{KindView, isWhite, isControl, isReturn, isPlain, isOpen, isClose, isLess, isGreater, isAt, isComma, isSemicolon, isColon, isBackslash, isQuote, isAbove, byte-view, IsPlain, IsDatum, aboveTag, datum}
 use Rattle.plain.proofs.Writable.{Each, WritableAtom, WritableWord, WritableWords, WritablePhrase, WritableList, empty, also, WritableAddress, mailbox, angle, group, quoted, typed, listOf, addressOf}

@@ -6,21 +6,21 @@ use mathlib.Core.Bool.{Bool, true, false}
 use mathlib.Core.List.{List, [], _∷_, _++_, append-nil}
 use mathlib.Core.Option.{Option, none, some}
 use lib.Dec.{eqb}
-use Rattle.octets.specs.Choice.{pick, either}
-use Rattle.octets.specs.Letters.{sameLetters}
-use Rattle.octets.specs.Text.{bytes}
-use Rattle.grammar.specs.Grammar.{nil, leaf}
-use Rattle.grammar.specs.Records.{partOf}
-use Rattle.grammar.specs.Rfc733.{Derivation, include, postal, otherTyped, kindNumber, typedKind}
-use Rattle.grammar.specs.Rfc733 as rfc733
+use Rattle.octets.specs.Believed.Choice.{pick, either}
+use Rattle.octets.specs.Believed.Letters.{sameLetters}
+use Rattle.octets.specs.Believed.Text.{bytes}
+use Rattle.grammar.specs.Believed.Grammar.{nil, leaf}
+use Rattle.grammar.specs.Believed.Records.{partOf}
+use Rattle.grammar.specs.Believed.Rfc733.{Derivation, include, postal, otherTyped, kindNumber, typedKind}
+use Rattle.grammar.specs.Believed.Rfc733 as rfc733
 use Rattle.grammar.specs.Executable.Trees733.{Atom, Colon, LessThan, GreaterThan, Semicolon, Lexeme, Sym, of, atomWord, quotedWord, Phrase, one, more, Nodes, first, next, Place, empty, comma, AddressList, idle, full, mailbox, angle, group, quoted, typed, wordRow, phraseRow, nodesRow, placeRow, listRow, addressRow, asRow}
 use Rattle.grammar.proofs.Trees.{phraseThen, nodesThen, placeLevels, listLevels, addressLevels}
 use Rattle.grammar.specs.Executable.Trees733 as trees
 use Rattle.grammar.proofs.HouseRule as house
 use Rattle.grammar.proofs.Rows.{nodes-yield}
 use Rattle.grammar.proofs.TreeRecords.{part-phrase}
-use Rattle.plain.specs.Meaning.{Word, atom, quotedString, Words, noWord, andWord, Addresses, noAddress, andAddress, Address, address, wordsAfter, wordsOf, nodesOf, addressesAfter, meaning}
-use Rattle.plain.specs.PlainText.{atomGroup, addressText}
+use Rattle.plain.specs.Believed.Meaning.{Word, atom, quotedString, Words, noWord, andWord, Addresses, noAddress, andAddress, Address, address, wordsAfter, wordsOf, nodesOf, addressesAfter, meaning}
+use Rattle.plain.specs.Believed.PlainText.{atomGroup, addressText}
 
 -- ---- the meaning of a tree
 

@@ -8,21 +8,21 @@ use lib.ListN.{length}
 use lib.Seq.{sets}
 use types.Run.{OneOf, miss}
 use denote.Enum.Declared.{tagOf}
-use Rattle.octets.specs.Writing.{Wrote}
+use Rattle.octets.specs.Ties.Writing.{Wrote}
 use Rattle.octets.proofs.Writes.{wrote-nothing, wrote-both}
 use Rattle.scanner.proofs.Class.{the-type as class-type}
 use Rattle.scanner.proofs.Next.{the-type as next-type}
-use Rattle.grammar.specs.Rfc733.{sameClass}
-use Rattle.scanner.specs.Scanning.{Scanned, ended, next, faultAt, symbolsOf, scanBy}
-use Rattle.scanner.specs.Answers.{nextOf}
+use Rattle.grammar.specs.Believed.Rfc733.{sameClass}
+use Rattle.scanner.specs.Believed.Scanning.{Scanned, ended, next, faultAt, symbolsOf, scanBy}
+use Rattle.scanner.specs.Believed.Answers.{nextOf}
 use Rattle.scanner.specs.declared.Class.{Class}
 use Rattle.scanner.specs.declared.Class.the-variants.{Atom, Quoted, At, LessThan, GreaterThan, Comma, Semicolon, Colon, Stray, Dot, Literal}
 use Rattle.scanner.specs.declared.Next.{Next}
 use Rattle.scanner.specs.declared.Next.the-variants.{Found, Ended, Fault}
-use Rattle.scanner.specs.Meanings.{meaningAt}
+use Rattle.scanner.specs.Ties.Meanings.{meaningAt}
 use Rattle.scanner.proofs.Unfolding.{SymbolAt, Unfolded, no-symbol, a-symbol, a-fault, unfolded, found}
-use Rattle.plain.specs.Walking.{gapText, symbolText, after, colonNext, walkText, textFrom, writtenText}
-use Rattle.plain.specs.Writing.{textLimit, isColon}
+use Rattle.plain.specs.Ties.Walking.{gapText, symbolText, after, colonNext, walkText, textFrom, writtenText}
+use Rattle.plain.specs.Ties.Writing.{textLimit, isColon}
 use Rattle.plain.specs.declared.places.Gap.{Gap}
 use Rattle.plain.specs.declared.places.Place.{Place}
 use Rattle.plain.specs.declared.places.Place.the-variants.{Start}

@@ -3,14 +3,14 @@ use Prim.Native.Nat.{ℕ}
 use mathlib.Core.Path.{_≡_}
 use mathlib.Core.Bool.{false}
 use mathlib.Core.List.{List, [], _∷_}
-use Rattle.octets.specs.Choice.{pick}
-use Rattle.octets.specs.Letters.{sameLetters}
-use Rattle.octets.specs.Text.{bytes}
-use Rattle.grammar.specs.Rfc733.{kindNumber}
-use Rattle.grammar.specs.Rfc733 as rfc733
+use Rattle.octets.specs.Believed.Choice.{pick}
+use Rattle.octets.specs.Believed.Letters.{sameLetters}
+use Rattle.octets.specs.Believed.Text.{bytes}
+use Rattle.grammar.specs.Believed.Rfc733.{kindNumber}
+use Rattle.grammar.specs.Believed.Rfc733 as rfc733
 use Rattle.grammar.specs.Executable.Trees733.{Class, Atom, Quoted, At, LessThan, GreaterThan, Comma, Semicolon, Colon, Sym}
-use Rattle.plain.specs.Meaning.{Word, atom, quotedString, Words, noWord, andWord, Addresses, noAddress, andAddress, Address, address}
-use Rattle.plain.specs.PlainText.{firstAtomGroup}
+use Rattle.plain.specs.Believed.Meaning.{Word, atom, quotedString, Words, noWord, andWord, Addresses, noAddress, andAddress, Address, address}
+use Rattle.plain.specs.Believed.PlainText.{firstAtomGroup}
 use Rattle.plain.proofs.ByteKinds.{IsPlain, IsDatum}
 use Rattle.plain.proofs.TreeMeanings.{typedMeaning}
 

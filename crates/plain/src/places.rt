@@ -1,6 +1,6 @@
 // Where the walk over the symbols stands, and what follows from it.
 ghost use mathlib.Core.Path.{_≡_};
-ghost use Rattle.plain.specs.Walking.{gapBefore, gapBeforeColon, afterAtom, afterColon, afterComma, after as placeAfter};
+ghost use Rattle.plain.specs.Ties.Walking.{gapBefore, gapBeforeColon, afterAtom, afterColon, afterComma, after as placeAfter};
 use scanner::Class;
 
 pub enum Place {

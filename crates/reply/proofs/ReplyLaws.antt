@@ -5,11 +5,11 @@ use mathlib.Core.Bool.{true, false}
 use mathlib.Core.List.{List}
 use Prim.Native.Nat.{ℕ, _≤_, _<_}
 use lib.ListN.{length}
-use Rattle.octets.specs.Numbers.{messageLimit}
-use Rattle.scanner.specs.Symbols.{Symbol}
-use Rattle.scanner.specs.Scanning.{Scanned, ended, next, faultAt, scan}
+use Rattle.octets.specs.Believed.Numbers.{messageLimit}
+use Rattle.scanner.specs.Believed.Symbols.{Symbol}
+use Rattle.scanner.specs.Believed.Scanning.{Scanned, ended, next, faultAt, scan}
 use Rattle.scanner.specs.declared.Class.{Class}
-use Rattle.reply.specs.Reply.{leftForFrom}
+use Rattle.reply.specs.Believed.Reply.{leftForFrom}
 
 module _ (reply : List ℕ) where
   pub too-long : messageLimit < length reply → leftForFrom reply ≡ false

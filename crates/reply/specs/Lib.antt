@@ -1,2 +1,2 @@
 -- Document 01, "Reply body".
-pub mod Reply
+pub mod Believed

@@ -1,7 +1,7 @@
 // The body to reply to.
 ghost use mathlib.Core.Path.{_≡_};
-ghost use Rattle.octets.specs.Choice.{pick};
-ghost use Rattle.reply.specs.Reply.{leftForFrom};
+ghost use Rattle.octets.specs.Believed.Choice.{pick};
+ghost use Rattle.reply.specs.Believed.Reply.{leftForFrom};
 use octets::classes::CLASSES;
 use octets::numbers::MESSAGE_LIMIT;
 use scanner::Next;

@@ -10,15 +10,15 @@ use lib.Dec.{ltb}
 use lib.ListN.{length, take}
 use types.Run.{OneOf, miss}
 use denote.Enum.Declared.{tagOf}
-use Rattle.octets.specs.Choice.{pick, either}
-use Rattle.octets.specs.Classes.{classTable}
-use Rattle.octets.specs.Numbers.{messageLimit, messageTooLong, bodyOutOfOrder}
+use Rattle.octets.specs.Believed.Choice.{pick, either}
+use Rattle.octets.specs.Believed.Classes.{classTable}
+use Rattle.octets.specs.Believed.Numbers.{messageLimit, messageTooLong, bodyOutOfOrder}
 use Rattle.octets.specs.declared.answers.Answer.{Answer}
 use Rattle.octets.specs.declared.answers.Answer.the-variants.{Accepted, Refused}
 use Rattle.octets.proofs.answers.Answer.{the-type}
 use Rattle.octets.proofs.ChoiceLaws.{either-true}
-use Rattle.scanner.specs.Scanning.{Scanned, ended, next, faultAt, scanBy, scan}
-use Rattle.scanner.specs.Answers.{bodyChecked, unlessFault, faultOf, bodyScanned}
+use Rattle.scanner.specs.Believed.Scanning.{Scanned, ended, next, faultAt, scanBy, scan}
+use Rattle.scanner.specs.Believed.Answers.{bodyChecked, unlessFault, faultOf, bodyScanned}
 
 module _ {A : Type 0} (refused : ℕ → ℕ → A) (message : List ℕ) (start end : ℕ) (otherwise : A) where
   pub too-long : messageLimit < length message → bodyChecked refused message start end otherwise ≡ refused messageTooLong messageLimit

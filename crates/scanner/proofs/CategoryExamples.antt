@@ -3,14 +3,14 @@ use mathlib.Core.Path.{_≡_, refl}
 use mathlib.Core.List.{List, [], _∷_, _++_}
 use Prim.Native.Nat.{ℕ, _+_}
 use lib.ListN.{length, replicate}
-use Rattle.octets.specs.Classes.{classOf, classTable}
-use Rattle.octets.specs.Letters.{lower, same}
-use Rattle.octets.specs.Text.{bytes}
-use Rattle.scanner.specs.Kinds.{kindOf}
-use Rattle.scanner.specs.Characters.{charactersFrom}
-use Rattle.scanner.specs.Scanning.{scanFrom}
-use Rattle.scanner.specs.Answers.{unlessFault}
-use Rattle.scanner.specs.Categories.{between, categoryOf, categoryAt}
+use Rattle.octets.specs.Believed.Classes.{classOf, classTable}
+use Rattle.octets.specs.Believed.Letters.{lower, same}
+use Rattle.octets.specs.Believed.Text.{bytes}
+use Rattle.scanner.specs.Believed.Kinds.{kindOf}
+use Rattle.scanner.specs.Believed.Characters.{charactersFrom}
+use Rattle.scanner.specs.Believed.Scanning.{scanFrom}
+use Rattle.scanner.specs.Believed.Answers.{unlessFault}
+use Rattle.scanner.specs.Believed.Categories.{between, categoryOf, categoryAt}
 use Rattle.scanner.specs.declared.Category.{Category}
 use Rattle.scanner.specs.declared.Category.the-variants.{White, Comment, Word, At, Mark, Nothing}
 use Rattle.scanner.proofs.Examples.{crlf}

@@ -9,16 +9,16 @@ use lib.Dec.{leb}
 use lib.ListN.{getD, take}
 use types.Run.{OneOf, miss}
 use denote.Enum.Declared.{tagOf}
-use Rattle.octets.specs.Classes.{classTable}
-use Rattle.octets.specs.Text.{part}
+use Rattle.octets.specs.Believed.Classes.{classTable}
+use Rattle.octets.specs.Believed.Text.{part}
 use Rattle.octets.specs.declared.answers.Answer.the-variants.{Accepted, Refused}
 use Rattle.octets.proofs.ChoiceLaws.{both-false}
-use Rattle.scanner.specs.Characters.{charactersAt}
-use Rattle.scanner.specs.Scanning.{Scanned, ended, faultAt, State, outside, inComment, move, scanBy, scan}
-use Rattle.scanner.specs.Answers.{unlessFault, faultOf, bodyScanned}
-use Rattle.scanner.specs.Categories.{ofSymbol, takenIn, behind, between, categoryOf, ofRefused, categoryAt}
-use Rattle.scanner.specs.Steps.{FirstCharacter}
-use Rattle.scanner.specs.Gaps.{stateOf, GapCategoryIs, PassedIs}
+use Rattle.scanner.specs.Believed.Characters.{charactersAt}
+use Rattle.scanner.specs.Believed.Scanning.{Scanned, ended, faultAt, State, outside, inComment, move, scanBy, scan}
+use Rattle.scanner.specs.Believed.Answers.{unlessFault, faultOf, bodyScanned}
+use Rattle.scanner.specs.Believed.Categories.{ofSymbol, takenIn, behind, between, categoryOf, ofRefused, categoryAt}
+use Rattle.scanner.specs.Ties.Steps.{FirstCharacter}
+use Rattle.scanner.specs.Ties.Gaps.{stateOf, GapCategoryIs, PassedIs}
 use Rattle.scanner.specs.declared.Gap.{Gap}
 use Rattle.scanner.specs.declared.Gap.the-variants.{Outside, Comment, Taking}
 use Rattle.scanner.specs.declared.Passed.the-variants.{To, Over}
@@ -29,7 +29,7 @@ use Rattle.scanner.specs.declared.Kind.the-variants.{White, Control, Ret
 use Rattle.scanner.specs.declared.Category.{Category}
 use Rattle.scanner.specs.declared.Category.the-variants as category
 use Rattle.scanner.proofs.Class.{the-type}
-use Rattle.scanner.specs.Meanings.{meaningAt}
+use Rattle.scanner.specs.Ties.Meanings.{meaningAt}
 use Rattle.scanner.proofs.Gap as gap-declared
 use Rattle.scanner.proofs.MoveLaws.{tag, Text, Taken, taken, comment-text, closed-inner}
 use Rattle.scanner.proofs.Unfolding.{SymbolAt}

@@ -12,14 +12,14 @@ use borrow.Author.Tests.{eq-eqb, ne-eqb, eqb-true}
 use lib.Dec.{eqb}
 use lib.ListN.{length, drop, getD, drop-of-length-le, List·getD-eq-default}
 use lib.Seq.{getD-drop}
-use Rattle.octets.specs.Choice.{both}
-use Rattle.octets.specs.Classes.{isWhite}
-use Rattle.octets.specs.Octets.{lineFeedByte, returnByte}
+use Rattle.octets.specs.Believed.Choice.{both}
+use Rattle.octets.specs.Believed.Classes.{isWhite}
+use Rattle.octets.specs.Believed.Octets.{lineFeedByte, returnByte}
 use Rattle.octets.proofs.ChoiceLaws.{both-parts, either-parts}
 use Rattle.octets.proofs.Parts.{from-here}
-use Rattle.scanner.specs.Kinds.{kindOf, kindOfClass}
-use Rattle.scanner.specs.Characters.{character, foldAt, none, charactersFrom, charactersAt}
-use Rattle.scanner.specs.Steps.{FirstCharacter}
+use Rattle.scanner.specs.Believed.Kinds.{kindOf, kindOfClass}
+use Rattle.scanner.specs.Believed.Characters.{character, foldAt, none, charactersFrom, charactersAt}
+use Rattle.scanner.specs.Ties.Steps.{FirstCharacter}
 use Rattle.scanner.specs.declared.Kind.{Kind}
 use Rattle.scanner.specs.declared.Kind.the-variants.{White, Return}
 

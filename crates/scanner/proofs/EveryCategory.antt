@@ -8,17 +8,17 @@ use native.Mathlib.Omega.{arith}
 use lib.ListN.{length, getD, take}
 use lib.Seq.{length-take-le}
 use types.Run.{hit}
-use Rattle.octets.specs.Choice.{pick}
-use Rattle.octets.specs.Classes.{classTable}
-use Rattle.octets.specs.Letters.{sameLetters}
-use Rattle.octets.specs.Text.{bytes, part}
+use Rattle.octets.specs.Believed.Choice.{pick}
+use Rattle.octets.specs.Believed.Classes.{classTable}
+use Rattle.octets.specs.Believed.Letters.{sameLetters}
+use Rattle.octets.specs.Believed.Text.{bytes, part}
 use Rattle.octets.specs.declared.answers.Answer.the-variants.{Accepted}
-use Rattle.scanner.specs.Characters.{charactersAt}
-use Rattle.scanner.specs.Scanning.{Scanned, ended, next, faultAt, State, outside, inComment, Move, go, halt, move, moveInComment, closed, symbolsOf, scanFrom, scanBy}
-use Rattle.scanner.specs.Scanning as scanning
-use Rattle.scanner.specs.Steps.{FirstCharacter}
-use Rattle.scanner.specs.Categories.{ofSymbol, takenIn, behind, between, categoryOf, Told, InStray, here, further, ToldUnlessStray}
-use Rattle.scanner.specs.Gaps.{Faultless, stateOf}
+use Rattle.scanner.specs.Believed.Characters.{charactersAt}
+use Rattle.scanner.specs.Believed.Scanning.{Scanned, ended, next, faultAt, State, outside, inComment, Move, go, halt, move, moveInComment, closed, symbolsOf, scanFrom, scanBy}
+use Rattle.scanner.specs.Believed.Scanning as scanning
+use Rattle.scanner.specs.Ties.Steps.{FirstCharacter}
+use Rattle.scanner.specs.Believed.Categories.{ofSymbol, takenIn, behind, between, categoryOf, Told, InStray, here, further, ToldUnlessStray}
+use Rattle.scanner.specs.Ties.Gaps.{Faultless, stateOf}
 use Rattle.scanner.specs.declared.Class.{Class}
 use Rattle.scanner.specs.declared.Class.the-variants.{Atom, Quoted, At, LessThan, GreaterThan, Comma, Semicolon, Colon, Stray, Dot, Literal}
 use Rattle.scanner.specs.declared.Gap.{Gap}

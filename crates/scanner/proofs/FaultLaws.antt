@@ -3,14 +3,14 @@ use mathlib.Core.Path.{_≡_, refl, sym, ap, _∙_}
 use mathlib.Core.List.{List, [], _∷_, _++_}
 use Prim.Native.Nat.{ℕ, _+_, _<_}
 use lib.ListN.{length, getD}
-use Rattle.octets.specs.Octets.{returnByte}
+use Rattle.octets.specs.Believed.Octets.{returnByte}
 use types.Run.{OneOf, miss}
 use denote.Enum.Declared.{tagOf}
-use Rattle.scanner.specs.Kinds.{kindOf, characterKind}
-use Rattle.scanner.specs.Characters.{Character, character, charactersAt}
-use Rattle.scanner.specs.Scanning.{outside, inAtom, moveOutside, moveInAtom, go, single, then, scanFrom, scanBy}
-use Rattle.scanner.specs.Answers.{unlessFault, faultOf}
-use Rattle.scanner.specs.Steps.{FirstCharacter}
+use Rattle.scanner.specs.Believed.Kinds.{kindOf, characterKind}
+use Rattle.scanner.specs.Believed.Characters.{Character, character, charactersAt}
+use Rattle.scanner.specs.Believed.Scanning.{outside, inAtom, moveOutside, moveInAtom, go, single, then, scanFrom, scanBy}
+use Rattle.scanner.specs.Believed.Answers.{unlessFault, faultOf}
+use Rattle.scanner.specs.Ties.Steps.{FirstCharacter}
 use Rattle.scanner.specs.declared.Class.the-variants.{Stray}
 use Rattle.scanner.specs.declared.Kind.{Kind}
 use Rattle.scanner.specs.declared.Kind.the-variants.{White, Control, Return, Plain, Open, Close, Quote, Backslash, Mark, Above, OpenBracket, CloseBracket}

@@ -4,13 +4,13 @@ use mathlib.Core.Bool.{Bool, true}
 use mathlib.Core.List.{List, [], _∷_}
 use Prim.Native.Nat.{ℕ}
 use lib.Dec.{eqb}
-use Rattle.octets.specs.Choice.{either}
-use Rattle.octets.specs.Numbers.{byteAbove127, quotedNotClosed, commentNotClosed, strayControl, literalNotClosed}
-use Rattle.scanner.specs.Symbols.{Symbol}
-use Rattle.scanner.specs.Kinds.{characterKind}
-use Rattle.scanner.specs.Characters.{Character, character}
-use Rattle.scanner.specs.Scanning.{Scanned, ended, next, faultAt, State, outside, inAtom, inQuoted, takingInQuoted, inLiteral, takingInLiteral, inComment, takingInComment, Move, go, halt, atom, endingWith, moveOutside, moveInAtom, moveInQuoted, moveInLiteral, moveInComment, move, atEnd, followedBy, then, scanFrom}
-use Rattle.scanner.specs.Scanning as scanning
+use Rattle.octets.specs.Believed.Choice.{either}
+use Rattle.octets.specs.Believed.Numbers.{byteAbove127, quotedNotClosed, commentNotClosed, strayControl, literalNotClosed}
+use Rattle.scanner.specs.Believed.Symbols.{Symbol}
+use Rattle.scanner.specs.Believed.Kinds.{characterKind}
+use Rattle.scanner.specs.Believed.Characters.{Character, character}
+use Rattle.scanner.specs.Believed.Scanning.{Scanned, ended, next, faultAt, State, outside, inAtom, inQuoted, takingInQuoted, inLiteral, takingInLiteral, inComment, takingInComment, Move, go, halt, atom, endingWith, moveOutside, moveInAtom, moveInQuoted, moveInLiteral, moveInComment, move, atEnd, followedBy, then, scanFrom}
+use Rattle.scanner.specs.Believed.Scanning as scanning
 use Rattle.scanner.specs.declared.Class.{Class}
 use Rattle.scanner.specs.declared.Kind.{Kind}
 use Rattle.scanner.specs.declared.Kind.the-variants.{White, Control, Return, Plain, Open, Close, Quote, Backslash, Mark, Above, OpenBracket, CloseBracket}

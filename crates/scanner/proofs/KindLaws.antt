@@ -5,8 +5,8 @@ use mathlib.Core.List.{List}
 use Prim.Native.Nat.{ℕ}
 use borrow.Author.Tests.{eq-eqb, ne-eqb}
 use lib.ListN.{getD}
-use Rattle.octets.specs.Classes.{classOf, classTable}
-use Rattle.scanner.specs.Kinds.{kindOfClass, kindOf}
+use Rattle.octets.specs.Believed.Classes.{classOf, classTable}
+use Rattle.scanner.specs.Believed.Kinds.{kindOfClass, kindOf}
 use Rattle.scanner.specs.declared.Kind.{Kind}
 use Rattle.scanner.specs.declared.Kind.the-variants.{Return, White}
 

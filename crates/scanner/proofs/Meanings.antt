@@ -4,12 +4,12 @@ use mathlib.Core.List.{List, [], _∷_}
 use Prim.Native.Nat.{ℕ}
 use lib.ListN.{getD}
 use types.Run.{miss}
-use Rattle.scanner.specs.Characters.{Character, charactersAt}
-use Rattle.scanner.specs.Steps.{FirstCharacter}
+use Rattle.scanner.specs.Believed.Characters.{Character, charactersAt}
+use Rattle.scanner.specs.Ties.Steps.{FirstCharacter}
 use Rattle.scanner.specs.declared.Kind.{Kind}
 use Rattle.scanner.specs.declared.Kind.the-variants.{White, Control, Return, Plain, Open, Close, Quote, Backslash, Mark, Above, OpenBracket, CloseBracket}
 use Rattle.scanner.proofs.MoveLaws.{Data}
-use Rattle.scanner.specs.Meanings.{inside, taking, Walk, datum, walked, dataFrom, dataAt}
+use Rattle.scanner.specs.Ties.Meanings.{inside, taking, Walk, datum, walked, dataFrom, dataAt}
 
 -- ---- one step of the walk
 

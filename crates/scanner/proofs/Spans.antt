@@ -4,11 +4,11 @@ use mathlib.Core.List.{List, [], _∷_}
 use Prim.Native.Nat.{ℕ, zero, suc, _+_, _≤_, _<_}
 use native.Mathlib.Omega.{arith}
 use lib.ListN.{length}
-use Rattle.scanner.specs.Symbols.{Symbol}
-use Rattle.scanner.specs.Scanning.{symbolsOf, symbol, scanBy}
+use Rattle.scanner.specs.Believed.Symbols.{Symbol}
+use Rattle.scanner.specs.Believed.Scanning.{symbolsOf, symbol, scanBy}
 use Rattle.scanner.specs.declared.Class.{Class}
 use Rattle.scanner.specs.declared.Class.the-variants.{Quoted}
-use Rattle.scanner.specs.Meanings.{meaningAt}
+use Rattle.scanner.specs.Ties.Meanings.{meaningAt}
 use Rattle.scanner.proofs.Unfolding.{Unfolded, no-symbol, a-symbol, a-fault, unfolded}
 
 -- symbols from a position on, up to another, each with the meaning of its place; a quoted-string has its two quotes

@@ -9,16 +9,16 @@ use native.Mathlib.Omega.{arith}
 use lib.Dec.{eqb}
 use lib.ListN.{length, getD}
 use types.Run.{hit}
-use Rattle.octets.specs.Numbers.{quotedNotClosed, commentNotClosed, strayControl, byteAbove127, literalNotClosed}
-use Rattle.octets.specs.Choice.{pick}
-use Rattle.octets.specs.Classes.{white, control, openParenthesis, closeParenthesis, lessThan, greaterThan, atSign, comma, semicolon, colon, backslash, quote, above127, dot, openBracket, closeBracket}
-use Rattle.octets.specs.Letters.{sameLetters}
-use Rattle.octets.specs.Text.{bytes, part}
-use Rattle.scanner.specs.Kinds.{kindOfClass, kindOf, characterKind}
-use Rattle.scanner.specs.Characters.{charactersAt}
-use Rattle.scanner.specs.Scanning.{ended, next, faultAt, outside, inQuoted, takingInQuoted, inLiteral, takingInLiteral, inComment, takingInComment, go, halt, symbol, atomClass, scanFrom, scanBy}
-use Rattle.scanner.specs.Answers.{nextOf, unlessFault, faultOf}
-use Rattle.scanner.specs.Steps.{FirstCharacter, AtomEnds, CommentEnds}
+use Rattle.octets.specs.Believed.Numbers.{quotedNotClosed, commentNotClosed, strayControl, byteAbove127, literalNotClosed}
+use Rattle.octets.specs.Believed.Choice.{pick}
+use Rattle.octets.specs.Believed.Classes.{white, control, openParenthesis, closeParenthesis, lessThan, greaterThan, atSign, comma, semicolon, colon, backslash, quote, above127, dot, openBracket, closeBracket}
+use Rattle.octets.specs.Believed.Letters.{sameLetters}
+use Rattle.octets.specs.Believed.Text.{bytes, part}
+use Rattle.scanner.specs.Believed.Kinds.{kindOfClass, kindOf, characterKind}
+use Rattle.scanner.specs.Believed.Characters.{charactersAt}
+use Rattle.scanner.specs.Believed.Scanning.{ended, next, faultAt, outside, inQuoted, takingInQuoted, inLiteral, takingInLiteral, inComment, takingInComment, go, halt, symbol, atomClass, scanFrom, scanBy}
+use Rattle.scanner.specs.Believed.Answers.{nextOf, unlessFault, faultOf}
+use Rattle.scanner.specs.Ties.Steps.{FirstCharacter, AtomEnds, CommentEnds}
 use Rattle.scanner.specs.declared.Class.{Class}
 use Rattle.scanner.specs.declared.Class.the-variants.{Atom, Quoted, At, LessThan, GreaterThan, Comma, Semicolon, Colon, Stray, Dot, Literal}
 use Rattle.scanner.specs.declared.Next.the-variants.{Found, Ended, Fault}
@@ -26,7 +26,7 @@ use Rattle.scanner.specs.declared.Kind.{Kind}
 use Rattle.scanner.specs.declared.Kind.the-variants.{White, Control, Return, Plain, Open, Close, Quote, Backslash, Mark, Above, OpenBracket, CloseBracket}
 use Rattle.scanner.proofs.CharacterLaws.{View, over, one, view}
 use Rattle.scanner.proofs.MoveLaws.{tag, part-one, NotPlain, Data, Taken, at-end, moves, atom-on, atom-begins, atom-ends, atom-last, Quoting, quoted-moves, quoted-on, quoted-taking, quoted-taken, InLiteral, literal-moves, literal-on, literal-taking, literal-taken, Commenting, comment-moves, comment-on, comment-opens, comment-closes, comment-over, comment-taking, comment-taken, mark-next, stray-next, control-next}
-use Rattle.scanner.specs.Meanings.{dataAt, meaningAt}
+use Rattle.scanner.specs.Ties.Meanings.{dataAt, meaningAt}
 use Rattle.scanner.proofs.Meanings.{data-on, data-backslash, data-taken, data-quote}
 
 module _ (classes text : List ℕ) where

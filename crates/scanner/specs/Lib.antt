@@ -1,10 +1,3 @@
 -- Document 01, "Symbols": how the bytes of a structured body become symbols, or a fault.
-pub mod Symbols
-pub mod Kinds
-pub mod Characters
-pub mod Scanning
-pub mod Answers
-pub mod Categories
-pub mod Steps
-pub mod Gaps
-pub mod Meanings
+pub mod Believed
+pub mod Ties

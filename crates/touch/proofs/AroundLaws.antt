@@ -7,9 +7,9 @@ use mathlib.Core.List.{List, [], _∷_, _++_, append-assoc, append-nil}
 use borrow.Author.Tests.{leb-true, leb-false, ltb-true, ltb-false}
 use lib.Dec.{leb, ltb}
 use lib.ListN.{length, getD, length-append}
-use Rattle.octets.specs.Choice.{pick}
-use Rattle.grammar.specs.Records.{AddressRecord, noRecord}
-use Rattle.touch.specs.Around.{covers, aroundFrom, around, firstPlus, Climbs, over, up, AroundClimbs}
+use Rattle.octets.specs.Believed.Choice.{pick}
+use Rattle.grammar.specs.Believed.Records.{AddressRecord, noRecord}
+use Rattle.touch.specs.Believed.Around.{covers, aroundFrom, around, firstPlus, Climbs, over, up, AroundClimbs}
 use Rattle.touch.proofs.Nesting.{Nest, nil, node, flatten, height, Well, well-le, Nested}
 
 -- ---- what covers a byte

@@ -9,10 +9,10 @@ use borrow.Author.Tests.{le-leb, lt-leb}
 use lib.Dec.{ltb}
 use lib.ListN.{length, getD, set, drop}
 use lib.Seq.{sets, drop-cons, drop-length}
-use Rattle.octets.specs.Choice.{pick}
-use Rattle.grammar.specs.Records.{AddressRecord, noRecord, recordIn}
-use Rattle.touch.specs.Around.{covers, aroundFrom, around, firstPlus, Climbs, over, up}
-use Rattle.touch.specs.Climbing.{Holds, MayClimb}
+use Rattle.octets.specs.Believed.Choice.{pick}
+use Rattle.grammar.specs.Believed.Records.{AddressRecord, noRecord, recordIn}
+use Rattle.touch.specs.Believed.Around.{covers, aroundFrom, around, firstPlus, Climbs, over, up}
+use Rattle.touch.specs.Ties.Climbing.{Holds, MayClimb}
 
 -- ---- whether a record covers a place
 

@@ -4,9 +4,9 @@ use native.Mathlib.Omega.{arith}
 use mathlib.Core.Path.{_≡_, refl, sym, ap, _∙_}
 use mathlib.Core.List.{List, [], _∷_, _++_, append-assoc, append-nil}
 use lib.ListN.{length}
-use Rattle.grammar.specs.Grammar.{levels}
-use Rattle.grammar.specs.Records.{AddressRecord, records}
-use Rattle.grammar.specs.Rfc733.{Derivation, DerivedList}
+use Rattle.grammar.specs.Believed.Grammar.{levels}
+use Rattle.grammar.specs.Believed.Records.{AddressRecord, records}
+use Rattle.grammar.specs.Believed.Rfc733.{Derivation, DerivedList}
 use Rattle.grammar.specs.Executable.Trees733.{LessThan, GreaterThan, Comma, Semicolon, Colon, Sym, of, Place, empty, comma, AddressList, idle, full, Address, mailbox, angle, group, quoted, typed}
 use Rattle.grammar.proofs.Trees.{nodesThen, placeThen, listThen, addressThen, placeLevels, listLevels, addressLevels}
 use Rattle.grammar.proofs.Rows.{row-levels, tree-derived}

@@ -8,37 +8,37 @@ use borrow.Author.Tests.{le-ltb, lt-ltb, le-leb, lt-leb, ltb-false}
 use lib.Dec.{ltb}
 use lib.ListN.{length}
 use lib.Seq.{sets}
-use Rattle.octets.specs.Numbers.{levelLimit, tableRecords, addressRecordSize, bodyOutOfOrder}
+use Rattle.octets.specs.Believed.Numbers.{levelLimit, tableRecords, addressRecordSize, bodyOutOfOrder}
 use Rattle.octets.specs.declared.answers.Answer.{Answer}
 use Rattle.octets.specs.declared.answers.Answer.the-variants as reader
-use Rattle.scanner.specs.Answers.{bodyScanned}
-use Rattle.scanner.specs.Categories.{categoryAt}
+use Rattle.scanner.specs.Believed.Answers.{bodyScanned}
+use Rattle.scanner.specs.Believed.Categories.{categoryAt}
 use Rattle.scanner.specs.declared.Class.{Class}
 use Rattle.scanner.specs.declared.Category.{Category}
 use Rattle.scanner.proofs.BodyChecks.{Clean, when-clean, when-refused}
-use Rattle.grammar.specs.Language.{Refusal, Verdict, accepted, refused, number, positionOf}
-use Rattle.grammar.specs.Records.{count, records, tableBytes}
-use Rattle.grammar.specs.Rfc733.{Derivation}
+use Rattle.grammar.specs.Believed.Language.{Refusal, Verdict, accepted, refused, number, positionOf}
+use Rattle.grammar.specs.Believed.Records.{count, records, tableBytes}
+use Rattle.grammar.specs.Believed.Rfc733.{Derivation}
 use Rattle.grammar.specs.Executable.Machine733.{answer}
 use Rattle.grammar.proofs.Condition3.{answer-right, answer-accepts, answer-derives}
 use Rattle.grammar.proofs.Records.{length-records, parent-smaller}
 use Rattle.grammar.specs.Executable.Trees733.{Sym}
-use Rattle.addresses.specs.Editions.{bodySymbols}
-use Rattle.addresses.specs.Outcome.{derived, outcome}
-use Rattle.addresses.specs.Outcome as addresses
-use Rattle.addresses.specs.Condition3.{IsList}
+use Rattle.addresses.specs.Believed.Editions.{bodySymbols}
+use Rattle.addresses.specs.Believed.Outcome.{derived, outcome}
+use Rattle.addresses.specs.Believed.Outcome as addresses
+use Rattle.addresses.specs.Believed.Condition3.{IsList}
 use Rattle.addresses.proofs.BodyRecords.{in-body}
 use Rattle.addresses.proofs.Judgements.{ListBody, list-body, decided-read}
 use Rattle.addresses.proofs.RecordsRead.{record-read}
-use Rattle.expected.specs.Things.{sumOf}
-use Rattle.expected.specs.Named.{named, expectedIn}
+use Rattle.expected.specs.Believed.Things.{sumOf}
+use Rattle.expected.specs.Executable.Named.{named, expectedIn}
 use Rattle.expected.proofs.NameLaws.{before-refused, names-right}
-use Rattle.grammar.specs.Records.{noRecord}
-use Rattle.touch.specs.Around.{around, firstPlus, Climbs}
-use Rattle.touch.specs.Answers.{told, AnsweredBy, Outcome, unchanged, refusal, byteOf, ofList}
-use Rattle.touch.specs.Touched.{decided, touched}
-use Rattle.touch.specs.ByGrammar.{NamedThere, ByGrammar}
-use Rattle.touch.specs.Climbing.{Holds, HeldList, ClimbIs, LastAroundIs}
+use Rattle.grammar.specs.Believed.Records.{noRecord}
+use Rattle.touch.specs.Believed.Around.{around, firstPlus, Climbs}
+use Rattle.touch.specs.Believed.Answers.{told, AnsweredBy, Outcome, unchanged, refusal, byteOf, ofList}
+use Rattle.touch.specs.Believed.Touched.{decided, touched}
+use Rattle.touch.specs.Believed.ByGrammar.{NamedThere, ByGrammar}
+use Rattle.touch.specs.Ties.Climbing.{Holds, HeldList, ClimbIs, LastAroundIs}
 use Rattle.touch.specs.declared.Touched.{Touched}
 use Rattle.touch.specs.declared.Touched.the-variants.{Byte, Expected, Refused, NoRoom}
 use Rattle.touch.proofs.Nesting.{nested, nested-height}

@@ -7,7 +7,7 @@ use native.Mathlib.Omega.{arith}
 use Prim.Native.Nat.{_+_, _*_, _-_}
 use lib.ListN.{length}
 use Rattle.grammar.proofs.Readers.{endsAddress, endsList}
-use Rattle.addresses.specs.Steps.{isWord}
+use Rattle.addresses.specs.Ties.Steps.{isWord}
 use Rattle.addresses.proofs.ClassCases.{by-class, by-class-not, at-or-stray}
 use Rattle.addresses.proofs.NextLaws.{next-is, none-left}
 use Rattle.addresses.proofs.NamedLaws.{named-is, named-lone, named-opening, named-before, named-mark, no-mark-left, no-mark-found}

@@ -31,7 +31,7 @@ returns-2 c =
     let g = c .before .before .before .before .before .before .before .before .args in
     let f = c .before .before .before .before .ahead .given in
     λ xs a b low table o p n l. rw (c .refuse2 .ensures)
-    (unclosed-stops _ _ (g .enclosure) (g .frame) o n _ (rw (f .1) at l) 0 table (λ class i j e. ap (λ k. Rattle.grammar.specs.Rfc733.sameClass (Rattle.addresses.specs.Steps.closing (g .enclosure)) k) (class-found e) ∙ sym (c .before .before .closes .ensures) ∙ not-true _ (c .before .if1 .taken)))
+    (unclosed-stops _ _ (g .enclosure) (g .frame) o n _ (rw (f .1) at l) 0 table (λ class i j e. ap (λ k. Rattle.grammar.specs.Believed.Rfc733.sameClass (Rattle.addresses.specs.Ties.Steps.closing (g .enclosure)) k) (class-found e) ∙ sym (c .before .before .closes .ensures) ∙ not-true _ (c .before .if1 .taken)))
 
 next-by-requires : tie.Need-next-by-requires
 next-by-requires c κs = search needs

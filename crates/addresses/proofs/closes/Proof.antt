@@ -2,9 +2,9 @@
 use borrow.Author.Needs.{needs}
 use mathlib.Core.Path.{sym, ap, _∙_}
 use mathlib.Core.List.{[], _∷_}
-use Rattle.grammar.specs.Rfc733.{sameClass}
+use Rattle.grammar.specs.Believed.Rfc733.{sameClass}
 use Rattle.grammar.specs.Executable.Trees733.{GreaterThan, Semicolon}
-use Rattle.addresses.specs.Steps.{closing}
+use Rattle.addresses.specs.Ties.Steps.{closing}
 use Rattle.addresses.proofs.ClassCases.{by-class-not}
 use Rattle.addresses.proofs.closes.Statement.{statement}
 use Rattle.addresses.proofs.closes.Tie as tie

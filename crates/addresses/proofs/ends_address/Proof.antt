@@ -4,7 +4,7 @@ use mathlib.Core.Path.{refl, sym, ap, _∙_}
 use mathlib.Core.Bool.{true}
 use mathlib.Core.List.{[], _∷_}
 use Rattle.grammar.proofs.Readers.{endsAddress}
-use Rattle.addresses.specs.Steps.{endsAddressNext}
+use Rattle.addresses.specs.Ties.Steps.{endsAddressNext}
 use Rattle.addresses.proofs.ClassCases.{by-class, by-class-not, no-symbol}
 use Rattle.addresses.proofs.ends_address.Statement.{statement}
 use Rattle.addresses.proofs.ends_address.Tie as tie

@@ -2,7 +2,7 @@
 use mathlib.Core.Path.{sym}
 use native.Mathlib.Omega.{arith}
 use lib.ListN.{length}
-use Rattle.octets.specs.Classes.{classOf, classTable}
+use Rattle.octets.specs.Believed.Classes.{classOf, classTable}
 use Rattle.scanner.proofs.BodyChecks.{Clean, clean}
 use Rattle.addresses.proofs.WithinLaws.{whole-text, within-refused, within-told}
 use borrow.Author.Needs.{needs}

@@ -2,7 +2,7 @@
 use borrow.Author.Needs.{needs}
 use mathlib.Core.Path.{sym}
 use mathlib.Core.List.{[], _∷_}
-use Rattle.addresses.specs.Steps.{isQuoted}
+use Rattle.addresses.specs.Ties.Steps.{isQuoted}
 use Rattle.addresses.proofs.ClassCases.{by-class-not}
 use Rattle.addresses.proofs.is_quoted.Statement.{statement}
 use Rattle.addresses.proofs.is_quoted.Tie as tie

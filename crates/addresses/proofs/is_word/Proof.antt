@@ -1,7 +1,7 @@
 -- `addresses::is_word` meets its contract. Assumes nothing.
 use mathlib.Core.Path.{sym}
 use mathlib.Core.List.{[], _∷_}
-use Rattle.addresses.specs.Steps.{isWord}
+use Rattle.addresses.specs.Ties.Steps.{isWord}
 use Rattle.addresses.proofs.ClassCases.{by-class, by-class-not}
 use Rattle.addresses.proofs.is_word.Statement.{statement}
 use Rattle.addresses.proofs.is_word.Tie as tie

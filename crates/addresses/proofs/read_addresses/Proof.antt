@@ -2,9 +2,9 @@
 use mathlib.Core.Path.{_≡_, sym}
 use native.Mathlib.Omega.{arith}
 use lib.Seq.{length-take-le}
-use Rattle.octets.specs.Classes.{classOf, classTable}
+use Rattle.octets.specs.Believed.Classes.{classOf, classTable}
 use Rattle.scanner.proofs.BodyChecks.{too-long, out-of-order, past-the-end}
-use Rattle.addresses.specs.Outcome.{refusal}
+use Rattle.addresses.specs.Believed.Outcome.{refusal}
 use Rattle.addresses.proofs.WholeLaws.{promised, text-promised}
 use borrow.Author.Needs.{needs}
 use Rattle.addresses.proofs.read_addresses.Statement.{statement}

@@ -7,7 +7,7 @@ use Prim.Native.Nat.{ℕ, _-_, _≤_}
 use lib.ListN.{length}
 use borrow.Author.Tests.{not-true, not-false}
 use Rattle.grammar.proofs.Readers.{endsAddress}
-use Rattle.addresses.specs.Steps.{symbolsAhead}
+use Rattle.addresses.specs.Ties.Steps.{symbolsAhead}
 use Rattle.addresses.proofs.ClassCases.{by-class, by-class-not}
 use Rattle.addresses.proofs.NextLaws.{NextIs, next-is, none-left}
 use Rattle.addresses.proofs.NodesLaws.{NodesSoFar, NodeRead, followsNode, nodes-start, node-read, nodes-again, nodes-end, stops-no-node, stops-node-wanted, stops-behind-node}

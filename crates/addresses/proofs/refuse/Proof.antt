@@ -2,7 +2,7 @@
 use borrow.Author.Needs.{needs}
 use mathlib.Core.Path.{refl, sym, ap}
 use lib.ListN.{length}
-use Rattle.addresses.specs.Steps.{refusedNext}
+use Rattle.addresses.specs.Ties.Steps.{refusedNext}
 use Rattle.addresses.proofs.ClassCases.{no-symbol}
 use Rattle.addresses.proofs.refuse.Statement.{statement}
 use Rattle.addresses.proofs.refuse.Tie as tie

@@ -2,7 +2,7 @@
 use mathlib.Core.Path.{_∙_}
 use mathlib.Core.List.{[], _∷_}
 use Rattle.scanner.specs.declared.Next.the-variants.{Found}
-use Rattle.grammar.specs.Rfc733.{sameClass}
+use Rattle.grammar.specs.Believed.Rfc733.{sameClass}
 use Rattle.grammar.specs.Executable.Trees733.{Atom, Colon}
 use Rattle.addresses.proofs.ClassCases.{by-class-not}
 use Rattle.addresses.proofs.NextLaws.{NextIs, next-is, none-left}

@@ -1,6 +1,6 @@
 -- `capi::rfc733_addresses` meets its contract. Assumes nothing.
 use mathlib.Core.Path.{_∙_, ap}
-use Rattle.capi.specs.Told.{toldIn}
+use Rattle.capi.specs.Believed.Told.{toldIn}
 use borrow.Author.Needs.{needs}
 use Rattle.capi.proofs.rfc733_addresses.Statement.{statement}
 use Rattle.capi.proofs.rfc733_addresses.Tie as tie

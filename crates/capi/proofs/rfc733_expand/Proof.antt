@@ -1,6 +1,6 @@
 -- `capi::rfc733_expand` meets its contract. Assumes nothing.
 use mathlib.Core.Path.{_∙_, ap₂}
-use Rattle.capi.specs.Told.{expansionToldIn}
+use Rattle.capi.specs.Believed.Told.{expansionToldIn}
 use borrow.Author.Needs.{needs}
 use Rattle.capi.proofs.rfc733_expand.Statement.{statement}
 use Rattle.capi.proofs.rfc733_expand.Tie as tie

@@ -1,6 +1,6 @@
 -- `capi::rfc733_known_name` meets its contract. Assumes nothing.
 use mathlib.Core.Path.{_∙_, ap, sym}
-use Rattle.capi.specs.Told.{knownNumber}
+use Rattle.capi.specs.Believed.Told.{knownNumber}
 use borrow.Author.Needs.{needs}
 use Rattle.capi.proofs.rfc733_known_name.Statement.{statement}
 use Rattle.capi.proofs.rfc733_known_name.Tie as tie

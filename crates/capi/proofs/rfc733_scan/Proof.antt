@@ -1,6 +1,6 @@
 -- `capi::rfc733_scan` meets its contract. Assumes nothing.
 use mathlib.Core.Path.{_∙_, ap}
-use Rattle.capi.specs.Told.{toldIn}
+use Rattle.capi.specs.Believed.Told.{toldIn}
 use borrow.Author.Needs.{needs}
 use Rattle.capi.proofs.rfc733_scan.Statement.{statement}
 use Rattle.capi.proofs.rfc733_scan.Tie as tie

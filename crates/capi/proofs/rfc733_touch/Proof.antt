@@ -1,6 +1,6 @@
 -- `capi::rfc733_touch` meets its contract. Assumes nothing.
 use mathlib.Core.Path.{_∙_, ap}
-use Rattle.capi.specs.Told.{touchToldIn}
+use Rattle.capi.specs.Believed.Told.{touchToldIn}
 use borrow.Author.Needs.{needs}
 use Rattle.capi.proofs.rfc733_touch.Statement.{statement}
 use Rattle.capi.proofs.rfc733_touch.Tie as tie

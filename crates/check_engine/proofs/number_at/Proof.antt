@@ -2,7 +2,7 @@
 use borrow.Author.Needs.{needs}
 use Prim.Native.Nat.{_+_, _*_, _≤_, _-_}
 use lib.ListN.{length}
-use Rattle.octets.specs.Numbers.{messageLimit}
+use Rattle.octets.specs.Believed.Numbers.{messageLimit}
 use Rattle.check_engine.proofs.number_at.Statement.{statement}
 use Rattle.check_engine.proofs.number_at.Tie as tie
 

@@ -6,9 +6,9 @@ use lib.Seq.{length-take-le}
 use mir.Syntax.{w64}
 use mir.Val.{SFits}
 use mir.Facts.{toZ-ofZ}
-use Rattle.octets.specs.Classes.{classOf, classTable}
+use Rattle.octets.specs.Believed.Classes.{classOf, classTable}
 use Rattle.scanner.proofs.BodyChecks.{too-long, out-of-order, past-the-end, fault-or-none}
-use Rattle.dates.specs.Outcome.{momentAnswer, readingAnswer, dateAnswer}
+use Rattle.dates.specs.Believed.Outcome.{momentAnswer, readingAnswer, dateAnswer}
 use Rattle.dates.specs.declared.DateAnswer.the-variants.{Accepted, Refused}
 use Rattle.dates.proofs.AnswerLaws.{with-fault, without-fault, promised}
 use Rattle.dates.proofs.read_date.Statement.{statement}

@@ -5,7 +5,7 @@ use native.Mathlib.Omega.{arith}
 use mir.Syntax.{w64}
 use mir.Val.{SFits}
 use mir.Facts.{toZ-ofZ}
-use Rattle.dates.specs.Answers.{valueOf}
+use Rattle.dates.specs.Believed.Answers.{valueOf}
 use Rattle.dates.proofs.value.Statement.{statement}
 use Rattle.dates.proofs.value.Tie as tie
 

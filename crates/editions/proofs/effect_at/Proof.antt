@@ -1,7 +1,7 @@
 -- `editions::effect_at` meets its contract. Assumes nothing.
 use mathlib.Core.Path.{ap, _∙_}
 use native.Mathlib.Omega.{arith}
-use Rattle.editions.specs.Walks.{effectFrom}
+use Rattle.editions.specs.Ties.Walks.{effectFrom}
 use Rattle.editions.proofs.PlaceLaws.{effect-in, effect-out}
 use borrow.Author.Needs.{needs}
 use Rattle.editions.proofs.effect_at.Statement.{statement}

@@ -2,7 +2,7 @@
 use mathlib.Core.Path.{ap, _∙_}
 use Prim.Native.Nat.{ℕ}
 use lib.Dec.{eqb}
-use Rattle.editions.specs.Places.{endsAt}
+use Rattle.editions.specs.Ties.Places.{endsAt}
 use Rattle.editions.proofs.PlaceLaws.{ends-in, in-group}
 use borrow.Author.Needs.{needs}
 use Rattle.editions.proofs.may_end.Statement.{statement}

@@ -2,15 +2,15 @@
 use mathlib.Core.Path.{refl, sym}
 use native.Mathlib.Omega.{arith}
 use lib.Seq.{length-take-le}
-use Rattle.octets.specs.Numbers.{levelLimit}
-use Rattle.octets.specs.Classes.{classOf, classOf822, classTable822}
+use Rattle.octets.specs.Believed.Numbers.{levelLimit}
+use Rattle.octets.specs.Believed.Classes.{classOf, classOf822, classTable822}
 use Rattle.scanner.proofs.BodyChecks.{out-of-order, past-the-end}
 use Rattle.grammar.specs.Executable.Machine822.{read}
-use Rattle.addresses.specs.Editions.{edition822}
+use Rattle.addresses.specs.Believed.Editions.{edition822}
 use Rattle.octets.proofs.AnswerLaws.{answered}
-use Rattle.addresses.specs.Outcome.{refusal}
+use Rattle.addresses.specs.Believed.Outcome.{refusal}
 use Rattle.addresses.proofs.AnyEdition.{text-outcome}
-use Rattle.editions.specs.Places.{placeTable}
+use Rattle.editions.specs.Ties.Places.{placeTable}
 use Rattle.editions.proofs.EditionLaws.{by-equal}
 use borrow.Author.Needs.{needs}
 use Rattle.editions.proofs.read_822.Statement.{statement}

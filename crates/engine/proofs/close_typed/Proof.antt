@@ -4,10 +4,10 @@ use mathlib.Core.List.{List}
 use Prim.Native.Nat.{ℕ, _≤_}
 use native.Mathlib.Omega.{arith}
 use lib.ListN.{length}
-use Rattle.octets.specs.Numbers.{levelLimit}
+use Rattle.octets.specs.Believed.Numbers.{levelLimit}
 use Rattle.grammar.specs.Executable.Trees733.{Address}
 use Rattle.grammar.specs.Executable.Machine733.{Here}
-use Rattle.engine.specs.Turns.{Closing}
+use Rattle.engine.specs.Ties.Turns.{Closing}
 use Rattle.engine.proofs.CodeLaws.{ClosingOn, closing-start, closing-none, closing-stays, typed-top, some-level, top-level, closing-more}
 use borrow.Author.Needs.{needs}
 use Rattle.engine.proofs.close_typed.Statement.{statement}

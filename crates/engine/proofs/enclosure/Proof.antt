@@ -2,7 +2,7 @@
 use mathlib.Core.Path.{sym, ap}
 use mathlib.Core.List.{[], _∷_}
 use Rattle.addresses.proofs.ClassCases.{by-class, by-class-not}
-use Rattle.engine.specs.Turns.{isAngle, kindIf}
+use Rattle.engine.specs.Ties.Turns.{isAngle, kindIf}
 use Rattle.engine.proofs.enclosure.Statement.{statement}
 use Rattle.engine.proofs.enclosure.Tie as tie
 

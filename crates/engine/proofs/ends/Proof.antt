@@ -1,6 +1,6 @@
 -- `engine::ends` meets its contract. Assumes nothing.
 use native.Mathlib.Omega.{arith}
-use Rattle.engine.specs.Turns.{isAngle}
+use Rattle.engine.specs.Ties.Turns.{isAngle}
 use Rattle.engine.proofs.Dispatch.{turn-ends, at-comma, turn-comma, turn-closes, turn-ended-closes}
 use borrow.Author.Needs.{needs}
 use Rattle.engine.proofs.ends.Statement.{statement}

@@ -2,9 +2,9 @@
 use mathlib.Core.Path.{refl, sym, _∙_}
 use native.Mathlib.Omega.{arith}
 use lib.Seq.{length-take-le}
-use Rattle.octets.specs.Classes.{classOf, classTable}
+use Rattle.octets.specs.Believed.Classes.{classOf, classTable}
 use Rattle.scanner.proofs.BodyChecks.{Clean, clean, when-clean, when-refused}
-use Rattle.engine.specs.Actions.{actionTable}
+use Rattle.engine.specs.Ties.Actions.{actionTable}
 use borrow.Author.Needs.{needs}
 use Rattle.engine.proofs.expected.Statement.{statement}
 use Rattle.engine.proofs.expected.Tie as tie

@@ -3,9 +3,9 @@ use mathlib.Core.Path.{sym, ap}
 use mathlib.Core.Bool.{Bool}
 use native.Mathlib.Omega.{arith}
 use borrow.Author.Tests.{eq-eqb, ne-eqb}
-use Rattle.octets.specs.Choice.{pick}
-use Rattle.grammar.specs.Rfc733.{kindNumber, mailbox, quoted}
-use Rattle.engine.specs.Actions.{modeNumber, atQuoted}
+use Rattle.octets.specs.Believed.Choice.{pick}
+use Rattle.grammar.specs.Believed.Rfc733.{kindNumber, mailbox, quoted}
+use Rattle.engine.specs.Ties.Actions.{modeNumber, atQuoted}
 use Rattle.engine.proofs.lone_kind.Statement.{statement}
 use Rattle.engine.proofs.lone_kind.Tie as tie
 

@@ -2,11 +2,11 @@
 use mathlib.Core.Path.{refl, sym}
 use native.Mathlib.Omega.{arith}
 use lib.Seq.{length-take-le}
-use Rattle.octets.specs.Classes.{classOf, classTable}
+use Rattle.octets.specs.Believed.Classes.{classOf, classTable}
 use Rattle.scanner.proofs.BodyChecks.{too-long, out-of-order, past-the-end}
-use Rattle.addresses.specs.Outcome.{refusal}
+use Rattle.addresses.specs.Believed.Outcome.{refusal}
 use Rattle.addresses.proofs.WholeLaws.{promised, text-promised}
-use Rattle.engine.specs.Actions.{actionTable}
+use Rattle.engine.specs.Ties.Actions.{actionTable}
 use borrow.Author.Needs.{needs}
 use Rattle.engine.proofs.read_addresses.Statement.{statement}
 use Rattle.engine.proofs.read_addresses.Tie as tie

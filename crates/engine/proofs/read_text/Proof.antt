@@ -1,8 +1,8 @@
 -- `engine::read_text` meets its contract. Assumes nothing.
 use mathlib.Core.Path.{sym, ap, _∙_}
-use Rattle.scanner.specs.Scanning.{scanBy}
+use Rattle.scanner.specs.Believed.Scanning.{scanBy}
 use Rattle.scanner.proofs.BodyChecks.{unless-refused, unless-none, fault-or-none}
-use Rattle.addresses.specs.Outcome.{Outcome, refusal}
+use Rattle.addresses.specs.Believed.Outcome.{Outcome, refusal}
 use borrow.Author.Needs.{needs}
 use Rattle.engine.proofs.read_text.Statement.{statement}
 use Rattle.engine.proofs.read_text.Tie as tie

@@ -1,6 +1,6 @@
 -- `engine::turn` meets its contract. Assumes nothing.
 use native.Mathlib.Omega.{arith}
-use Rattle.engine.specs.Turns.{isAngle}
+use Rattle.engine.specs.Ties.Turns.{isAngle}
 use Rattle.engine.proofs.Dispatch.{turn-refuses, turn-opens, turn-opens-named, turn-types}
 use borrow.Author.Needs.{needs}
 use Rattle.engine.proofs.turn.Statement.{statement}

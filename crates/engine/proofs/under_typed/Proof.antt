@@ -1,10 +1,10 @@
 -- `engine::under_typed` meets its contract. Assumes nothing.
 use Prim.Native.Nat.{_≤_}
 use native.Mathlib.Omega.{arith}
-use Rattle.octets.specs.Numbers.{levelLimit}
+use Rattle.octets.specs.Believed.Numbers.{levelLimit}
 use Rattle.grammar.specs.Executable.Trees733.{Address}
 use Rattle.grammar.specs.Executable.Machine733.{Here}
-use Rattle.engine.specs.Turns.{OpenHere}
+use Rattle.engine.specs.Ties.Turns.{OpenHere}
 use Rattle.engine.proofs.ExpectingLaws.{UnderOn, under-start, under-none, under-stays, under-more}
 use borrow.Author.Needs.{needs}
 use Rattle.engine.proofs.under_typed.Statement.{statement}

@@ -4,10 +4,10 @@ use native.Mathlib.Omega.{arith}
 use mathlib.Core.Path.{refl, _∙_}
 use borrow.Author.Needs.{needs}
 use lib.ListN.{length}
-use Rattle.octets.specs.Numbers.{openingLimit, storeRecordSize, storeNameSize}
+use Rattle.octets.specs.Believed.Numbers.{openingLimit, storeRecordSize, storeNameSize}
 use Rattle.octets.proofs.Parts.{part-length}
 use Rattle.plain.proofs.WalkSteps.{none-comes, behind, behind-falls, behind-less}
-use Rattle.expansion.specs.Steps.{RecordOpens}
+use Rattle.expansion.specs.Ties.Steps.{RecordOpens}
 use Rattle.expansion.proofs.WalkRuns.{record-faulty, record-walked, Walking, walking-first, walking-none, comes, low, room, walking-symbol, walking-nowhere, record-inside, walking-stopped, walking-opened}
 use Prim.Native.Nat.{ℕ, _<_}
 use borrow.Fn.Kinds.{In}

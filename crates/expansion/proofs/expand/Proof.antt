@@ -2,7 +2,7 @@
 use native.Mathlib.Omega.{arith}
 use mathlib.Core.Path.{refl, sym}
 use lib.Seq.{length-take-le}
-use Rattle.octets.specs.Classes.{classOf, classTable}
+use Rattle.octets.specs.Believed.Classes.{classOf, classTable}
 use Rattle.octets.proofs.Parts.{no-front}
 use Rattle.addresses.proofs.Told.{some-list}
 use Rattle.expansion.proofs.EntryLaws.{refused-promised, list-promised}

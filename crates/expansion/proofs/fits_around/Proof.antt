@@ -2,7 +2,7 @@
 use native.Mathlib.Omega.{arith}
 use mathlib.Core.Path.{refl}
 use borrow.Author.Tests.{le-leb, lt-leb}
-use Rattle.octets.specs.Numbers.{levelLimit}
+use Rattle.octets.specs.Believed.Numbers.{levelLimit}
 use borrow.Author.Needs.{needs}
 use Rattle.expansion.proofs.fits_around.Statement.{statement}
 use Rattle.expansion.proofs.fits_around.Tie as tie

@@ -3,7 +3,7 @@ use borrow.Author.Needs.{needs}
 use mathlib.Core.Path.{refl, sym}
 use mathlib.Core.List.{[], _∷_}
 use Rattle.scanner.specs.declared.Class.the-variants.{Atom}
-use Rattle.grammar.specs.Rfc733.{sameClass}
+use Rattle.grammar.specs.Believed.Rfc733.{sameClass}
 use Rattle.addresses.proofs.ClassCases.{by-class-not}
 use Rattle.expansion.proofs.is_atom.Statement.{statement}
 use Rattle.expansion.proofs.is_atom.Tie as tie

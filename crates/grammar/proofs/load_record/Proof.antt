@@ -3,7 +3,7 @@ use mathlib.Core.Path.{sym, _∙_}
 use Prim.Native.Nat.{_*_}
 use native.Mathlib.Omega.{arith}
 use lib.ListN.{length}
-use Rattle.octets.specs.Numbers.{addressRecordSize}
+use Rattle.octets.specs.Believed.Numbers.{addressRecordSize}
 use Rattle.grammar.proofs.RecordLaws.{record-out}
 use borrow.Author.Needs.{needs}
 use Rattle.grammar.proofs.load_record.Statement.{statement}

@@ -2,10 +2,10 @@
 use mathlib.Core.Path.{sym}
 use Prim.Native.Nat.{_+_, _*_}
 use native.Mathlib.Omega.{arith}
-use Rattle.octets.specs.Numbers.{addressRecordSize, numberWidth}
-use Rattle.octets.specs.Stored.{bytesOf}
+use Rattle.octets.specs.Believed.Numbers.{addressRecordSize, numberWidth}
+use Rattle.octets.specs.Believed.Stored.{bytesOf}
 use Rattle.octets.proofs.Parts.{sets-out}
-use Rattle.grammar.specs.Records.{endOffset}
+use Rattle.grammar.specs.Believed.Records.{endOffset}
 use borrow.Author.Needs.{needs}
 use Rattle.grammar.proofs.store_end.Statement.{statement}
 use Rattle.grammar.proofs.store_end.Tie as tie

@@ -2,9 +2,9 @@
 use mathlib.Core.Path.{sym}
 use Prim.Native.Nat.{_*_}
 use native.Mathlib.Omega.{arith}
-use Rattle.octets.specs.Numbers.{addressRecordSize}
+use Rattle.octets.specs.Believed.Numbers.{addressRecordSize}
 use Rattle.octets.proofs.Parts.{sets-out}
-use Rattle.grammar.specs.Records.{recordBy, recordBytes}
+use Rattle.grammar.specs.Believed.Records.{recordBy, recordBytes}
 use Rattle.grammar.proofs.RecordLaws.{record-stored}
 use borrow.Author.Needs.{needs}
 use Rattle.grammar.proofs.store_record.Statement.{statement}

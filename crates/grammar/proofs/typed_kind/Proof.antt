@@ -1,9 +1,9 @@
 -- `grammar::typed_kind` meets its contract. Assumes nothing.
 use mathlib.Core.Path.{sym, ap, _∙_}
-use Rattle.octets.specs.Choice.{pick}
-use Rattle.octets.specs.Letters.{sameLetters}
-use Rattle.octets.specs.Text.{bytes}
-use Rattle.grammar.specs.Rfc733.{kindNumber, include, postal, otherTyped}
+use Rattle.octets.specs.Believed.Choice.{pick}
+use Rattle.octets.specs.Believed.Letters.{sameLetters}
+use Rattle.octets.specs.Believed.Text.{bytes}
+use Rattle.grammar.specs.Believed.Rfc733.{kindNumber, include, postal, otherTyped}
 use borrow.Author.Needs.{needs}
 use Rattle.grammar.proofs.typed_kind.Statement.{statement}
 use Rattle.grammar.proofs.typed_kind.Tie as tie

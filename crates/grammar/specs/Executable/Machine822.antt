@@ -2,10 +2,10 @@
 use Prim.Native.Nat.{ℕ}
 use mathlib.Core.List.{List, [], _∷_}
 use mathlib.Core.Option.{Option, none, some}
-use Rattle.grammar.specs.Grammar.{Row}
-use Rattle.grammar.specs.Language.{Verdict}
-use Rattle.grammar.specs.Rfc733.{sameClass}
-use Rattle.grammar.specs.Rfc822.{Notion}
+use Rattle.grammar.specs.Believed.Grammar.{Row}
+use Rattle.grammar.specs.Believed.Language.{Verdict}
+use Rattle.grammar.specs.Believed.Rfc733.{sameClass}
+use Rattle.grammar.specs.Believed.Rfc822.{Notion}
 use Rattle.grammar.specs.Executable.Machines.{Step, Result, runBy, verdictBy, Arrow, on, stepBy}
 use Rattle.grammar.specs.Executable.Trees822.{Class, Atom, Quoted, At, LessThan, GreaterThan, Comma, Semicolon, Colon, Dot, Literal, Lexeme, Sym, Word, atomWord, quotedWord, Phrase, one, more, Sub, atomSub, literalSub, Domain, oneSub, moreSub, Local, oneWord, moreWord, Spec, spec, Empties, noEmpty, oneEmpty, Hops, firstHop, nextHop, Route, direct, trailing, Mailbox, bare, angle, routed, Place, empty, comma, Listed, idle, full, Address, box, group, asRow}
 

@@ -3,9 +3,9 @@ use Prim.Native.Nat.{ℕ}
 use mathlib.Core.Bool.{Bool}
 use mathlib.Core.List.{List, [], _∷_}
 use mathlib.Core.Option.{Option, none, some}
-use Rattle.octets.specs.Choice.{pick}
-use Rattle.scanner.specs.Symbols.{Lexeme, Symbol}
-use Rattle.grammar.specs.Language.{Refusal, unfit, unfinished, Verdict, accepted, refused}
+use Rattle.octets.specs.Believed.Choice.{pick}
+use Rattle.scanner.specs.Believed.Symbols.{Lexeme, Symbol}
+use Rattle.grammar.specs.Believed.Language.{Refusal, unfit, unfinished, Verdict, accepted, refused}
 
 -- a step goes on to a state, or stops
 pub data Step (S : Type 0) : Type 0 where

@@ -3,9 +3,9 @@ use Prim.Native.Nat.{ℕ}
 use mathlib.Core.List.{[]}
 use mathlib.Core.Option.{Option, none, some}
 use lib.ListN.{getD}
-use Rattle.grammar.specs.Grammar.{Rule, nil, leaf, branch}
-use Rattle.grammar.specs.Rfc733.{plain, rulesOf, Notion, list, place, address, phrase, atNodes, node, word, Derivation}
-pub use Rattle.scanner.specs.Symbols.{Lexeme, Symbol}
+use Rattle.grammar.specs.Believed.Grammar.{Rule, nil, leaf, branch}
+use Rattle.grammar.specs.Believed.Rfc733.{plain, rulesOf, Notion, list, place, address, phrase, atNodes, node, word, Derivation}
+pub use Rattle.scanner.specs.Believed.Symbols.{Lexeme, Symbol}
 pub use Rattle.scanner.specs.declared.Class.{Class}
 pub use Rattle.scanner.specs.declared.Class.the-variants.{Atom, Quoted, At, LessThan, GreaterThan, Comma, Semicolon, Colon, Stray, Dot, Literal}
 

@@ -2,9 +2,9 @@
 use Prim.Native.Nat.{ℕ}
 use mathlib.Core.List.{[]}
 use lib.ListN.{getD}
-use Rattle.grammar.specs.Grammar.{Rule, Row, nil, leaf, branch}
-use Rattle.grammar.specs.Rfc733.{plain}
-use Rattle.grammar.specs.Rfc822.{rulesOf, Notion, list, place, address, boxes, boxPlace, mailbox, routeAddr, addrSpec, route, hops, emptyPlaces, localPart, domain, subDomain, phrase, word}
+use Rattle.grammar.specs.Believed.Grammar.{Rule, Row, nil, leaf, branch}
+use Rattle.grammar.specs.Believed.Rfc733.{plain}
+use Rattle.grammar.specs.Believed.Rfc822.{rulesOf, Notion, list, place, address, boxes, boxPlace, mailbox, routeAddr, addrSpec, route, hops, emptyPlaces, localPart, domain, subDomain, phrase, word}
 pub use Rattle.grammar.specs.Executable.Trees733.{Class, Atom, Quoted, At, LessThan, GreaterThan, Comma, Semicolon, Colon, Stray, Dot, Literal, Lexeme, Sym, of, Word, atomWord, quotedWord, Phrase, one, more}
 
 -- a rule, and the row of its parts

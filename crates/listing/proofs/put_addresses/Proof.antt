@@ -4,12 +4,12 @@ use Prim.Native.Nat.{_+_, _-_, _*_, _≤_}
 use native.Mathlib.Omega.{arith}
 use borrow.Author.Needs.{needs}
 use lib.ListN.{length}
-use Rattle.octets.specs.Writing.{inWindow}
+use Rattle.octets.specs.Ties.Writing.{inWindow}
 use Rattle.octets.proofs.Writes.{LeftBy, left-all, left-as, left-after, left-none}
-use Rattle.listing.specs.Lines.{addressLine}
-use Rattle.listing.specs.Listing.{each}
-use Rattle.listing.specs.Putting.{lineLimit, tabulate}
-use Rattle.grammar.specs.Records.{recordIn}
+use Rattle.listing.specs.Believed.Lines.{addressLine}
+use Rattle.listing.specs.Believed.Listing.{each}
+use Rattle.listing.specs.Ties.Putting.{lineLimit, tabulate}
+use Rattle.grammar.specs.Believed.Records.{recordIn}
 use Rattle.listing.proofs.TableLaws.{each-all, each-next, each-none}
 use Rattle.listing.proofs.put_addresses.Statement.{statement}
 use Rattle.listing.proofs.put_addresses.Tie as tie

@@ -7,7 +7,7 @@ use native.Mathlib.Omega.{arith}
 use borrow.Author.Needs.{needs}
 use lib.ListN.{length, getD, drop, drop-of-length-le}
 use lib.Seq.{drop-cons}
-use Rattle.octets.specs.Writing.{inWindow}
+use Rattle.octets.specs.Ties.Writing.{inWindow}
 use Rattle.octets.proofs.Writes.{LeftBy, left-all, left-after, left-none}
 use Rattle.listing.proofs.put_bytes.Statement.{statement}
 use Rattle.listing.proofs.put_bytes.Tie as tie

@@ -2,9 +2,9 @@
 use native.Mathlib.Omega.{arith}
 use borrow.Author.Needs.{needs}
 use Rattle.octets.proofs.Writes.{wrote-both}
-use Rattle.listing.specs.Lines.{fieldLine}
-use Rattle.listing.specs.Listing.{fieldText}
-use Rattle.listing.specs.Putting.{fieldIn}
+use Rattle.listing.specs.Believed.Lines.{fieldLine}
+use Rattle.listing.specs.Believed.Listing.{fieldText}
+use Rattle.listing.specs.Ties.Putting.{fieldIn}
 use Rattle.listing.proofs.LineLaws.{field-line}
 use Rattle.listing.proofs.put_field.Statement.{statement}
 use Rattle.listing.proofs.put_field.Tie as tie

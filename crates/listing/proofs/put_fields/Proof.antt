@@ -4,10 +4,10 @@ use Prim.Native.Nat.{_-_, _*_, _≤_}
 use native.Mathlib.Omega.{arith}
 use borrow.Author.Needs.{needs}
 use lib.ListN.{length}
-use Rattle.octets.specs.Writing.{inWindow}
+use Rattle.octets.specs.Ties.Writing.{inWindow}
 use Rattle.octets.proofs.Writes.{LeftBy, left-all, left-as, left-after, left-none}
-use Rattle.listing.specs.Listing.{each, fieldText}
-use Rattle.listing.specs.Putting.{fieldLimit, tabulate, fieldIn}
+use Rattle.listing.specs.Believed.Listing.{each, fieldText}
+use Rattle.listing.specs.Ties.Putting.{fieldLimit, tabulate, fieldIn}
 use Rattle.listing.proofs.TableLaws.{each-all, each-next, each-none}
 use Rattle.listing.proofs.put_fields.Statement.{statement}
 use Rattle.listing.proofs.put_fields.Tie as tie

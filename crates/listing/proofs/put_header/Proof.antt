@@ -2,7 +2,7 @@
 use mathlib.Core.Path.{refl, ap}
 use mathlib.Core.List.{[]}
 use borrow.Author.Needs.{needs}
-use Rattle.listing.specs.Listing.{each, fieldText}
+use Rattle.listing.specs.Believed.Listing.{each, fieldText}
 use Rattle.listing.proofs.WholeLaws.{whole}
 use Rattle.listing.proofs.put_header.Statement.{statement}
 use Rattle.listing.proofs.put_header.Tie as tie

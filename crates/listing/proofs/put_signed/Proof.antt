@@ -6,9 +6,9 @@ use lib.IntN.{pos}
 use lib.Signed.{ltZ}
 use mir.Syntax.{w64}
 use mir.Facts.{toZ-ofZ, toZ-pos}
-use Rattle.octets.specs.Octets.{minusByte}
+use Rattle.octets.specs.Believed.Octets.{minusByte}
 use Rattle.octets.proofs.Writes.{wrote-both}
-use Rattle.listing.specs.Lines.{signed}
+use Rattle.listing.specs.Believed.Lines.{signed}
 use Rattle.listing.proofs.SignLaws.{below, at-least}
 use borrow.Author.Needs.{needs}
 use Rattle.listing.proofs.put_signed.Statement.{statement}

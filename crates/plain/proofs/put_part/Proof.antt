@@ -5,7 +5,7 @@ use Prim.Native.Nat.{_+_, _-_, _≤_}
 use native.Mathlib.Omega.{arith}
 use borrow.Author.Needs.{needs}
 use lib.ListN.{length}
-use Rattle.octets.specs.Text.{part}
+use Rattle.octets.specs.Believed.Text.{part}
 use Rattle.octets.proofs.Parts.{part-cons, part-none}
 use Rattle.octets.proofs.Writes.{Left, left-all, left-after, left-none}
 use Rattle.plain.proofs.put_part.Statement.{statement}

@@ -1,5 +1,5 @@
 -- `plain::write_fitting` meets its contract: the first run stores nothing. Assumes nothing.
-use Rattle.plain.specs.Walking.{writtenText}
+use Rattle.plain.specs.Ties.Walking.{writtenText}
 use Rattle.octets.proofs.Writes.{too-long, fitting}
 use borrow.Author.Needs.{needs}
 use Rattle.plain.proofs.write_fitting.Statement.{statement}

@@ -2,7 +2,7 @@
 use native.Mathlib.Omega.{arith}
 use mathlib.Core.Path.{sym}
 use lib.Seq.{length-take-le}
-use Rattle.octets.specs.Classes.{classOf, classTable}
+use Rattle.octets.specs.Believed.Classes.{classOf, classTable}
 use Rattle.octets.proofs.Parts.{no-front}
 use Rattle.addresses.proofs.Told.{some-list}
 use Rattle.plain.proofs.PlainLaws.{refused-promised, list-promised}

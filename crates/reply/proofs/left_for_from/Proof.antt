@@ -3,7 +3,7 @@ use borrow.Author.Needs.{needs}
 use mathlib.Core.List.{List}
 use native.Mathlib.Omega.{arith}
 use Prim.Native.Nat.{ℕ}
-use Rattle.octets.specs.Classes.{classOf, classTable}
+use Rattle.octets.specs.Believed.Classes.{classOf, classTable}
 use Rattle.scanner.proofs.Unfolding.{found, found-end, found-fault}
 use Rattle.reply.proofs.ReplyLaws.{too-long, nothing, a-symbol, a-fault}
 use Rattle.reply.proofs.left_for_from.Statement.{statement}

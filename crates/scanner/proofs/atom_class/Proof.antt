@@ -1,6 +1,6 @@
 -- `scanner::atom_class` meets its contract. Assumes nothing.
 use mathlib.Core.Path.{_≡_, sym, ap, _∙_}
-use Rattle.octets.specs.Choice.{pick}
+use Rattle.octets.specs.Believed.Choice.{pick}
 use Rattle.scanner.specs.declared.Class.the-variants.{At, Atom}
 use borrow.Author.Needs.{needs}
 use Rattle.scanner.proofs.atom_class.Statement.{statement}

@@ -5,10 +5,10 @@ use mathlib.Core.List.{List}
 use native.Mathlib.Omega.{arith}
 use Prim.Native.Nat.{ℕ, _-_, _≤_}
 use lib.ListN.{length}
-use Rattle.octets.specs.Text.{part}
-use Rattle.scanner.specs.Characters.{charactersAt}
-use Rattle.scanner.specs.Scanning.{inAtom, scanFrom}
-use Rattle.scanner.specs.Steps.{FirstCharacter, StepIs}
+use Rattle.octets.specs.Believed.Text.{part}
+use Rattle.scanner.specs.Believed.Characters.{charactersAt}
+use Rattle.scanner.specs.Believed.Scanning.{inAtom, scanFrom}
+use Rattle.scanner.specs.Ties.Steps.{FirstCharacter, StepIs}
 use Rattle.scanner.specs.declared.Kind.the-variants.{Plain}
 use Rattle.scanner.proofs.MoveLaws.{atom-on, atom-ends, atom-last}
 use Rattle.scanner.proofs.atom_end.Statement.{statement}

@@ -2,8 +2,8 @@
 use native.Mathlib.Omega.{arith}
 use Prim.Native.Nat.{_-_, _≤_}
 use lib.ListN.{length}
-use Rattle.scanner.specs.Steps.{FirstCharacter}
-use Rattle.scanner.specs.Gaps.{gapDepth}
+use Rattle.scanner.specs.Ties.Steps.{FirstCharacter}
+use Rattle.scanner.specs.Ties.Gaps.{gapDepth}
 use Rattle.scanner.proofs.CategoryLaws.{Walked, walked-none, walk-over, walk-tells, walk-ends, walk-on}
 use borrow.Author.Needs.{needs}
 use Rattle.scanner.proofs.between_by.Statement.{statement}

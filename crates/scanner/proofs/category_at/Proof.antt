@@ -3,7 +3,7 @@ use borrow.Author.Needs.{needs}
 use mathlib.Core.Path.{sym, _∙_}
 use native.Mathlib.Omega.{arith}
 use lib.Seq.{length-take-le}
-use Rattle.octets.specs.Classes.{classOf, classTable}
+use Rattle.octets.specs.Believed.Classes.{classOf, classTable}
 use Rattle.scanner.proofs.BodyChecks.{Clean, clean}
 use Rattle.scanner.proofs.CategoryLaws.{category-refused, category-ahead, category-past, category-inside}
 use Rattle.scanner.proofs.category_at.Statement.{statement}

@@ -4,9 +4,9 @@ use mathlib.Core.Path.{_≡_, refl, sym, _∙_}
 use native.Mathlib.Omega.{arith}
 use Prim.Native.Nat.{_-_, _≤_}
 use lib.ListN.{length}
-use Rattle.scanner.specs.Scanning.{scanBy}
-use Rattle.scanner.specs.Categories.{categoryOf}
-use Rattle.scanner.specs.Gaps.{Faultless}
+use Rattle.scanner.specs.Believed.Scanning.{scanBy}
+use Rattle.scanner.specs.Believed.Categories.{categoryOf}
+use Rattle.scanner.specs.Ties.Gaps.{Faultless}
 use Rattle.scanner.proofs.Unfolding.{SymbolAt, found, found-end, found-fault, fault-on}
 use Rattle.scanner.proofs.CategoryLaws.{no-fault, category-over, category-before, category-in, category-behind}
 use Rattle.scanner.proofs.category_by.Statement.{statement}

@@ -5,9 +5,9 @@ use mathlib.Core.List.{List, [], _∷_}
 use native.Mathlib.Omega.{arith}
 use Prim.Native.Nat.{ℕ, suc, _+_, _-_, _≤_}
 use lib.ListN.{length, getD}
-use Rattle.octets.specs.Numbers.{byteAbove127, strayControl}
-use Rattle.scanner.specs.Scanning.{takingInComment, go, halt}
-use Rattle.scanner.specs.Steps.{FirstCharacter, StepIs}
+use Rattle.octets.specs.Believed.Numbers.{byteAbove127, strayControl}
+use Rattle.scanner.specs.Believed.Scanning.{takingInComment, go, halt}
+use Rattle.scanner.specs.Ties.Steps.{FirstCharacter, StepIs}
 use Rattle.scanner.proofs.MoveLaws.{at-end, Commenting, comment-moves, comment-on, comment-opens, comment-closes, comment-over, comment-taking, comment-taken}
 use Rattle.scanner.proofs.comment_end.Statement.{statement}
 use Rattle.scanner.proofs.comment_end.Tie as tie

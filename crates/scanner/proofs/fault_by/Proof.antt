@@ -5,8 +5,8 @@ use mathlib.Core.List.{List, [], _∷_}
 use native.Mathlib.Omega.{arith}
 use Prim.Native.Nat.{ℕ, suc, _+_, _-_, _≤_}
 use lib.ListN.{length, getD}
-use Rattle.scanner.specs.Scanning.{scanBy}
-use Rattle.scanner.specs.Answers.{unlessFault, faultOf, nextOf}
+use Rattle.scanner.specs.Believed.Scanning.{scanBy}
+use Rattle.scanner.specs.Believed.Answers.{unlessFault, faultOf, nextOf}
 use Rattle.scanner.proofs.Unfolding.{SymbolAt, found, found-end, found-fault, fault-on}
 use Rattle.scanner.proofs.fault_by.Statement.{statement}
 use Rattle.scanner.proofs.fault_by.Tie as tie

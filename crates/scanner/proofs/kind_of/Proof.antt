@@ -3,7 +3,7 @@ use borrow.Author.Needs.{needs}
 use borrow.Author.Tests.{ne-eqb}
 use mathlib.Core.Path.{_≡_, sym}
 use Prim.Native.Nat.{ℕ}
-use Rattle.scanner.specs.Kinds.{kindOfClass, kindOf}
+use Rattle.scanner.specs.Believed.Kinds.{kindOfClass, kindOf}
 use Rattle.scanner.specs.declared.Kind.{Kind}
 use Rattle.scanner.proofs.KindLaws.{return-kind, class-kind}
 use Rattle.scanner.proofs.kind_of.Statement.{statement}

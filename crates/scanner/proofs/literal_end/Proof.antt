@@ -5,10 +5,10 @@ use mathlib.Core.List.{[]}
 use native.Mathlib.Omega.{arith}
 use Prim.Native.Nat.{_-_, _≤_}
 use lib.ListN.{length}
-use Rattle.octets.specs.Numbers.{byteAbove127, strayControl, literalNotClosed}
-use Rattle.scanner.specs.Scanning.{takingInLiteral, go, halt}
-use Rattle.scanner.specs.Answers.{nextOf}
-use Rattle.scanner.specs.Steps.{FirstCharacter}
+use Rattle.octets.specs.Believed.Numbers.{byteAbove127, strayControl, literalNotClosed}
+use Rattle.scanner.specs.Believed.Scanning.{takingInLiteral, go, halt}
+use Rattle.scanner.specs.Believed.Answers.{nextOf}
+use Rattle.scanner.specs.Ties.Steps.{FirstCharacter}
 use Rattle.scanner.specs.declared.Class.the-variants.{Literal}
 use Rattle.scanner.specs.declared.Next.the-variants.{Found}
 use Rattle.scanner.proofs.MoveLaws.{at-end, InLiteral, literal-moves, literal-on, literal-taking, literal-taken}

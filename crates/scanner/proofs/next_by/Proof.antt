@@ -5,11 +5,11 @@ use mathlib.Core.List.{List, [], _∷_}
 use native.Mathlib.Omega.{arith}
 use Prim.Native.Nat.{ℕ, suc, _+_, _-_, _≤_}
 use lib.ListN.{length, getD}
-use Rattle.octets.specs.Numbers.{byteAbove127, strayControl}
-use Rattle.octets.specs.Text.{part}
-use Rattle.scanner.specs.Scanning.{outside, inQuoted, inLiteral, inComment, atom, atomClass, single, go, halt, scanBy}
-use Rattle.scanner.specs.Answers.{nextOf}
-use Rattle.scanner.specs.Steps.{FirstCharacter, StepIs, AtomEnds, CommentIs, CommentEnds}
+use Rattle.octets.specs.Believed.Numbers.{byteAbove127, strayControl}
+use Rattle.octets.specs.Believed.Text.{part}
+use Rattle.scanner.specs.Believed.Scanning.{outside, inQuoted, inLiteral, inComment, atom, atomClass, single, go, halt, scanBy}
+use Rattle.scanner.specs.Believed.Answers.{nextOf}
+use Rattle.scanner.specs.Ties.Steps.{FirstCharacter, StepIs, AtomEnds, CommentIs, CommentEnds}
 use Rattle.scanner.specs.declared.Class.{Class}
 use Rattle.scanner.specs.declared.Class.the-variants.{Stray}
 use Rattle.scanner.specs.declared.Next.the-variants.{Found}

@@ -3,8 +3,8 @@ use borrow.Author.Needs.{needs}
 use mathlib.Core.Path.{sym, ap, _∙_}
 use native.Mathlib.Omega.{arith}
 use lib.Seq.{length-take-le}
-use Rattle.octets.specs.Classes.{classOf, classTable}
-use Rattle.scanner.specs.Answers.{nextTold}
+use Rattle.octets.specs.Believed.Classes.{classOf, classTable}
+use Rattle.scanner.specs.Believed.Answers.{nextTold}
 use Rattle.scanner.specs.declared.Next.the-variants.{Fault}
 use Rattle.scanner.proofs.BodyChecks.{too-long, out-of-order, past-the-end, in-order}
 use Rattle.scanner.proofs.next_symbol.Statement.{statement}

@@ -4,7 +4,7 @@ use mathlib.Core.Path.{refl, _∙_}
 use native.Mathlib.Omega.{arith}
 use Prim.Native.Nat.{_-_}
 use lib.ListN.{length}
-use Rattle.scanner.specs.Steps.{FaultsFrom}
+use Rattle.scanner.specs.Ties.Steps.{FaultsFrom}
 use Rattle.scanner.proofs.FaultLaws.{harmless-byte}
 use Rattle.scanner.proofs.past_harmless.Statement.{statement}
 use Rattle.scanner.proofs.past_harmless.Tie as tie

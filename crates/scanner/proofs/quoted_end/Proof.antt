@@ -5,11 +5,11 @@ use mathlib.Core.List.{List, [], _∷_}
 use native.Mathlib.Omega.{arith}
 use Prim.Native.Nat.{ℕ, suc, _+_, _-_, _≤_}
 use lib.ListN.{length, getD}
-use Rattle.octets.specs.Numbers.{byteAbove127, strayControl}
-use Rattle.scanner.specs.Characters.{charactersAt}
-use Rattle.scanner.specs.Scanning.{outside, inQuoted, takingInQuoted, symbol, go, halt, scanFrom}
-use Rattle.scanner.specs.Answers.{nextOf}
-use Rattle.scanner.specs.Steps.{FirstCharacter, StepIs}
+use Rattle.octets.specs.Believed.Numbers.{byteAbove127, strayControl}
+use Rattle.scanner.specs.Believed.Characters.{charactersAt}
+use Rattle.scanner.specs.Believed.Scanning.{outside, inQuoted, takingInQuoted, symbol, go, halt, scanFrom}
+use Rattle.scanner.specs.Believed.Answers.{nextOf}
+use Rattle.scanner.specs.Ties.Steps.{FirstCharacter, StepIs}
 use Rattle.scanner.specs.declared.Class.the-variants.{Quoted}
 use Rattle.scanner.specs.declared.Next.the-variants.{Found}
 use Rattle.scanner.specs.declared.Kind.the-variants.{Quote, Return, Above, Backslash}

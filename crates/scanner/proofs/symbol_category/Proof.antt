@@ -1,7 +1,7 @@
 -- `scanner::symbol_category` meets its contract. Assumes nothing.
 use borrow.Author.Needs.{needs}
 use mathlib.Core.Path.{sym, ap, _∙_}
-use Rattle.octets.specs.Choice.{pick}
+use Rattle.octets.specs.Believed.Choice.{pick}
 use Rattle.scanner.specs.declared.Category.the-variants.{At, Mark}
 use Rattle.scanner.proofs.CategoryLaws.{word-symbol, mark-symbol}
 use Rattle.scanner.proofs.symbol_category.Statement.{statement}

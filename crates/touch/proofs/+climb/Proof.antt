@@ -3,7 +3,7 @@ use Prim.Native.Nat.{ℕ, _<_}
 use native.Mathlib.Omega.{arith}
 use mathlib.Core.Path.{ap}
 use borrow.Author.Needs.{needs}
-use Rattle.grammar.specs.Records.{AddressRecord}
+use Rattle.grammar.specs.Believed.Records.{AddressRecord}
 use Rattle.touch.proofs.ClimbLaws.{climb-over, climb-parent, climb-on}
 use borrow.Fn.Kinds.{In}
 use borrow.Fn.PlainCycle.{Measures, is, falls, and}

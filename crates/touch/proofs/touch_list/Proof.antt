@@ -1,6 +1,6 @@
 -- `touch::touch_list` meets its contract. Assumes nothing.
 use native.Mathlib.Omega.{arith}
-use Rattle.grammar.specs.Records.{records}
+use Rattle.grammar.specs.Believed.Records.{records}
 use Rattle.touch.proofs.TouchLaws.{parts, before-body, behind-body, byte-told}
 use borrow.Author.Needs.{needs}
 use Rattle.touch.proofs.touch_list.Statement.{statement}

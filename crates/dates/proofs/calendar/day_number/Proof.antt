@@ -1,7 +1,7 @@
 -- `dates::calendar::day_number` meets its contract. Assumes nothing.
 use borrow.Author.Needs.{needs}
 use native.Mathlib.Omega.{arith}
-use Rattle.dates.specs.Calendar.{dayNumber}
+use Rattle.dates.specs.Believed.Calendar.{dayNumber}
 use Rattle.dates.proofs.calendar.day_number.Statement.{statement}
 use Rattle.dates.proofs.calendar.day_number.Tie as tie
 

@@ -2,7 +2,7 @@
 use borrow.Author.Needs.{needs}
 use native.Mathlib.Omega.{arith}
 use borrow.Author.Tests.{le-leb, lt-leb}
-use Rattle.dates.specs.Form.{dayAfter}
+use Rattle.dates.specs.Executable.Form.{dayAfter}
 use Rattle.dates.proofs.form.day_after.Statement.{statement}
 use Rattle.dates.proofs.form.day_after.Tie as tie
 

@@ -1,8 +1,8 @@
 -- `dates::form::hour_after` meets its contract. Assumes nothing.
 use borrow.Author.Needs.{needs}
 use mathlib.Core.Path.{_≡_}
-use Rattle.dates.specs.Form.{hourOf, zoneOf, noHour, noZone, hourAfter}
-use Rattle.dates.specs.Steps.{left, TimeIs, ZoneFound}
+use Rattle.dates.specs.Executable.Form.{hourOf, zoneOf, noHour, noZone, hourAfter}
+use Rattle.dates.specs.Ties.Steps.{left, TimeIs, ZoneFound}
 use Rattle.dates.proofs.FormLaws.{all-done, not-done}
 use Rattle.dates.proofs.form.hour_after.Statement.{statement}
 use Rattle.dates.proofs.form.hour_after.Tie as tie

@@ -2,7 +2,7 @@
 use borrow.Author.Needs.{needs}
 use native.Mathlib.Omega.{arith}
 use borrow.Author.Tests.{eq-eqb, ne-eqb}
-use Rattle.dates.specs.Form.{minuteAfter}
+use Rattle.dates.specs.Executable.Form.{minuteAfter}
 use Rattle.dates.proofs.form.minute_after.Statement.{statement}
 use Rattle.dates.proofs.form.minute_after.Tie as tie
 

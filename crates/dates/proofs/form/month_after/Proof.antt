@@ -1,9 +1,9 @@
 -- `dates::form::month_after` meets its contract. Assumes nothing.
 use mathlib.Core.Path.{_≡_, refl}
 use borrow.Author.Tests.{lt-ltb, le-ltb}
-use Rattle.dates.specs.Names.{monthNames}
-use Rattle.dates.specs.Form.{named, monthAfter}
-use Rattle.dates.specs.Steps.{rows, ascend, left}
+use Rattle.dates.specs.Believed.Names.{monthNames}
+use Rattle.dates.specs.Executable.Form.{named, monthAfter}
+use Rattle.dates.specs.Ties.Steps.{rows, ascend, left}
 use Rattle.dates.proofs.form.month_after.Statement.{statement}
 use Rattle.dates.proofs.form.month_after.Tie as tie
 

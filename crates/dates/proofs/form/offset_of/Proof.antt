@@ -7,9 +7,9 @@ use lib.IntN.{pos, negℤ, +ℤ-idl}
 use mir.Syntax.{w16}
 use mir.Val.{toZ}
 use mir.Facts.{toZ-ofZ, toZ-pos}
-use Rattle.octets.specs.Choice.{pick}
-use Rattle.dates.specs.Names.{ahead, behind}
-use Rattle.dates.specs.Grammar.{offsetOf}
+use Rattle.octets.specs.Believed.Choice.{pick}
+use Rattle.dates.specs.Believed.Names.{ahead, behind}
+use Rattle.dates.specs.Believed.Grammar.{offsetOf}
 use Rattle.dates.specs.declared.form.Offset.the-variants.{Minutes}
 use Rattle.dates.proofs.MomentLaws.{minus-fits}
 use Rattle.dates.proofs.FormLaws.{hours-out, minutes-out, in-range}

@@ -2,9 +2,9 @@
 use mathlib.Core.Path.{_≡_, refl}
 use native.Mathlib.Omega.{arith}
 use borrow.Author.Tests.{eq-eqb, ne-eqb, lt-ltb, le-ltb}
-use Rattle.dates.specs.Names.{dayNames}
-use Rattle.dates.specs.Form.{named, readingOf}
-use Rattle.dates.specs.Steps.{rows, ascend, left}
+use Rattle.dates.specs.Believed.Names.{dayNames}
+use Rattle.dates.specs.Executable.Form.{named, readingOf}
+use Rattle.dates.specs.Ties.Steps.{rows, ascend, left}
 use Rattle.dates.proofs.form.read_form.Statement.{statement}
 use Rattle.dates.proofs.form.read_form.Tie as tie
 

@@ -1,6 +1,6 @@
 -- `dates::form::read_name` meets its contract. Assumes nothing.
 use native.Mathlib.Omega.{arith}
-use Rattle.dates.specs.Steps.{rows}
+use Rattle.dates.specs.Ties.Steps.{rows}
 use Rattle.dates.proofs.NameLaws.{length-rows}
 use Rattle.dates.proofs.FormLaws.{no-letters, a-name}
 use Rattle.dates.proofs.form.read_name.Statement.{statement}

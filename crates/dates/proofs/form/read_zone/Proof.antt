@@ -2,7 +2,7 @@
 use borrow.Author.Needs.{needs}
 use native.Mathlib.Omega.{arith}
 use borrow.Author.Tests.{eq-eqb, ne-eqb}
-use Rattle.dates.specs.Form.{zoneOf}
+use Rattle.dates.specs.Executable.Form.{zoneOf}
 use Rattle.dates.proofs.form.read_zone.Statement.{statement}
 use Rattle.dates.proofs.form.read_zone.Tie as tie
 

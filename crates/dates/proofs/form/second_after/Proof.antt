@@ -2,7 +2,7 @@
 use borrow.Author.Needs.{needs}
 use native.Mathlib.Omega.{arith}
 use borrow.Author.Tests.{eq-eqb, ne-eqb}
-use Rattle.dates.specs.Form.{secondAfter}
+use Rattle.dates.specs.Executable.Form.{secondAfter}
 use Rattle.dates.proofs.form.second_after.Statement.{statement}
 use Rattle.dates.proofs.form.second_after.Tie as tie
 

@@ -3,8 +3,8 @@ use borrow.Author.Needs.{needs}
 use mathlib.Core.Path.{_≡_, refl, sym, ap, _∙_}
 use native.Mathlib.Omega.{arith}
 use Prim.Native.Nat.{_+_, _-_, _*_, _^_, _≤_, _<_}
-use Rattle.octets.specs.Text.{part}
-use Rattle.dates.specs.Grammar.{number, numberFrom}
+use Rattle.octets.specs.Believed.Text.{part}
+use Rattle.dates.specs.Believed.Grammar.{number, numberFrom}
 use Rattle.dates.proofs.FormLaws.{number-step, number-end, grows, bounded}
 use Rattle.dates.proofs.form.value.Statement.{statement}
 use Rattle.dates.proofs.form.value.Tie as tie

@@ -3,7 +3,7 @@ use borrow.Author.Needs.{needs}
 use mathlib.Core.Path.{_∙_}
 use native.Mathlib.Omega.{arith}
 use borrow.Author.Tests.{ne-eqb}
-use Rattle.dates.specs.Form.{yearAfter}
+use Rattle.dates.specs.Executable.Form.{yearAfter}
 use Rattle.dates.proofs.FormLaws.{two-digits, four-digits}
 use Rattle.dates.proofs.form.year_after.Statement.{statement}
 use Rattle.dates.proofs.form.year_after.Tie as tie

@@ -2,7 +2,7 @@
 use borrow.Author.Needs.{needs}
 use mathlib.Core.Path.{refl}
 use mir.Facts.{toZ-ofZ}
-use Rattle.dates.specs.Steps.{rows, ascend, left}
+use Rattle.dates.specs.Ties.Steps.{rows, ascend, left}
 use Rattle.dates.proofs.FormLaws.{minutes-fit, no-zone, a-zone}
 use Rattle.dates.proofs.form.zone_named.Statement.{statement}
 use Rattle.dates.proofs.form.zone_named.Tie as tie

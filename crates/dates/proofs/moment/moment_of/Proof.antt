@@ -7,7 +7,7 @@ use borrow.Author.Tests.{not-true, not-false}
 use mir.Syntax.{w16, w64}
 use mir.Val.{SFits}
 use mir.Facts.{toZ-ofZ}
-use Rattle.dates.specs.Answers.{dayExists, timeExists, nameTrue, localSeconds, inZone, seconds}
+use Rattle.dates.specs.Believed.Answers.{dayExists, timeExists, nameTrue, localSeconds, inZone, seconds}
 use Rattle.dates.specs.declared.moment.Moment.the-variants.{At}
 use Rattle.dates.proofs.MomentLaws.{InCalendar, in-calendar, InDay, in-day, no-day, no-time, false-name, in-zone}
 use Rattle.dates.proofs.moment.moment_of.Statement.{statement}

@@ -6,8 +6,8 @@ use native.Mathlib.Omega.{arith}
 use Prim.Native.Nat.{_+_, _-_, _≤_}
 use lib.ListN.{length, drop}
 use native.Mathlib.Nat.{zero-add}
-use Rattle.dates.specs.Names.{place}
-use Rattle.dates.specs.Steps.{rows, ascend}
+use Rattle.dates.specs.Believed.Names.{place}
+use Rattle.dates.specs.Ties.Steps.{rows, ascend}
 use Rattle.dates.proofs.NameLaws.{row, row-found, row-other, rows-over}
 use Rattle.dates.proofs.names.find.Statement.{statement}
 use Rattle.dates.proofs.names.find.Tie as tie

@@ -1,7 +1,7 @@
 -- `dates::parts::key_of` meets its contract. Assumes nothing.
 use borrow.Author.Needs.{needs}
 use mathlib.Core.Path.{sym, ap, _∙_}
-use Rattle.dates.specs.Parts.{isRun}
+use Rattle.dates.specs.Believed.Parts.{isRun}
 use Rattle.dates.proofs.PartLaws.{key-run, key-mark, key-other}
 use Rattle.dates.proofs.parts.key_of.Statement.{statement}
 use Rattle.dates.proofs.parts.key_of.Tie as tie

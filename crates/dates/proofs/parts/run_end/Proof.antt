@@ -3,8 +3,8 @@ use borrow.Author.Needs.{needs}
 use mathlib.Core.Path.{_≡_, sym, _∙_}
 use native.Mathlib.Omega.{arith}
 use Prim.Native.Nat.{_+_, _-_, _≤_}
-use Rattle.octets.specs.Text.{part}
-use Rattle.dates.specs.Steps.{span}
+use Rattle.octets.specs.Believed.Text.{part}
+use Rattle.dates.specs.Ties.Steps.{span}
 use Rattle.dates.proofs.PartLaws.{span-end, span-other, span-same}
 use Rattle.dates.proofs.parts.run_end.Statement.{statement}
 use Rattle.dates.proofs.parts.run_end.Tie as tie

@@ -3,8 +3,8 @@ use Prim.Native.Nat.{_≤_, _-_}
 use native.Mathlib.Omega.{arith}
 use mathlib.Core.Path.{_≡_, refl, sym, ap, _∙_}
 use lib.ListN.{length}
-use Rattle.header.specs.Fields.{inBody, headerAt}
-use Rattle.header.specs.Steps.{firstOf}
+use Rattle.header.specs.Believed.Fields.{inBody, headerAt}
+use Rattle.header.specs.Ties.Steps.{firstOf}
 use Rattle.header.proofs.HeaderLaws.{ends, body-fault, body-ends, body-goes}
 use Rattle.header.proofs.fields.body_rest.Statement.{statement}
 use Rattle.header.proofs.fields.body_rest.Tie as tie

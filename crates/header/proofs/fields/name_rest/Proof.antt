@@ -6,8 +6,8 @@ use borrow.Author.Tests.{not-true, not-false}
 use native.Mathlib.Omega.{arith}
 use mathlib.Core.Path.{_≡_, refl, sym, ap, _∙_}
 use lib.ListN.{length}
-use Rattle.header.specs.Fields.{inName, headerAt}
-use Rattle.header.specs.Steps.{firstOf}
+use Rattle.header.specs.Believed.Fields.{inName, headerAt}
+use Rattle.header.specs.Ties.Steps.{firstOf}
 use Rattle.header.proofs.HeaderLaws.{ends, name-ends, name-fault, name-white, name-other}
 use Rattle.header.proofs.fields.name_rest.Statement.{statement}
 use Rattle.header.proofs.fields.name_rest.Tie as tie

@@ -2,8 +2,8 @@
 use borrow.Author.Needs.{needs}
 use native.Mathlib.Omega.{arith}
 use mathlib.Core.Path.{sym, ap, _∙_}
-use Rattle.header.specs.Fields.{lineStart}
-use Rattle.header.specs.Steps.{firstOf}
+use Rattle.header.specs.Believed.Fields.{lineStart}
+use Rattle.header.specs.Ties.Steps.{firstOf}
 use Rattle.header.proofs.HeaderLaws.{ends, empty-line, name-starts, no-name}
 use Rattle.header.proofs.fields.next_field.Statement.{statement}
 use Rattle.header.proofs.fields.next_field.Tie as tie

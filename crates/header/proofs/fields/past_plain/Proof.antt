@@ -3,7 +3,7 @@ use Prim.Native.Nat.{_-_}
 use native.Mathlib.Omega.{arith}
 use mathlib.Core.Path.{refl, _∙_}
 use lib.ListN.{length}
-use Rattle.header.specs.Steps.{GoesOn}
+use Rattle.header.specs.Ties.Steps.{GoesOn}
 use Rattle.header.proofs.ByteLaws.{crlf-other, body-other}
 use Rattle.header.proofs.HeaderLaws.{body-goes}
 use Rattle.header.proofs.fields.past_plain.Statement.{statement}

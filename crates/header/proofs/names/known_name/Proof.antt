@@ -8,11 +8,11 @@ use mathlib.Core.Bool.{true, false}
 use mathlib.Core.List.{List, [], _∷_, map}
 use lib.Dec.{eqb}
 use lib.ListN.{length, drop, getD, List·getD-map}
-use Rattle.octets.specs.Letters.{lower, same, sameLetters}
+use Rattle.octets.specs.Believed.Letters.{lower, same, sameLetters}
 use Rattle.octets.proofs.LetterLaws.{lengths-differ, byte-same, byte-differs, both-end}
 use Rattle.octets.proofs.Tables.{at}
-use Rattle.octets.specs.Text.{bytes}
-use Rattle.header.specs.Names.{KnownName, knownNames, knownIn, knownOf}
+use Rattle.octets.specs.Believed.Text.{bytes}
+use Rattle.header.specs.Believed.Names.{KnownName, knownNames, knownIn, knownOf}
 use Rattle.header.specs.declared.names.Known.the-variants.{Date}
 use Rattle.header.proofs.NameLaws.{past, none-left, next-agrees, next-differs, Holds, holds, holds-true}
 use Rattle.header.proofs.names.known_name.Statement.{statement}

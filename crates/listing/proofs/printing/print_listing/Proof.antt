@@ -3,7 +3,7 @@ use mathlib.Core.Path.{_≡_, refl, _∙_}
 use Prim.Native.Nat.{_-_}
 use borrow.Author.Needs.{needs}
 use lib.ListN.{length}
-use Rattle.listing.specs.Listing.{listing}
+use Rattle.listing.specs.Believed.Listing.{listing}
 use Rattle.listing.proofs.printing.print_listing.Statement.{statement}
 use Rattle.listing.proofs.printing.print_listing.Tie as tie
 

@@ -1,6 +1,6 @@
 -- `octets::classes::class` meets its contract: the constant of the source passes the test over the whole. Assumes nothing.
 use borrow.Author.Needs.{needs}
-use Rattle.octets.specs.Classes.{classOf}
+use Rattle.octets.specs.Believed.Classes.{classOf}
 use Rattle.octets.proofs.classes.class.Statement.{statement}
 use Rattle.octets.proofs.classes.class.Tie as tie
 

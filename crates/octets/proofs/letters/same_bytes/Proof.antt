@@ -3,7 +3,7 @@ use Prim.Native.Nat.{_≤_, _-_}
 use mathlib.Core.Path.{_≡_, refl, sym, _∙_}
 use native.Mathlib.Omega.{arith}
 use lib.ListN.{length, drop}
-use Rattle.octets.specs.Letters.{sameBytes}
+use Rattle.octets.specs.Believed.Letters.{sameBytes}
 use Rattle.octets.proofs.LetterLaws.{lengths-differ, byte-same, byte-differs, both-end}
 use Rattle.octets.proofs.letters.same_bytes.Statement.{statement}
 use Rattle.octets.proofs.letters.same_bytes.Tie as tie

@@ -1,6 +1,6 @@
 -- `octets::stored::store_two` meets its contract. Assumes nothing.
 use mathlib.Core.Path.{sym}
-use Rattle.octets.specs.Stored.{bytesOf}
+use Rattle.octets.specs.Believed.Stored.{bytesOf}
 use Rattle.octets.proofs.Parts.{sets-out}
 use Rattle.octets.proofs.StoredLaws.{two-stored}
 use borrow.Author.Needs.{needs}

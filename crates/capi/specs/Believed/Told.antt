@@ -1,0 +1,44 @@
+-- Answers as numbers: in a lent array, and as the value of a function.
+use Prim.Native.Nat.{ℕ}
+use mathlib.Core.List.{List, [], _∷_}
+use lib.Seq.{sets}
+use Rattle.octets.specs.Believed.Choice.{pick}
+use Rattle.octets.specs.Believed.Answers.{numberOf, positionOf, countOf}
+use Rattle.octets.specs.declared.answers.Answer.{Answer}
+use Rattle.header.specs.declared.names.Known.{Known}
+use Rattle.header.specs.declared.names.Known.the-variants.{Date, From, ReplyTo, To, Cc, Bcc, Other}
+use Rattle.dates.specs.Believed.Answers as date
+use Rattle.dates.specs.declared.DateAnswer.{DateAnswer}
+use Rattle.reply.specs.Believed.Reply.{leftForFrom}
+use Rattle.touch.specs.Believed.Answers as touch
+use Rattle.touch.specs.declared.Touched.{Touched}
+
+-- a lent array afterwards: the number, position and count at its front, as far as it reaches
+abbrev pub toldIn : List ℕ → Answer → List ℕ
+toldIn lent answer = sets lent 0 (numberOf answer ∷ positionOf answer ∷ countOf answer ∷ [])
+
+-- of an expansion: the openings, too
+abbrev pub expansionToldIn : List ℕ → Answer → ℕ → List ℕ
+expansionToldIn lent answer openings = sets lent 0 (numberOf answer ∷ positionOf answer ∷ countOf answer ∷ openings ∷ [])
+
+-- the same of a date's answer
+abbrev pub dateToldIn : List ℕ → DateAnswer → List ℕ
+dateToldIn lent answer = sets lent 0 (date.numberOf answer ∷ date.positionOf answer ∷ date.countOf answer ∷ [])
+
+-- of what is answered for a touched byte: what the byte is and what could have stood there, too
+abbrev pub touchToldIn : List ℕ → Touched → List ℕ
+touchToldIn lent answer = sets lent 0 (touch.numberOf answer ∷ touch.positionOf answer ∷ touch.countOf answer ∷ touch.categoryOf answer ∷ touch.namesOf answer ∷ [])
+
+-- the place of a known name in document 01's order, from 1; 0 for any other name
+abbrev pub knownNumber : Known → ℕ
+knownNumber Date = 1
+knownNumber From = 2
+knownNumber ReplyTo = 3
+knownNumber To = 4
+knownNumber Cc = 5
+knownNumber Bcc = 6
+knownNumber Other = 0
+
+-- which of the two bodies to reply to: 0 for Reply-To's, 1 for From's
+abbrev pub replyNumber : List ℕ → ℕ
+replyNumber reply = pick (leftForFrom reply) 1 0

@@ -1,0 +1,2 @@
+-- To be believed. Document 01, "Checked examples": the table, and the statement over its rows.
+pub mod Examples

@@ -1,0 +1,2 @@
+-- To be believed. Document 02, CR 3: what could have stood at the place of a refusal.
+pub mod Things

@@ -1,0 +1,117 @@
+-- Document 01, "Fields": the fields of a message.
+use Prim.Native.Nat.{ℕ, _+_}
+use mathlib.Core.Bool.{Bool, not}
+use mathlib.Core.List.{List, [], _∷_}
+use lib.Dec.{eqb, ltb}
+use lib.ListN.{drop, getD}
+use Rattle.octets.specs.Believed.Choice.{pick, both, either}
+use Rattle.octets.specs.Believed.Classes.{within, isWhite}
+use Rattle.octets.specs.Believed.Numbers.{nameFault, byteAbove127, headerNotEnded}
+use Rattle.octets.specs.Believed.Octets.{lineFeedByte, returnByte, colonByte}
+
+-- where a field's name and body start and end
+pub record Field : Type 0 where
+  pub nameStart : ℕ
+  pub nameEnd : ℕ
+  pub bodyStart : ℕ
+  pub bodyEnd : ℕ
+
+-- the field with these positions
+abbrev pub fieldOf : ℕ → ℕ → ℕ → ℕ → Field
+fieldOf nameStart nameEnd bodyStart bodyEnd =
+    record { nameStart = nameStart; nameEnd = nameEnd; bodyStart = bodyStart; bodyEnd = bodyEnd }
+
+-- the fields in order, and then the header's end or the first fault: its number and position
+pub data Header : Type 0 where
+  field : Field → Header → Header
+  ended : Header
+  fault : ℕ → ℕ → Header
+
+-- the fields, in order
+abbrev pub fieldsOf : Header → List Field
+fieldsOf (field f rest) = f ∷ fieldsOf rest
+fieldsOf ended = []
+fieldsOf (fault number position) = []
+
+-- a name holds 33 to 126 without the colon, and SPACE and HTAB
+unfoldable pub nameHolds : ℕ → Bool
+nameHolds b = either (isWhite b) (both (within 33 126 b) (not (eqb b colonByte)))
+
+-- it starts with such a byte that is neither SPACE nor HTAB
+unfoldable pub nameStartsWith : ℕ → Bool
+nameStartsWith b = both (nameHolds b) (not (isWhite b))
+
+-- the first of these bytes are CR and LF
+unfoldable pub crlf : List ℕ → Bool
+crlf bytes = both (eqb (getD bytes 0 0) returnByte) (eqb (getD bytes 1 0) lineFeedByte)
+
+-- they are CR and LF that are not followed by SPACE or HTAB
+unfoldable pub endsBody : List ℕ → Bool
+endsBody bytes = both (crlf bytes) (not (isWhite (getD bytes 2 0)))
+
+-- what stands at a position: a line start; a name with its start and the end of its bytes so far that are no white space;
+-- a body with the name's start and end and its own start; the LF of the CRLF that ended a body
+pub data Place : Type 0 where
+  lineStart : Place
+  inName : ℕ → ℕ → Place
+  inBody : ℕ → ℕ → ℕ → Place
+  beforeLineFeed : Place
+
+-- what a byte does: it leads on; it ends a field and leads on; it ends the header; it is a fault
+pub data Move : Type 0 where
+  go : Place → Move
+  give : Field → Place → Move
+  stop : Move
+  refuse : ℕ → ℕ → Move
+
+-- a line start: an empty line ends the header, else a name starts; here and below `bytes` are the byte at `at` and all after it
+unfoldable pub atLineStart : List ℕ → ℕ → Move
+atLineStart bytes at = pick (crlf bytes) stop (pick (nameStartsWith (getD bytes 0 0)) (go (inName at (at + 1))) (refuse nameFault at))
+
+-- a name: the colon ends it, and white space does not move its end
+unfoldable pub atName : ℕ → ℕ → List ℕ → ℕ → Move
+atName nameStart nameEnd bytes at =
+    pick (eqb (getD bytes 0 0) colonByte) (go (inBody nameStart nameEnd (at + 1)))
+    (pick (nameHolds (getD bytes 0 0)) (go (inName nameStart (pick (isWhite (getD bytes 0 0)) nameEnd (at + 1)))) (refuse nameFault at))
+
+-- a body: a byte above 127 is a fault, and the first CRLF that SPACE or HTAB does not follow ends it
+unfoldable pub atBody : ℕ → ℕ → ℕ → List ℕ → ℕ → Move
+atBody nameStart nameEnd bodyStart bytes at =
+    pick (ltb 127 (getD bytes 0 0)) (refuse byteAbove127 at)
+    (pick (endsBody bytes)
+    (give (fieldOf nameStart nameEnd bodyStart at) beforeLineFeed)
+    (go (inBody nameStart nameEnd bodyStart)))
+
+-- what the first of these bytes does at each place
+abbrev pub move : Place → List ℕ → ℕ → Move
+move lineStart bytes at = atLineStart bytes at
+move (inName nameStart nameEnd) bytes at = atName nameStart nameEnd bytes at
+move (inBody nameStart nameEnd bodyStart) bytes at = atBody nameStart nameEnd bodyStart bytes at
+move beforeLineFeed bytes at = go lineStart
+
+-- the message ends: at a line start the header ends with it, anywhere else without a CRLF
+abbrev pub atEnd : Place → ℕ → Header
+atEnd lineStart at = ended
+atEnd (inName nameStart nameEnd) at = fault headerNotEnded at
+atEnd (inBody nameStart nameEnd bodyStart) at = fault headerNotEnded at
+atEnd beforeLineFeed at = fault headerNotEnded at
+
+-- a move, and what the bytes after it hold
+abbrev pub follow : Move → (Place → Header) → Header
+follow (go place) rest = rest place
+follow (give f place) rest = field f (rest place)
+follow stop rest = ended
+follow (refuse number position) rest = fault number position
+
+-- what the bytes from position `at` on hold
+unfoldable pub headerFrom : List ℕ → ℕ → Place → Header
+headerFrom [] at place = atEnd place at
+headerFrom (b ∷ bytes) at place = follow (move place (b ∷ bytes) at) (λ next. headerFrom bytes (at + 1) next)
+
+-- what a message holds from position `at` on
+abbrev pub headerAt : List ℕ → ℕ → Place → Header
+headerAt message at place = headerFrom (drop at message) at place
+
+-- the header of a message
+abbrev pub headerOf : List ℕ → Header
+headerOf message = headerFrom message 0 lineStart

@@ -1,0 +1,2 @@
+-- To be believed. Document 01, "Reply body".
+pub mod Reply

@@ -1,0 +1,49 @@
+-- What the functions that look between symbols answer. Nothing here needs to be believed.
+use mathlib.Core.Path.{_≡_}
+use Prim.Native.Nat.{ℕ, _≤_}
+use mathlib.Core.List.{List}
+use Rattle.octets.specs.declared.answers.Answer.the-variants.{Accepted}
+use Rattle.scanner.specs.Believed.Scanning.{State, outside, inComment, takingInComment, move, scanBy}
+use Rattle.scanner.specs.Believed.Answers.{faultOf}
+use Rattle.scanner.specs.Believed.Categories.{takenIn, behind}
+use Rattle.scanner.specs.declared.Kind.{Kind}
+use Rattle.scanner.specs.declared.Category.{Category}
+use Rattle.scanner.specs.declared.Category.the-variants.{Nothing}
+use Rattle.scanner.specs.declared.Gap.{Gap}
+use Rattle.scanner.specs.declared.Gap.the-variants.{Outside, Comment, Taking}
+use Rattle.scanner.specs.declared.Passed.{Passed}
+use Rattle.scanner.specs.declared.Passed.the-variants.{To, Over}
+
+-- a body has no fault from a position on
+abbrev pub Faultless : List ℕ → List ℕ → ℕ → Type 0
+Faultless classes text at = faultOf (scanBy classes text at) ≡ Accepted 0
+
+-- the state of scanning, the outermost comment starting there
+abbrev pub stateOf : Gap → ℕ → State
+stateOf Outside start = outside
+stateOf (Comment depth) start = inComment depth start
+stateOf (Taking depth) start = takingInComment depth start
+
+-- how many comments lie around
+abbrev pub gapDepth : Gap → ℕ
+gapDepth Outside = 0
+gapDepth (Comment depth) = depth
+gapDepth (Taking depth) = depth
+
+-- what a character of a kind is
+abbrev pub GapCategoryIs : Gap → Kind → Category → Type 0
+GapCategoryIs gap kind r = (start : ℕ) → r ≡ takenIn (stateOf gap start) kind
+
+-- where it leads, with a byte b at a position p
+pub record LeadsTo (gap : Gap) (start : ℕ) (kind : Kind) (b p : ℕ) (next : Gap) : Type 0 where
+  pub outermost : ℕ
+  pub same : (rest : State → Category) → behind (move (stateOf gap start) kind b p) rest ≡ rest (stateOf next outermost)
+
+abbrev pub PassedIs : Gap → Kind → Passed → Type 0
+PassedIs gap kind (To next) = (start b p : ℕ) → LeadsTo gap start kind b p next
+PassedIs gap kind Over = (start b p : ℕ) (rest : State → Category) → behind (move (stateOf gap start) kind b p) rest ≡ Nothing
+
+-- .. in so many comments, at most
+abbrev pub PassedLow : ℕ → Passed → Type 0
+PassedLow n (To next) = gapDepth next ≤ n
+PassedLow n Over = Unit {0}

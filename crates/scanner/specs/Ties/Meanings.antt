@@ -1,0 +1,72 @@
+-- The meaning of a symbol by its place in a text. Nothing here needs to be believed: that it is the meaning which scanning gives is a law.
+use mathlib.Core.List.{List, [], _∷_}
+use Prim.Native.Nat.{ℕ, _+_}
+use Rattle.octets.specs.Believed.Text.{part}
+use Rattle.scanner.specs.Believed.Kinds.{characterKind}
+use Rattle.scanner.specs.Believed.Characters.{Character, character, charactersAt}
+use Rattle.scanner.specs.declared.Class.{Class}
+use Rattle.scanner.specs.declared.Class.the-variants.{Atom, Quoted, At, LessThan, GreaterThan, Comma, Semicolon, Colon, Stray, Dot, Literal}
+use Rattle.scanner.specs.declared.Kind.{Kind}
+use Rattle.scanner.specs.declared.Kind.the-variants.{White, Control, Return, Plain, Open, Close, Quote, Backslash, Mark, Above, OpenBracket, CloseBracket}
+
+-- where a walk through a quoted-string stands: inside it, behind a backslash, or behind its closing quote
+pub data Walk : Type 0 where
+  inside taking over : Walk
+
+-- the data of a character, before those of the rest
+abbrev pub datum : Walk → Kind → ℕ → List ℕ → List ℕ
+datum taking kind b rest = b ∷ rest
+datum over kind b rest = []
+datum inside White b rest = b ∷ rest
+datum inside Control b rest = b ∷ rest
+datum inside Return b rest = b ∷ rest
+datum inside Plain b rest = b ∷ rest
+datum inside Open b rest = b ∷ rest
+datum inside Close b rest = b ∷ rest
+datum inside Quote b rest = []
+datum inside Backslash b rest = rest
+datum inside (Mark class) b rest = b ∷ rest
+datum inside Above b rest = b ∷ rest
+datum inside OpenBracket b rest = b ∷ rest
+datum inside CloseBracket b rest = b ∷ rest
+
+-- where the walk goes on
+abbrev pub walked : Walk → Kind → Walk
+walked taking kind = inside
+walked over kind = over
+walked inside White = inside
+walked inside Control = inside
+walked inside Return = inside
+walked inside Plain = inside
+walked inside Open = inside
+walked inside Close = inside
+walked inside Quote = over
+walked inside Backslash = taking
+walked inside (Mark class) = inside
+walked inside Above = inside
+walked inside OpenBracket = inside
+walked inside CloseBracket = inside
+
+-- the data of a quoted-string from one of its characters on
+unfoldable pub dataFrom : List ℕ → Walk → List Character → List ℕ
+dataFrom classes walk [] = []
+dataFrom classes walk (character b p folded ∷ rest) =
+    datum walk (characterKind classes b folded) b (dataFrom classes (walked walk (characterKind classes b folded)) rest)
+
+-- the data of a quoted-string from a position inside it on
+abbrev pub dataAt : List ℕ → List ℕ → ℕ → List ℕ
+dataAt classes text at = dataFrom classes inside (charactersAt text at)
+
+-- the meaning of a symbol that stands from `start` to `end`
+abbrev pub meaningAt : List ℕ → List ℕ → Class → ℕ → ℕ → List ℕ
+meaningAt classes text Atom start end = part text start end
+meaningAt classes text Quoted start end = dataAt classes text (start + 1)
+meaningAt classes text At start end = part text start end
+meaningAt classes text LessThan start end = part text start end
+meaningAt classes text GreaterThan start end = part text start end
+meaningAt classes text Comma start end = part text start end
+meaningAt classes text Semicolon start end = part text start end
+meaningAt classes text Colon start end = part text start end
+meaningAt classes text Stray start end = part text start end
+meaningAt classes text Dot start end = part text start end
+meaningAt classes text Literal start end = []

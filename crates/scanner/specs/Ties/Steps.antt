@@ -1,0 +1,53 @@
+-- What the functions below the entry points answer. Nothing here needs to be believed.
+use mathlib.Core.Path.{_≡_}
+use Prim.Native.Nat.{ℕ, _+_, _≤_}
+use mathlib.Core.Bool.{Bool}
+use mathlib.Core.List.{List, [], _∷_}
+use lib.ListN.{length, getD}
+use Rattle.octets.specs.Believed.Text.{part}
+use Rattle.scanner.specs.Believed.Kinds.{characterKind}
+use Rattle.scanner.specs.Believed.Characters.{character, charactersAt}
+use Rattle.scanner.specs.Believed.Scanning.{inAtom, inComment, atom, next, faultAt, scanFrom, scanBy}
+use Rattle.scanner.specs.Believed.Answers.{faultOf}
+use Rattle.scanner.specs.declared.Kind.{Kind}
+use Rattle.scanner.specs.declared.Kind.the-variants.{White}
+use Rattle.scanner.specs.declared.Step.{Step}
+use Rattle.scanner.specs.declared.Step.the-variants.{Done, Byte}
+use Rattle.scanner.specs.declared.Comment.{Comment}
+use Rattle.scanner.specs.declared.Comment.the-variants.{Past, Open}
+
+-- the first character at or after a position: its kind, its position p and the position q behind it
+pub record FirstCharacter (classes text : List ℕ) (at : ℕ) (kind : Kind) (p q : ℕ) : Type 0 where
+  pub folded : Bool
+  pub characters : charactersAt text at ≡ character (getD text p 0) p folded ∷ charactersAt text q
+  pub kind-is : kind ≡ characterKind classes (getD text p 0) folded
+  pub from : at ≤ p
+  pub behind : q ≡ p + 1
+  pub within : q ≤ length text
+  pub tight : (kind ≡ White → ⊥) → p ≡ at
+
+abbrev pub StepIs : List ℕ → List ℕ → ℕ → Step → Type 0
+StepIs classes text at Done = charactersAt text at ≡ []
+StepIs classes text at (Byte kind p q) = FirstCharacter classes text at kind p q
+
+-- an atom that has run up to a position ends at `end`
+pub record AtomEnds (classes text : List ℕ) (start at end : ℕ) : Type 0 where
+  pub same : scanFrom classes (charactersAt text at) (inAtom start at (part text start at))
+      ≡ next (atom start end (part text start end)) (scanBy classes text end)
+  pub from : at ≤ end
+  pub within : end ≤ length text
+
+-- behind a comment scanning goes on outside
+pub record CommentEnds (classes text : List ℕ) (at start q : ℕ) : Type 0 where
+  pub same : scanFrom classes (charactersAt text at) (inComment 0 start) ≡ scanBy classes text q
+  pub from : at ≤ q
+  pub within : q ≤ length text
+
+abbrev pub CommentIs : List ℕ → List ℕ → ℕ → ℕ → Comment → Type 0
+CommentIs classes text at start (Past q) = CommentEnds classes text at start q
+CommentIs classes text at start (Open number p) = scanFrom classes (charactersAt text at) (inComment 0 start) ≡ faultAt number p
+
+-- a body has the same first fault from a later position on
+pub record FaultsFrom (classes text : List ℕ) (at r : ℕ) : Type 0 where
+  pub from : at ≤ r
+  pub same : faultOf (scanBy classes text at) ≡ faultOf (scanBy classes text r)
