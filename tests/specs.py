@@ -1,15 +1,15 @@
 #!/usr/bin/env python3
-"""Definitions rest on definitions alone, told from the files of specs/. A file of ties says in its head that nothing in it needs
-to be believed, and may import what it likes. Every other one has definitions: it names no module of proofs/ and none of a file
-of ties. A file whose head says that it is the executable layer counts as definitions, for its proposition stands beside it; but
-what says in its head that it is apart from any reader reaches none of that layer, through whatever it imports.
+"""Definitions rest on definitions alone, told from the files of specs/. Each stands in one of three folders: Believed, what a
+reader must believe; Executable, what can be computed of a grammar, with a proposition beside it; Ties, between code and
+definitions. A tie may import what it likes. Every other file names no module of proofs/ and no tie; and what says in its head
+that it is apart from any reader reaches nothing of Executable, through whatever it imports.
 Types that are made from the code's enums and structs (`specs.declared`) may be named by all, and no file names a source.
 Every rule is also tried on files changed in memory: it must find each change."""
 import pathlib
 import re
 import sys
 
-TIES, LAYER, APART = "Nothing here needs to be believed", "the executable layer: ", "apart from any reader"
+BELIEVED, LAYER, TIES, APART = "Believed", "Executable", "Ties", "apart from any reader"
 HEAD = re.compile(r"(?:--.*\n)*")
 NAMED = re.compile(r"Rattle·[^\s(){}]+")
 MODULE = re.compile(r"Rattle·(\w+)(?:·\w+)?\.(specs|proofs)\.(.+)")
@@ -24,9 +24,9 @@ def says(text, words):
     return words.lower() in " ".join(HEAD.match(text)[0].replace("--", " ").split()).lower()
 
 
-def ties(text):
-    """Whether a file is one of ties."""
-    return says(text, TIES) and not says(text, LAYER)
+def folder(path):
+    """The folder of specs/ in which a file stands, or whose index it is."""
+    return pathlib.PurePath(path).with_suffix("").parts[3]
 
 
 def file_of(crate, inner, files):
@@ -48,15 +48,17 @@ def reached(files, path, way):
 
 def faults(files, path):
     """What is wrong with a file."""
+    if folder(path) not in (BELIEVED, LAYER, TIES, "Lib"):
+        yield f"{path}: stands in none of the three folders"
     if says(files[path], APART):
         for taken in sorted(reached(files, path, set())):
-            if says(files[taken], LAYER):
+            if folder(taken) == LAYER:
                 yield f"{path}: apart from any reader, and reaches {taken}"
     for number, line in enumerate(files[path].split("\n"), 1):
         here = f"{path}:{number}"
         for source in SOURCE.findall(line):
             yield f"{here}: a source is named: {source}"
-        for name in [] if ties(files[path]) else NAMED.findall(line):
+        for name in [] if folder(path) == TIES else NAMED.findall(line):
             module = MODULE.fullmatch(name.rstrip("."))
             if not module:
                 yield f"{here}: a module in a form not read here: {name}"
@@ -66,30 +68,30 @@ def faults(files, path):
                 taken = file_of(module[1], module[3], files)
                 if not taken:
                     yield f"{here}: no file is found for {name}"
-                elif ties(files[taken]):
-                    yield f"{here}: definitions take from a file of ties: {name}"
+                elif folder(taken) == TIES:
+                    yield f"{here}: definitions take from a tie: {name}"
 
 
 wrong = [fault for path in files for fault in faults(files, path)]
-tied = [path for path in files if ties(files[path])]
-if not tied:
-    sys.exit("no file of ties is found")
-crate, _, *inner = pathlib.Path(tied[0]).with_suffix("").parts[1:]
+within = {kind: [path for path in files if folder(path) == kind and path.count("/") > 3] for kind in (BELIEVED, LAYER, TIES)}
+crate, _, *inner = pathlib.Path(within[TIES][0]).with_suffix("").parts[1:]
 trials = {
     "definitions take from proofs/": "use Rattle.octets.proofs.Any.{x}",
-    "definitions take from a file of ties": f"use Rattle.{crate}.specs.{'.'.join(inner)}.{{x}}",
+    "definitions take from a tie": f"use Rattle.{crate}.specs.{'.'.join(inner)}.{{x}}",
     "a source is named": "-- src/lib.rt",
 }
-layer = next((path for path in files if says(files[path], LAYER)), None) or sys.exit("no file of the executable layer is found")
-crate, _, *inner = pathlib.Path(layer).with_suffix("").parts[1:]
+crate, _, *inner = pathlib.Path(within[LAYER][0]).with_suffix("").parts[1:]
 reader = {"apart from any reader, and reaches": f"use Rattle.{crate}.specs.{'.'.join(inner)}.{{x}}"}
-for path in [path for path in files if path not in tied]:
+for path in [path for path in files if folder(path) != TIES]:
     for words, line in {**trials, **(reader if says(files[path], APART) else {})}.items():
         found = set(faults({**files, path: f"{files[path]}\n{line}\n"}, path)) - set(wrong)
         if not any(words in fault for fault in found):
             wrong.append(f"{path}: not found by this test: {line}")
+astray = within[BELIEVED][0].replace(f"/{BELIEVED}/", "/")
+if not any("none of the three" in fault for fault in faults({**files, astray: ""}, astray)):
+    wrong.append("not found by this test: a file in no folder")
 for fault in wrong:
     print(fault)
 apart = sum(says(text, APART) for text in files.values())
-print(f"files of definitions: {len(files) - len(tied)}, apart from any reader: {apart}; of ties: {len(tied)}")
+print(*(f"{kind}: {len(paths)}" for kind, paths in within.items()), f"apart from any reader: {apart}", sep="; ")
 sys.exit(1 if wrong or not apart else 0)
