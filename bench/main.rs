@@ -1,8 +1,11 @@
 // Measures the proved library, through its C functions, beside the independent reader and the C libraries that are here.
 //
-// usage: bench times SECONDS    best of many rounds, each round every reader on every input in turn
-//        bench counts           each reader once on every input, for a count of instructions
-//        bench counted FILE     the table of those counts, which FILE holds in the same order, one to a line
+// usage: bench times SECONDS          best of many rounds, each round every reader on every input in turn: a line on the
+//                                     rounds, then the nanoseconds of a call, one to a line
+//        bench counts                 each reader once on every input, for a count of instructions
+//        bench figures TIMES COUNTS   the table of those times and counts, in the same order; COUNTS may be empty
+//        bench targets TIMES COUNTS STACK BEFORE
+//                                     the verdict on each target; STACK is what bench/stack.c prints, BEFORE an older report
 use std::time::{Duration, Instant};
 
 mod inputs;
@@ -15,12 +18,12 @@ mod report;
 
 use inputs::{Input, Work};
 use readers::{Desk, Read, WITH_RECORDS};
-use report::{Cost, Row};
+use report::Row;
 
 // A date is too short to be timed alone.
 const DATES_AT_ONCE: usize = 256;
 
-// The first calls of a turn find a heap and caches that others left behind.
+// The first calls of a turn find a heap and caches as others left them.
 const CALLS_IN_A_TURN: usize = 4;
 
 // A call that seeks names in a large store takes as long as thousands of others, so openings are timed by themselves.
@@ -54,7 +57,7 @@ impl Task<'_> {
         elapsed / self.calls() as f64
     }
 
-    fn row(&self, cost: f64) -> Row {
+    fn row(&self, nanoseconds: f64, instructions: Option<f64>) -> Row {
         let input = self.input;
         Row {
             work: input.work,
@@ -62,7 +65,8 @@ impl Task<'_> {
             stored: input.store.len() / STORE_RECORD,
             addresses: input.addresses,
             reader: self.reader,
-            cost,
+            nanoseconds,
+            instructions,
         }
     }
 }
@@ -84,8 +88,8 @@ fn parted<'a, 'b>(tasks: &'a [Task<'b>]) -> (&'a [Task<'b>], &'a [Task<'b>]) {
     tasks.split_at(tasks.partition_point(|task| !matches!(task.input.work, Work::Openings(_))))
 }
 
-// What each task takes at best, in so many seconds.
-fn best(tasks: &[Task], seconds: u64) -> Vec<Row> {
+// What each task takes at best, in so many seconds, and the rounds.
+fn best(tasks: &[Task], seconds: u64) -> (Vec<f64>, usize) {
     let mut desk = Desk::new();
     let mut least = vec![f64::MAX; tasks.len()];
     let mut rounds = 0;
@@ -96,20 +100,17 @@ fn best(tasks: &[Task], seconds: u64) -> Vec<Row> {
         }
         rounds += 1;
     }
-    println!("Best of {rounds} rounds; in each round every reader reads every input {CALLS_IN_A_TURN} times in turn.\n");
-    tasks.iter().zip(least).map(|(task, cost)| task.row(cost)).collect()
+    (least, rounds)
 }
 
 fn times(tasks: &[Task], seconds: u64) {
     let (lists, openings) = parted(tasks);
     lists.iter().for_each(|task| check_mailboxes(task, &mut Desk::new()));
-    let rows = best(lists, seconds);
-    report::table(&rows, Cost::Nanoseconds);
-    report::growth(&rows);
-    report::plot(&rows);
-    report::targets(&rows);
-    println!("\nOpening stored lists:\n");
-    report::openings(&best(openings, seconds / OPENINGS_SHARE), Cost::Nanoseconds);
+    let (mut least, rounds) = best(lists, seconds);
+    let (opened, fewer) = best(openings, seconds / OPENINGS_SHARE);
+    least.extend(opened);
+    println!("Times are the best of {rounds} rounds, of openings {fewer}; in each round every reader reads every input {CALLS_IN_A_TURN} times in turn.");
+    least.iter().for_each(|time| println!("{time}"));
 }
 
 // Callgrind counts inside this function alone.
@@ -130,16 +131,31 @@ fn counts(tasks: &[Task]) {
     }
 }
 
-fn counted_table(tasks: &[Task], file: &str) {
-    let text = std::fs::read_to_string(file).expect("the file of counts");
-    let counts: Vec<f64> = text.lines().map(|line| line.parse().expect("a count")).collect();
-    assert_eq!(counts.len(), tasks.len(), "one count for each reader and input");
-    let rows: Vec<Row> = tasks.iter().zip(counts).map(|(task, cost)| task.row(cost)).collect();
-    let (rows, openings) = rows.split_at(parted(tasks).0.len());
-    report::table(rows, Cost::Instructions);
-    report::growth(rows);
-    println!("\nOpening stored lists:\n");
-    report::openings(openings, Cost::Instructions);
+// The numbers of a text, one to a line.
+fn numbers<'a>(lines: impl Iterator<Item = &'a str>) -> Vec<f64> {
+    lines.map(|line| line.parse().expect("a number")).collect()
+}
+
+// What each task cost, by the files of times and of counts, and the line on the rounds.
+fn measured(tasks: &[Task], times: &str, counts: &str) -> (Vec<Row>, String) {
+    let [times, counts] = [times, counts].map(|file| std::fs::read_to_string(file).expect(file));
+    let (rounds, times) = times.split_once('\n').expect("a line on the rounds");
+    let (times, counts) = (numbers(times.lines()), numbers(counts.lines()));
+    assert_eq!(times.len(), tasks.len(), "one time for each reader and input");
+    assert!(counts.is_empty() || counts.len() == tasks.len(), "one count for each reader and input");
+    let rows = tasks.iter().enumerate().map(|(number, task)| task.row(times[number], counts.get(number).copied()));
+    (rows.collect(), rounds.to_string())
+}
+
+fn targets(tasks: &[Task], times: &str, counts: &str, others: [&str; 2]) {
+    let [stack, before] = others.map(|file| std::fs::read_to_string(file).expect(file));
+    report::targets(&measured(tasks, times, counts).0, &stack, &before);
+}
+
+fn figures(tasks: &[Task], times: &str, counts: &str) {
+    let (rows, rounds) = measured(tasks, times, counts);
+    println!("{rounds}\n");
+    report::figures(&rows);
 }
 
 fn main() {
@@ -160,7 +176,8 @@ fn main() {
     match words[..] {
         ["times", seconds] => times(&tasks, seconds.parse().expect("seconds")),
         ["counts"] => counts(&tasks),
-        ["counted", file] => counted_table(&tasks, file),
-        _ => panic!("usage: bench times SECONDS, bench counts, bench counted FILE"),
+        ["targets", times, counts, stack, before] => targets(&tasks, times, counts, [stack, before]),
+        ["figures", times, counts] => figures(&tasks, times, counts),
+        _ => panic!("usage: see the head of bench/main.rs"),
     }
 }

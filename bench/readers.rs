@@ -3,7 +3,7 @@ use crate::inputs::{Input, Work};
 use crate::reader;
 use crate::reader822;
 
-// A fresh copy of an input, with a NUL behind its text, and a table to write into.
+// A fresh copy of an input, with a NUL after its text, and a table to write into.
 pub struct Desk {
     pub text: Vec<u8>,
     pub length: usize,
@@ -122,7 +122,7 @@ fn independent_date(desk: &mut Desk) -> usize {
     reader::date(&desk.text[..desk.length], 0, desk.length).1 as usize
 }
 
-// A C library's function that counts the mailboxes of a list with a NUL behind it.
+// A C library's function that counts the mailboxes of a list with a NUL after it.
 #[allow(unused_macros)]
 macro_rules! library {
     ($wrapper:ident, $function:ident) => {

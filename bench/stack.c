@@ -1,4 +1,4 @@
-/* The stack that each function of the library touches on its worst inputs, as a table.
+/* The stack that each function of the library touches at no level, at 64 levels and on its worst input, as a table.
  *
  * Each call runs in a thread whose stack is painted with one byte; where the paint is gone, the stack was touched.
  * Counted is what lies below the caller's frame. */
@@ -53,6 +53,10 @@ static const struct worst inputs[] = {
     {"many parts of a date", "1 ", "", "", LIMIT / 2, 0, 0, DATE, 12},
 };
 
+enum { INPUTS = sizeof inputs / sizeof *inputs };
+/* The inputs without a level and with 64 levels that the table shows. */
+enum { EMPTY = 0, TOWER = 1 };
+
 static void put(const char *text, size_t times) {
     size_t size = strlen(text);
     for (; times > 0; times--, length += size) memcpy(message + length, text, size);
@@ -87,6 +91,8 @@ static void run_date(void) {
 static void (*const functions[FUNCTIONS])(void) = {run_split,    run_name,  run_scan,  run_addresses, run_edition_822,
                                                    run_by_table, run_touch, run_plain, run_expand,    run_date,
                                                    run_reply};
+static const char *const names[FUNCTIONS] = {"split", "known_name", "scan",   "addresses", "addresses, 822", "addresses_by_table",
+                                             "touch", "plain",      "expand", "date",      "reply"};
 static const uint8_t *caller;
 
 static void *call(void *function) {
@@ -135,71 +141,73 @@ static void check_by_table(const struct worst *one, size_t bytes) {
     if (bytes != at_one) fail(one, "stack by table", bytes, at_one);
 }
 
-static size_t most[FUNCTIONS];
+/* What each function touches on each input. */
+static size_t bytes[FUNCTIONS][INPUTS];
 
-static void show(const struct worst *one) {
-    size_t bytes[FUNCTIONS];
+static void measure(size_t input) {
+    const struct worst *one = &inputs[input];
     lay(one);
-    printf("| %s | %zu |", one->name, length);
     for (int i = 0; i < FUNCTIONS; i++) {
-        bytes[i] = touched(i);
+        bytes[i][input] = touched(i);
         if (answers(one, i) && told[0] != one->number) fail(one, "answer", told[0], one->number);
-        if (bytes[i] > most[i]) most[i] = bytes[i];
-        printf(" %zu |", bytes[i]);
     }
-    puts("");
-    check_by_table(one, bytes[BY_TABLE]);
+    check_by_table(one, bytes[BY_TABLE][input]);
 }
 
-/* Stored lists opened in each other, and the levels of the last of them, or of the body if none is opened. */
-struct nested {
-    size_t openings, levels;
-};
+static void show(int function) {
+    size_t worst = 0;
+    for (size_t i = 1; i < INPUTS; i++) {
+        if (bytes[function][i] > bytes[function][worst]) worst = i;
+    }
+    printf("| %s | %zu | %zu | %zu | %s |\n", names[function], bytes[function][EMPTY], bytes[function][TOWER],
+           bytes[function][worst], inputs[worst].name);
+}
 
-static const struct nested nestings[] = {{0, 0}, {0, 64}, {1, 0}, {1, 64}, {64, 0}, {64, 64}};
+/* How many stored lists are opened in each other. */
+static const size_t nestings[] = {1, OPENINGS};
 
-/* Lays what stands behind so many openings: the Include of the next list, or at last a list at the levels. */
-static void lay_behind(const struct nested *one, size_t opened) {
+/* Lays what stands after so many openings: the Include of the next list, or at last a list at the levels. */
+static void lay_after(size_t opened, size_t openings, size_t levels) {
     char include[NAME_BYTES];
     length = 0;
-    if (opened < one->openings) {
+    if (opened < openings) {
         snprintf(include, sizeof include, ":Include: a at %zu", opened);
         put(include, 1);
         return;
     }
-    put(":", one->levels);
+    put(":", levels);
     put("\"a\"(b)at\"c\"at d", 1);
-    put(";", one->levels);
+    put(";", levels);
 }
 
-static void show_nested(const struct nested *one) {
-    size_t bytes;
-    store_length = one->openings * RECORD;
-    for (size_t i = 0; i < one->openings; i++) {
+/* What expand touches where so many lists are opened in each other, the last of them with so many levels. */
+static size_t nested(size_t openings, size_t levels) {
+    size_t most;
+    store_length = openings * RECORD;
+    for (size_t i = 0; i < openings; i++) {
         uint8_t *record = store + i * RECORD;
         memset(record, 0, NAME_BYTES);
         memset(record + NAME_BYTES, ' ', RECORD - NAME_BYTES);
         snprintf((char *)record, NAME_BYTES, "a at %zu", i);
-        lay_behind(one, i + 1);
+        lay_after(i + 1, openings, levels);
         memcpy(record + NAME_BYTES, message, length);
     }
-    lay_behind(one, 0);
-    bytes = touched(EXPAND);
-    if (told[0] != 0 || told[3] != one->openings) {
-        fprintf(stderr, "%zu openings: answer %u, openings %u\n", one->openings, (unsigned)told[0], (unsigned)told[3]);
+    lay_after(0, openings, levels);
+    most = touched(EXPAND);
+    if (told[0] != 0 || told[3] != openings) {
+        fprintf(stderr, "%zu openings: answer %u, openings %u\n", openings, (unsigned)told[0], (unsigned)told[3]);
         exit(1);
     }
-    printf("| %zu | %zu | %zu |\n", one->openings, one->levels, bytes);
+    return most;
 }
 
 int main(void) {
-    puts("| input | bytes | split | known_name | scan | addresses | addresses, 822 | addresses_by_table | touch | plain | expand | date | reply |");
-    puts("|---|--:|--:|--:|--:|--:|--:|--:|--:|--:|--:|--:|--:|");
-    for (size_t i = 0; i < sizeof inputs / sizeof *inputs; i++) show(&inputs[i]);
-    printf("| most | |");
-    for (int i = 0; i < FUNCTIONS; i++) printf(" %zu |", most[i]);
-    puts("\n\nOf `expand`, by the stored lists opened in each other and the levels of the last, or of the body if there is none:\n");
-    puts("| openings | levels | expand |\n|--:|--:|--:|");
-    for (size_t i = 0; i < sizeof nestings / sizeof *nestings; i++) show_nested(&nestings[i]);
+    for (size_t i = 0; i < INPUTS; i++) measure(i);
+    puts("| function | no level | 64 levels | most | on |\n|---|--:|--:|--:|---|");
+    for (int i = 0; i < FUNCTIONS; i++) show(i);
+    for (size_t i = 0; i < sizeof nestings / sizeof *nestings; i++) {
+        size_t flat = nested(nestings[i], 0), deep = nested(nestings[i], LEVELS);
+        printf("| expand, %zu stored in each other | %zu | %zu | %zu | 64 levels in the last |\n", nestings[i], flat, deep, deep);
+    }
     return 0;
 }
