@@ -8,7 +8,7 @@ struct Common {
     records: usize,
 }
 
-// The first is measured at every size, the others show how much hangs on the list.
+// The first is measured at every size, the others show how much depends on the list.
 const COMMON: [Common; 6] = [
     Common {
         name: "common list",

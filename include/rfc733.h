@@ -2,7 +2,7 @@
  *
  * Memory is lent as a pointer and a length; nothing is kept. A pointer may not be null, not even with the length 0.
  * The lent parts of one call may not overlap. `told` is an array of three: the answer's number, position and count, and
- * where said more numbers behind them; of a shorter one the front is filled. A refusal changes no byte of a table, text
+ * where said more numbers after them; of a shorter one the front is filled. A refusal changes no byte of a table, text
  * or path.
  *
  * Numbers: 0 accepted; 1 message over 32,768 bytes; 2 fault in a field name; 3 byte above 127; 4 header ends without CRLF;
