@@ -14,11 +14,11 @@ use Rattle.scanner.specs.declared.Next.the-variants.{Found, Ended, Fault}
 use Rattle.grammar.specs.Believed.Language.{unfit, unfinished, refused, number}
 use Rattle.grammar.specs.Believed.Records.{recordBy, recordBytes}
 use Rattle.grammar.specs.Executable.Trees733.{Class, Atom, Quoted, At, LessThan, GreaterThan, Comma, Semicolon, Colon, Stray, Dot, Literal, Lexeme, Sym, of, atomWord, quotedWord, Phrase, one, more, mailbox, quoted}
-use Rattle.grammar.proofs.Trees.{phraseThen}
+use Rattle.grammar.proofs.Rfc733.Trees.{phraseThen}
 use Rattle.addresses.proofs.ClassCases.{BeginsNone}
 use Rattle.grammar.specs.Executable.Machine733.{Here, phrase, firstAt, lone, levelsHere, run, judge}
-use Rattle.grammar.proofs.Complete.{begin, run-phrase, run-mailbox}
-use Rattle.grammar.proofs.Readers.{AddressEnds, endsAddress, at-unfit}
+use Rattle.grammar.proofs.Rfc733.Complete.{begin, run-phrase, run-mailbox}
+use Rattle.grammar.proofs.Rfc733.Readers.{AddressEnds, endsAddress, at-unfit}
 use Rattle.addresses.specs.Ties.Steps.{endsAddressNext, refusedNext, loneQuoted, symbolsFrom, lexemeAt, symbolsAhead, Ahead, NodesEnd, Stops, NodesContext, AddressRead, AddressStops, AddressIs, Opened, Named, NoMark, followsPhrase, Lone}
 use Rattle.addresses.specs.declared.Frame.{Frame}
 use Rattle.grammar.specs.declared.Span.{Span}

@@ -20,7 +20,7 @@ use Rattle.grammar.specs.Believed.Grammar.{Row}
 use Rattle.grammar.specs.Believed.Language.{Verdict, accepted, refused}
 use Rattle.grammar.specs.Believed.Records.{count, records, tableBytes}
 use Rattle.grammar.specs.Executable.{Decides}
-use Rattle.grammar.proofs.AnyReader.{answer-accepts, answer-derives}
+use Rattle.grammar.proofs.Any.Reader.{answer-accepts, answer-derives}
 use Rattle.addresses.specs.Believed.Editions.{Edition}
 use Rattle.octets.proofs.AnswerLaws.{answered}
 use Rattle.addresses.specs.Believed.Editions.{symbolsIn}

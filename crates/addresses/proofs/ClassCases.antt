@@ -13,7 +13,7 @@ use Rattle.scanner.proofs.Class as class-declared
 use Rattle.scanner.proofs.Next as next-declared
 use Rattle.scanner.specs.declared.Next.{Next}
 use Rattle.scanner.specs.declared.Next.the-variants.{Found, Ended, Fault}
-use Rattle.grammar.proofs.Readers.{endsAddress}
+use Rattle.grammar.proofs.Rfc733.Readers.{endsAddress}
 use Rattle.grammar.specs.Executable.Trees733.{Class, Atom, Quoted, At, LessThan, GreaterThan, Comma, Semicolon, Colon, Stray, Dot, Literal}
 
 -- a class's place in its declaration

@@ -14,13 +14,13 @@ use Rattle.scanner.specs.declared.Next.the-variants.{Found, Ended, Fault}
 use Rattle.grammar.specs.Believed.Language.{unfit, unfinished, tooDeep, refused, number}
 use Rattle.grammar.specs.Believed.Records.{AddressRecord, recordBy, recordBytes, tableBytes}
 use Rattle.grammar.specs.Believed.Rfc733.{sameClass, kindNumber, typedKind}
-use Rattle.grammar.proofs.HouseRule.{same-class}
+use Rattle.grammar.proofs.Symbols.{same-class}
 use Rattle.grammar.specs.Executable.Trees733.{Class, Atom, Quoted, At, LessThan, GreaterThan, Comma, Semicolon, Colon, Stray, Dot, Literal, Lexeme, Sym, of, Phrase, AddressList, empty, idle, angle, group, typed}
-use Rattle.grammar.proofs.Trees.{nameThen, atomColon}
+use Rattle.grammar.proofs.Rfc733.Trees.{nameThen, atomColon}
 use Rattle.grammar.specs.Executable.Machine733.{Here, inTyped, inAngle, inGroup, list, want, levelsHere, levelsAt, nameless, fresh, run, judge}
-use Rattle.grammar.proofs.Complete.{begin, doneAddress, doneList, Clear, complete-doneList, run-angle, run-group}
-use Rattle.grammar.proofs.Readers.{ListEnds, endsAddress, deep-angle, deep-group, closed-unfit, clear-colon, run-typed}
-use Rattle.grammar.proofs.TreeRecords.{nameStart, nameEnd, addressEnd, addressRecords, listRecords}
+use Rattle.grammar.proofs.Rfc733.Complete.{begin, doneAddress, doneList, Clear, complete-doneList, run-angle, run-group}
+use Rattle.grammar.proofs.Rfc733.Readers.{ListEnds, endsAddress, deep-angle, deep-group, closed-unfit, clear-colon, run-typed}
+use Rattle.grammar.proofs.Rfc733.TreeRecords.{nameStart, nameEnd, addressEnd, addressRecords, listRecords}
 use Rattle.grammar.proofs.RecordLaws.{stored-around}
 use Rattle.addresses.specs.Ties.Steps.{endsAddressNext, refusedNext, opening, closing, enclosureKind, levelIn, enclosed, House, symbolsFrom, lexemeAt, symbolAt, symbolsAhead, Standing, AddressRead, AddressStops, AddressIs, Opening, Opened, ListRead, ListStops, inner, TypedFirst}
 use Rattle.addresses.specs.declared.Frame.{Frame}
@@ -98,7 +98,7 @@ end-of : (e : Enclosure) (o : Option Phrase) (t : Lexeme) (l : AddressList) (u :
 end-of Angle o t l u = refl
 end-of Group o t l u = refl
 
-count-of : (e : Enclosure) (o : Option Phrase) (t : Lexeme) (l : AddressList) (u : Lexeme) → Rattle.grammar.proofs.TreeRecords.addressCount (enclosed e o t l u) ≡ suc (Rattle.grammar.proofs.TreeRecords.listCount l)
+count-of : (e : Enclosure) (o : Option Phrase) (t : Lexeme) (l : AddressList) (u : Lexeme) → Rattle.grammar.proofs.Rfc733.TreeRecords.addressCount (enclosed e o t l u) ≡ suc (Rattle.grammar.proofs.Rfc733.TreeRecords.listCount l)
 count-of Angle o t l u = refl
 count-of Group o t l u = refl
 

@@ -16,9 +16,9 @@ use Rattle.grammar.specs.Believed.Grammar.{Row, Derived, levels}
 use Rattle.grammar.specs.Believed.Language.{Refusal, Verdict, accepted, refused, number, positionOf, Right}
 use Rattle.grammar.specs.Believed.Rfc733.{Derivation}
 use Rattle.grammar.specs.Executable.{Decides}
-use Rattle.grammar.proofs.AnyReader.{answer-accepts, answer-derives}
+use Rattle.grammar.proofs.Any.Reader.{answer-accepts, answer-derives}
 use Rattle.grammar.specs.Executable.Machine733.{answer}
-use Rattle.grammar.proofs.Condition3.{decides}
+use Rattle.grammar.proofs.Rfc733.Condition3.{decides}
 use Rattle.addresses.specs.Believed.Editions.{Edition, edition733}
 use Rattle.addresses.specs.Believed.Editions.{symbolsIn, bodySymbols}
 use Rattle.addresses.specs.Believed.Outcome.{byVerdict, readIn, readWithin, bodyRead}

@@ -10,11 +10,11 @@ use Rattle.scanner.specs.declared.Next.{Next}
 use Rattle.scanner.specs.declared.Next.the-variants.{Found}
 use Rattle.grammar.specs.Believed.Records.{tableBytes}
 use Rattle.grammar.specs.Executable.Trees733.{Class, Comma, Lexeme, Sym, of, empty, comma, AddressList, idle, full}
-use Rattle.grammar.proofs.Trees.{atomColon}
+use Rattle.grammar.proofs.Rfc733.Trees.{atomColon}
 use Rattle.grammar.specs.Executable.Machine733.{inList, Level, list, levelsAt, nameless, fresh, run, judge}
-use Rattle.grammar.proofs.Complete.{doneList, Clear, complete-doneList}
-use Rattle.grammar.proofs.Readers.{AddressEnds, ListEnds, endsAddress}
-use Rattle.grammar.proofs.TreeRecords.{listCount, listRecords}
+use Rattle.grammar.proofs.Rfc733.Complete.{doneList, Clear, complete-doneList}
+use Rattle.grammar.proofs.Rfc733.Readers.{AddressEnds, ListEnds, endsAddress}
+use Rattle.grammar.proofs.Rfc733.TreeRecords.{listCount, listRecords}
 use Rattle.grammar.proofs.RecordLaws.{stored-behind}
 use Rattle.addresses.specs.Ties.Steps.{symbolsFrom, lexemeAt, symbolsAhead, Ahead, AddressRead, AddressStops, ListRead, ListStops, Entered}
 use Rattle.addresses.specs.declared.Frame.{Frame}

@@ -10,7 +10,7 @@ use Rattle.scanner.proofs.Next as next-declared
 use Rattle.scanner.specs.declared.Next.{Next}
 use Rattle.scanner.specs.declared.Next.the-variants.{Found, Ended, Fault}
 use Rattle.grammar.specs.Executable.Trees733.{Class, Atom, Quoted, At, LessThan, GreaterThan, Comma, Semicolon, Colon, Stray, Dot, Literal, Lexeme, Sym, Phrase, one}
-use Rattle.grammar.proofs.Trees.{phraseThen}
+use Rattle.grammar.proofs.Rfc733.Trees.{phraseThen}
 use Rattle.addresses.specs.Ties.Steps.{isWord, isQuoted, followsPhrase, loneQuoted, opening, House, symbolsFrom, lexemeAt, symbolsAhead, Ahead, FirstWord, WordsIs, NoMark, Named, Opening}
 use Rattle.addresses.specs.declared.Words.{Words}
 use Rattle.grammar.specs.declared.Span.{Span}

@@ -17,7 +17,7 @@ use Rattle.scanner.proofs.Spans.{Placed, none, one, placed}
 use Rattle.grammar.specs.Believed.Grammar.{Row}
 use Rattle.grammar.specs.Believed.Records.{noRecord, count, records, tableBytes, recordIn}
 use Rattle.grammar.specs.Believed.Rfc733.{Derivation}
-use Rattle.grammar.proofs.Positions.{SymbolsUpTo, ReadBack, read-back}
+use Rattle.grammar.proofs.Any.Positions.{SymbolsUpTo, ReadBack, read-back}
 use Rattle.addresses.specs.Believed.Editions.{Edition, edition733, edition822}
 use Rattle.addresses.specs.Believed.Outcome.{Outcome, refusal, derived, outcome}
 use Rattle.addresses.proofs.BodyRecords.{records-half}

@@ -7,7 +7,7 @@ use native.Mathlib.Omega.{arith}
 use Rattle.scanner.specs.declared.Next.the-variants.{Found}
 use Rattle.grammar.specs.Believed.Rfc733.{sameClass}
 use Rattle.grammar.specs.Executable.Trees733.{Class, Atom, Colon}
-use Rattle.grammar.proofs.Trees.{atomColon}
+use Rattle.grammar.proofs.Rfc733.Trees.{atomColon}
 use Rattle.addresses.specs.Ties.Steps.{symbolsFrom, lexemeAt, TypedFollows}
 use Rattle.addresses.proofs.NextLaws.{NextIs}
 

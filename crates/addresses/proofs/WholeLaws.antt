@@ -16,11 +16,11 @@ use Rattle.scanner.specs.declared.Next.the-variants.{Found}
 use Rattle.grammar.specs.Believed.Language.{unfit, accepted, refused}
 use Rattle.grammar.specs.Believed.Records.{count, tableBytes}
 use Rattle.grammar.specs.Executable.Machine733.{asRows, answer, top, run, judge}
-use Rattle.grammar.proofs.Condition3.{decides}
+use Rattle.grammar.proofs.Rfc733.Condition3.{decides}
 use Rattle.grammar.specs.Executable.Trees733.{asRow, Class, Atom, Quoted, At, LessThan, GreaterThan, Comma, Semicolon, Colon, Stray, Dot, Literal, Lexeme, Sym, of, AddressList}
-use Rattle.grammar.proofs.Complete.{doneList, complete-doneList}
-use Rattle.grammar.proofs.Readers.{ListEnds}
-use Rattle.grammar.proofs.TreeRecords.{tree-records, tree-count}
+use Rattle.grammar.proofs.Rfc733.Complete.{doneList, complete-doneList}
+use Rattle.grammar.proofs.Rfc733.Readers.{ListEnds}
+use Rattle.grammar.proofs.Rfc733.TreeRecords.{tree-records, tree-count}
 use Rattle.addresses.specs.Believed.Editions.{edition733}
 use Rattle.addresses.specs.Believed.Outcome.{Outcome, AnsweredBy, outcome}
 use Rattle.addresses.specs.Believed.Condition3.{Condition3}

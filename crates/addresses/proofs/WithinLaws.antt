@@ -17,7 +17,7 @@ use Rattle.grammar.specs.Believed.Grammar.{levels}
 use Rattle.grammar.specs.Believed.Language.{Verdict, accepted, refused}
 use Rattle.grammar.specs.Believed.Rfc733.{Derivation}
 use Rattle.grammar.specs.Executable.Machine733.{answer}
-use Rattle.grammar.proofs.Condition3.{answer-accepts, answer-derives}
+use Rattle.grammar.proofs.Rfc733.Condition3.{answer-accepts, answer-derives}
 use Rattle.addresses.specs.Believed.Editions.{bodySymbols}
 use Rattle.addresses.specs.Believed.Outcome.{byVerdict}
 use Rattle.addresses.specs.Ties.Steps.{symbolsFrom}

@@ -11,7 +11,7 @@ use Rattle.octets.specs.Believed.Numbers.{messageLimit, messageTooLong, edition
 use Rattle.octets.specs.declared.answers.Answer.{Answer}
 use Rattle.octets.specs.Believed.Answers.{numberOf}
 use Rattle.grammar.specs.Executable.Machine822.{read}
-use Rattle.grammar.proofs.Condition822.{decides}
+use Rattle.grammar.proofs.Rfc822.Condition3.{decides}
 use Rattle.addresses.specs.Believed.Editions.{edition822}
 use Rattle.addresses.specs.Believed.Outcome.{Outcome, AnsweredBy, refusal, outcome}
 use Rattle.addresses.proofs.AnyEdition as any

@@ -10,9 +10,9 @@ use Rattle.octets.specs.Believed.Choice.{pick}
 use Rattle.grammar.specs.Believed.Records.{AddressRecord, recordBy, withEnd, setEnd}
 use Rattle.grammar.specs.Believed.Language.{unfit}
 use Rattle.grammar.specs.Believed.Rfc733.{sameClass}
-use Rattle.grammar.proofs.HouseRule.{same-class}
+use Rattle.grammar.proofs.Symbols.{same-class}
 use Rattle.grammar.specs.Executable.Machines.{Result, ended, stopped, after, Arrow, look, taken}
-use Rattle.grammar.proofs.TreeRecords.{wordLexeme, phraseStart, phraseEnd}
+use Rattle.grammar.proofs.Rfc733.TreeRecords.{wordLexeme, phraseStart, phraseEnd}
 use Rattle.grammar.specs.Executable.Trees822.{Class, Atom, Quoted, At, LessThan, GreaterThan, Comma, Semicolon, Colon, Stray, Dot, Literal, Lexeme, Sym, of, Phrase, Sub, atomSub, literalSub, Domain, oneSub, moreSub, Local, oneWord, moreWord, Spec, spec, Mailbox, bare, angle, routed, Place, empty, comma, Listed, idle, full, Address, box, group}
 use Rattle.grammar.specs.Executable.Machine822.{Here, inList, inGroup, Open, less, In, bareIn, angleIn, routeIn, Hop, firstAt, nextAt, Behind, ofSpec, ofHop, State, place, word, phrase, local, localDot, at, domain, domainDot, opened, hop, route, boxed, closed, arrows, run}
 use Rattle.editions.specs.Ties.Places.{Walked, walkedBy, oneIf, closeLast, stepFrom, WalkEnd, ends, stops, walkFrom}

@@ -14,11 +14,11 @@ use Rattle.grammar.specs.Believed.Grammar.{Row}
 use Rattle.grammar.specs.Believed.Language.{Verdict}
 use Rattle.grammar.specs.Believed.Rfc733.{Notion}
 use Rattle.grammar.specs.Executable.{Decides}
-use Rattle.grammar.proofs.Positions.{ReadBack}
+use Rattle.grammar.proofs.Any.Positions.{ReadBack}
 use Rattle.grammar.specs.Executable.Machine733.{answer}
-use Rattle.grammar.proofs.Condition3 as rules733
+use Rattle.grammar.proofs.Rfc733.Condition3 as rules733
 use Rattle.grammar.specs.Executable.Machine822.{read}
-use Rattle.grammar.proofs.Condition822 as rules822
+use Rattle.grammar.proofs.Rfc822.Condition3 as rules822
 use Rattle.addresses.specs.Believed.Editions.{Edition, edition733, edition822}
 use Rattle.addresses.specs.Believed.Outcome.{readIn, bodyRead}
 use Rattle.addresses.proofs.Judgements as judged-by

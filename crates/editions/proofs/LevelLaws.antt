@@ -22,7 +22,7 @@ use Rattle.grammar.specs.Believed.Language.{unfit, unfinished, tooDeep, Verdict
 use Rattle.grammar.specs.Believed.Rfc822.{Notion}
 use Rattle.grammar.specs.Believed.Records.{count}
 use Rattle.grammar.specs.Executable.Machine822.{read}
-use Rattle.grammar.proofs.Condition822.{decides, never-ten}
+use Rattle.grammar.proofs.Rfc822.Condition3.{decides, never-ten}
 use Rattle.addresses.specs.Believed.Editions.{edition822}
 use Rattle.addresses.specs.Believed.Editions.{symbolsIn}
 use Rattle.addresses.specs.Believed.Outcome.{Outcome, refusal, derived, decided}

@@ -14,10 +14,10 @@ use Rattle.octets.specs.Believed.Numbers.{levelLimit, endsTooSoon, noListGoesOn
 use Rattle.scanner.specs.declared.Next.the-variants.{Found}
 use Rattle.grammar.specs.Believed.Language.{unfit, unfinished}
 use Rattle.grammar.specs.Believed.Records.{AddressRecord, tableBytes}
-use Rattle.grammar.proofs.Records.{length-records}
+use Rattle.grammar.proofs.Any.Records.{length-records}
 use Rattle.grammar.specs.Executable.Trees733.{Class, Atom, Quoted, At, LessThan, GreaterThan, Comma, Semicolon, Colon, Stray, Dot, Literal, Sym, of}
 use Rattle.grammar.specs.Executable.Machine822.{start}
-use Rattle.grammar.proofs.Condition822.{decides}
+use Rattle.grammar.proofs.Rfc822.Condition3.{decides}
 use Rattle.addresses.specs.Believed.Editions.{classIn822, takenIn822}
 use Rattle.addresses.specs.Ties.Steps.{symbolsFrom, lexemeAt, Faultless}
 use Rattle.addresses.specs.Ties.Whole.{IsListed, IsRefused}

@@ -12,12 +12,12 @@ use Rattle.grammar.specs.Believed.Grammar.{Makes, Item, symbol, part, Rule, Gra
 use Rattle.grammar.specs.Believed.Language.{positionOf}
 use Rattle.grammar.specs.Believed.Records.{AddressRecord, recordBy, lastEnd, count, recordOf, recordsFrom, records}
 use Rattle.grammar.specs.Believed.Rfc822.{rulesOf, Notion, list, place, address, boxes, boxPlace, mailbox, routeAddr, addrSpec, route, hops, emptyPlaces, localPart, domain, subDomain, phrase, word, rfc822}
-use Rattle.grammar.proofs.Records.{length-from}
+use Rattle.grammar.proofs.Any.Records.{length-from}
 use Rattle.grammar.specs.Executable.Trees822.{Piece, put, Class, At, LessThan, GreaterThan, Comma, Semicolon, Colon, Dot, Lexeme, Sym, of, Word, atomWord, quotedWord, Phrase, one, more, Sub, atomSub, literalSub, Domain, oneSub, moreSub, Local, oneWord, moreWord, Spec, spec, RouteAddr, noRoute, withRoute, routeAddrPiece, Route, Mailbox, bare, angle, routed, Place, empty, comma, Listed, idle, full, Address, box, group, wordPiece, phrasePiece, subPiece, domainPiece, localPiece, specPiece, routePiece, mailboxPiece, boxPlacePiece, boxesPiece, addressPiece, placePiece, listPiece, asRow}
-use Rattle.grammar.proofs.Pieces.{From}
-use Rattle.grammar.proofs.TreeRecords.{wordLexeme, phraseStart, phraseEnd, yield-append, last-append}
-use Rattle.grammar.proofs.Trees822.{phrase-is, domain-is, local-is, route-is}
-use Rattle.grammar.proofs.Machine822.{seen}
+use Rattle.grammar.proofs.Any.Pieces.{From}
+use Rattle.grammar.proofs.Rfc733.TreeRecords.{wordLexeme, phraseStart, phraseEnd, yield-append, last-append}
+use Rattle.grammar.proofs.Rfc822.Derivations.{phrase-is, domain-is, local-is, route-is}
+use Rattle.grammar.proofs.Rfc822.Machine.{seen}
 use Rattle.editions.proofs.Follows.{subEnd, endOfDomain, localStart, localEnd, namedRecord, addSpec, addBox, addBoxPlace, addBoxes, opensGroup, addAddress, addPlace, addList}
 
 -- ---- over any grammar

@@ -11,7 +11,7 @@ use Rattle.grammar.specs.Believed.Records.{recordBy, recordBytes}
 use Rattle.grammar.specs.Believed.Rfc733.{kindNumber, typedKind}
 use Rattle.grammar.specs.Executable.Trees733.{Lexeme, AddressList, Address, typed}
 use Rattle.grammar.specs.Executable.Machine733.{Here, inList, inTyped, Level, top, inAngle, inGroup, Spot, State, close, levelsHere}
-use Rattle.grammar.proofs.TreeRecords.{nameStart, nameEnd}
+use Rattle.grammar.proofs.Rfc733.TreeRecords.{nameStart, nameEnd}
 use Rattle.engine.specs.Ties.Stands.{placeOf, numberHere, parentHere, Entry, Stands}
 use Rattle.engine.specs.Ties.Turns.{OpenHere, LevelAt, SomeLevel, Closing, Closed, kindIf, endIf, loneKind, Ended, AtClose, GoesTo}
 use Rattle.engine.specs.declared.Engine.{Engine}

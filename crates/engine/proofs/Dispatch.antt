@@ -10,7 +10,7 @@ use Rattle.grammar.specs.Believed.Language.{unfit}
 use Rattle.grammar.specs.Executable.Machines.{go}
 use Rattle.grammar.specs.Executable.Trees733.{Class, Lexeme, Phrase, AddressList, Address}
 use Rattle.grammar.specs.Executable.Machine733.{Here, Level, top, inAngle, inGroup, State, list, phrase, want, close, enter, levelsAt, stepOn, finish, whole, start}
-use Rattle.grammar.proofs.TreeRecords.{listCount}
+use Rattle.grammar.proofs.Rfc733.TreeRecords.{listCount}
 use Rattle.engine.specs.Ties.Actions.{modeNumber, modeRoom, Act, refuses, begins, adds, passes, opens, opensNamed, turnsTyped, endsAtComma, closes, endsAndCloses, finishes, endsAndFinishes, actNumber, Action, entry, rowOf, actionOf}
 use Rattle.engine.specs.Ties.Stands.{modeOf, parentAt, storedList, Stands}
 use Rattle.engine.specs.Ties.Turns.{isAngle, kindIf, levelIf, endIf, Ended, Closed, GoesTo, StopsBy, Opening, AtClose, AtTyped, Turning, Finishing, FinishedList, Unfinished}

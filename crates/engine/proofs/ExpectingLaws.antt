@@ -11,7 +11,7 @@ use lib.ListN.{getD}
 use Rattle.octets.specs.Believed.Numbers.{levelLimit}
 use Rattle.grammar.specs.Executable.Trees733.{Class, Atom, At, LessThan, GreaterThan, Comma, Semicolon, Colon, AddressList, Address, quoted}
 use Rattle.grammar.specs.Executable.Machine733.{Here, Level, top, inAngle, inGroup, State, list, phrase, close, entered, enter, withinLimit, levelsAt, finish, whole}
-use Rattle.grammar.proofs.TreeRecords.{addressEnd}
+use Rattle.grammar.proofs.Rfc733.TreeRecords.{addressEnd}
 use Rattle.expected.specs.Believed.Things.{ifNamed, sumOf}
 use Rattle.expected.specs.Executable.Named.{goes, isSome, anywhere, takes, namedAt}
 use Rattle.expected.proofs.ClassAlone.{word-by-atom}

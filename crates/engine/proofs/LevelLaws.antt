@@ -14,7 +14,7 @@ use Rattle.grammar.specs.Believed.Records.{recordBy, recordBytes}
 use Rattle.grammar.specs.Believed.Rfc733.{kindNumber, typedKind, include, postal, otherTyped}
 use Rattle.grammar.specs.Executable.Trees733.{Lexeme, Place, Address, typed}
 use Rattle.grammar.specs.Executable.Machine733.{Here, inList, inTyped, Level, top, inAngle, inGroup, asList, close, levelsHere, levelsAt}
-use Rattle.grammar.proofs.TreeRecords.{listCount, addressCount, addressRecords, addressRecord}
+use Rattle.grammar.proofs.Rfc733.TreeRecords.{listCount, addressCount, addressRecords, addressRecord}
 use Rattle.grammar.proofs.RecordLaws.{stored-behind, stored-around}
 use Rattle.engine.specs.Ties.Actions.{behindAddress}
 use Rattle.engine.specs.Ties.Stands.{modeOf, placeOf, numberHere, parentAt, parentHere, Entry, HoldsHere, HoldsLevel, storedHere, storedLevel}

@@ -16,8 +16,8 @@ use Rattle.grammar.specs.Executable.Machines.{go}
 use Rattle.grammar.specs.Executable.Trees733.{Class, Atom, Quoted, Lexeme, Word, atomWord, quotedWord, Phrase, one, more, empty, comma, AddressList, idle, Address, mailbox, angle, quoted}
 use Rattle.grammar.specs.Executable.Trees733 as trees
 use Rattle.grammar.specs.Executable.Machine733.{Here, inList, inTyped, Level, top, inAngle, inGroup, State, list, phrase, firstAt, nextAt, node, want, asList, close, enter, levelsHere, levelsAt, stepOn}
-use Rattle.grammar.proofs.Complete.{begin, enter-within, enter-beyond}
-use Rattle.grammar.proofs.TreeRecords.{listCount, addressCount, addressRecord, listRecords, nameStart, nameEnd, wordLexeme}
+use Rattle.grammar.proofs.Rfc733.Complete.{begin, enter-within, enter-beyond}
+use Rattle.grammar.proofs.Rfc733.TreeRecords.{listCount, addressCount, addressRecord, listRecords, nameStart, nameEnd, wordLexeme}
 use Rattle.grammar.proofs.RecordLaws.{stored-around}
 use Rattle.engine.specs.Ties.Actions.{modeNumber, behindAddress, atWords}
 use Rattle.engine.specs.Ties.Stands.{modeOf, levelSize, placeOf, Ordered, numberHere, parentAt, parentHere, Entry, HoldsHere, HoldsLevel, storedHere, storedList, FirstAtom, NameIs, Stands}

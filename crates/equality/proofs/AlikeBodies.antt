@@ -17,7 +17,7 @@ use Rattle.grammar.specs.Believed.Language.{Verdict, accepted, refused, number,
 use Rattle.grammar.specs.Believed.Records.{count, records, tableBytes}
 use Rattle.grammar.specs.Believed.Rfc733.{Derivation}
 use Rattle.grammar.specs.Executable.Machine733.{answer}
-use Rattle.grammar.proofs.Condition3.{answer-derives}
+use Rattle.grammar.proofs.Rfc733.Condition3.{answer-derives}
 use Rattle.grammar.specs.Executable.Trees733.{Class, Sym}
 use Rattle.addresses.specs.Believed.Condition3.{IsList}
 use Rattle.addresses.specs.Believed.Editions.{bodySymbols}

@@ -6,7 +6,7 @@ use Rattle.grammar.specs.Believed.Grammar.{levels}
 use Rattle.grammar.specs.Believed.Language.{AtMost, MoreThan, upTo, GoesOn, FirstRefused, Refusal, unfit, unfinished, tooDeep, refused, Right}
 use Rattle.grammar.specs.Believed.Rfc733.{Derivation, DerivedList, RightWithin}
 use Rattle.grammar.specs.Executable.Machine733.{answer}
-use Rattle.grammar.proofs.Condition3.{answer-right, answer-only}
+use Rattle.grammar.proofs.Rfc733.Condition3.{answer-right, answer-only}
 use Rattle.grammar.specs.Executable.Trees733.{Sym}
 use Rattle.equality.proofs.Shifts.{AlikeSymbol, AlikeSymbols, no-symbol, one-symbol, same-symbols}
 use Rattle.equality.proofs.Relabels.{derived-alike}

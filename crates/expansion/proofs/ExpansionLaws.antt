@@ -19,9 +19,9 @@ use Rattle.grammar.specs.Believed.Grammar.{levels}
 use Rattle.grammar.specs.Believed.Rfc733.{Derivation, DerivedList, kindNumber, typedKind}
 use Rattle.grammar.specs.Believed.Rfc733 as rfc733
 use Rattle.grammar.specs.Executable.Trees733.{Colon, Comma, LessThan, GreaterThan, Semicolon, Sym, of, Place, empty, comma, AddressList, idle, full, mailbox, angle, group, quoted, typed, asRow}
-use Rattle.grammar.proofs.Trees.{nodesThen, placeThen, listThen, addressThen, placeLevels, listLevels, addressLevels}
+use Rattle.grammar.proofs.Rfc733.Trees.{nodesThen, placeThen, listThen, addressThen, placeLevels, listLevels, addressLevels}
 use Rattle.grammar.specs.Executable.Trees733 as trees
-use Rattle.grammar.proofs.Rows.{row-levels, tree-derived}
+use Rattle.grammar.proofs.Rfc733.Derivations.{row-levels, tree-derived}
 use Rattle.plain.specs.Believed.Meaning.{atom, noWord, andWord, Addresses, noAddress, andAddress, Address, address, meaning}
 use Rattle.plain.specs.Believed.PlainText.{addressesText}
 use Rattle.plain.specs.Believed.RoundTrip.{AcceptedBody}

@@ -18,7 +18,7 @@ use Rattle.scanner.specs.Ties.Meanings.{meaningAt}
 use Rattle.scanner.proofs.Unfolding.{SymbolAt}
 use Rattle.grammar.specs.Believed.Grammar.{begins}
 use Rattle.grammar.specs.Believed.Rfc733.{sameClass}
-use Rattle.grammar.proofs.HouseRule.{same-class}
+use Rattle.grammar.proofs.Symbols.{same-class}
 use Rattle.plain.specs.declared.places.Place.{Place}
 use Rattle.plain.proofs.WalkSteps.{NoneComes}
 use Rattle.expansion.specs.Ties.Walk.{opens, includeNext, includeHere, behindOne, sought}

@@ -13,7 +13,7 @@ use Rattle.scanner.specs.Believed.Scanning.{scan, symbolsOf}
 use Rattle.grammar.specs.Believed.Grammar.{levels}
 use Rattle.grammar.specs.Believed.Rfc733.{Derivation, DerivedList}
 use Rattle.grammar.specs.Executable.Trees733.{Sym, asRow}
-use Rattle.grammar.proofs.Rows.{row-levels, tree-derived}
+use Rattle.grammar.proofs.Rfc733.Derivations.{row-levels, tree-derived}
 use Rattle.addresses.specs.Believed.Editions.{bodySymbols}
 use Rattle.addresses.specs.Believed.Outcome.{bodyRead}
 use Rattle.addresses.proofs.Judgements.{refusedAt, judged, listed-read}

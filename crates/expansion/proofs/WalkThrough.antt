@@ -15,10 +15,10 @@ use Rattle.octets.specs.Believed.Numbers.{levelLimit}
 use Rattle.octets.specs.Believed.Text.{bytes}
 use Rattle.grammar.specs.Believed.Rfc733.{sameClass, kindNumber, typedKind, include, postal, otherTyped}
 use Rattle.grammar.specs.Executable.Trees733.{Class, Atom, Quoted, At, LessThan, GreaterThan, Comma, Semicolon, Colon, Stray, Dot, Literal, Lexeme, Sym, of, atomWord, quotedWord, Phrase, one, more, Nodes, first, next, comma, AddressList, idle, full, mailbox, angle, group, quoted, typed}
-use Rattle.grammar.proofs.Trees.{wordSymbol, phraseThen, nodesThen, placeThen, listThen, addressThen, placeLawful, listLawful, addressLawful, placeLevels, listLevels, addressLevels}
+use Rattle.grammar.proofs.Rfc733.Trees.{wordSymbol, phraseThen, nodesThen, placeThen, listThen, addressThen, placeLawful, listLawful, addressLawful, placeLevels, listLevels, addressLevels}
 use Rattle.grammar.specs.Executable.Trees733 as trees
-use Rattle.grammar.proofs.HouseRule.{oneAtom, placeAtomGroup, listAtomGroup, atomColon-list, oneAtom-false, oneAtom-true}
-use Rattle.grammar.proofs.HouseRule as house
+use Rattle.grammar.proofs.Rfc733.HouseRule.{oneAtom, placeAtomGroup, listAtomGroup, atomColon-list, oneAtom-false, oneAtom-true}
+use Rattle.grammar.proofs.Rfc733.HouseRule as house
 use Rattle.plain.specs.Believed.Meaning.{atom, noWord, andWord, Addresses, noAddress, andAddress, Address, address, meaning}
 use Rattle.plain.specs.Believed.PlainText.{wordText, phraseText, nodesText, atomGroup, addressesText, addressText}
 use Rattle.plain.specs.Ties.Walking.{gapText, gapBefore, afterAtom, afterComma, after, colonNext, symbolText}

@@ -8,7 +8,7 @@ use Rattle.octets.specs.Believed.Choice.{pick}
 use Rattle.grammar.specs.Believed.Rfc733.{Derivation, DerivedList, kindNumber, typedKind}
 use Rattle.grammar.specs.Executable.Trees733.{Sym, Place, empty, comma, AddressList, idle, full, mailbox, angle, group, quoted, typed}
 use Rattle.grammar.specs.Executable.Trees733 as trees
-use Rattle.grammar.proofs.Rows.{tree-derived}
+use Rattle.grammar.proofs.Rfc733.Derivations.{tree-derived}
 use Rattle.plain.specs.Believed.Meaning.{Addresses, noAddress, andAddress, address, atom, noWord, andWord, meaning}
 use Rattle.plain.proofs.TreeMeanings.{nameMeaning, placeMeaning, listMeaning, addressMeaning, meaning-row}
 use Rattle.expansion.specs.Believed.Expansion.{reached, andThen, Opening, expandInclude, expandRow, openedWithin, expansion}

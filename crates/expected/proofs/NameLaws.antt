@@ -10,13 +10,13 @@ use Rattle.grammar.specs.Believed.Grammar.{levels}
 use Rattle.grammar.specs.Believed.Language.{AtMost, upTo, Refusal, unfit, unfinished, tooDeep, Verdict, accepted, refused}
 use Rattle.grammar.specs.Believed.Rfc733.{Derivation, DerivedList, RightWithin}
 use Rattle.grammar.specs.Executable.Trees733.{Class, Atom, Quoted, At, LessThan, GreaterThan, Comma, Semicolon, Colon, Sym, of, AddressList, asRow}
-use Rattle.grammar.proofs.Trees.{listLevels, DerivedTree}
+use Rattle.grammar.proofs.Rfc733.Trees.{listLevels, DerivedTree}
 use Rattle.grammar.specs.Executable.Machines.{Step, go, stop, standsBy}
-use Rattle.grammar.proofs.AnyMachine as any-machine
+use Rattle.grammar.proofs.Any.Machine as any-machine
 use Rattle.grammar.specs.Executable.Machine733.{State, step, run, read, judge, finish, start, asRows}
-use Rattle.grammar.proofs.Steps.{machine}
-use Rattle.grammar.proofs.Rows.{row-levels, row-derived, tree-derived}
-use Rattle.grammar.proofs.Condition3.{answer-only, goes-on-row, goes-on-tree}
+use Rattle.grammar.proofs.Rfc733.Steps.{machine}
+use Rattle.grammar.proofs.Rfc733.Derivations.{row-levels, row-derived, tree-derived}
+use Rattle.grammar.proofs.Rfc733.Condition3.{answer-only, goes-on-row, goes-on-tree}
 use Rattle.expected.specs.Believed.Things.{Thing, word, at, atSign, lessThan, greaterThan, comma, semicolon, colon, bodyEnd, IsOf, GoesOnWith, Could, goesOn, ends, ExactlyWhereRefused, ExactlyAtTheEnd, Alike, sameClass, bothWords, AlikeGoOn}
 use Rattle.expected.specs.Believed.Things as things
 use Rattle.expected.specs.Executable.Named.{NamesExactly, goes, isSome, anywhere, takes, namedAt, named}

@@ -1,25 +1,6 @@
--- Laws of the grammar. `Condition3` has the theorems, `Readers`, `TreeRecords` and `RecordLaws` what the readers rest on.
-pub mod OnlyRight
-pub mod AnyMachine
-pub mod Trees
-pub mod HouseRule
-pub mod Complete
-pub mod Sound
-pub mod Steps
-pub mod Rows
-pub mod Condition3
-pub mod Readers
-pub mod Records
-pub mod Positions
-pub mod TreeRecords
+-- Laws of the grammar: for any grammar and machine, of the symbols of both editions, for RFC 733's, for RFC 822's; and of the records that are stored in a table.
+pub mod Any
+pub mod Symbols
+pub mod Rfc733
+pub mod Rfc822
 pub mod RecordLaws
-pub mod Order
-pub mod Examples
-pub mod Pieces
-pub mod Arrows
-pub mod Trees822
-pub mod Ranks
-pub mod Machine822
-pub mod Complete822
-pub mod AnyReader
-pub mod Condition822

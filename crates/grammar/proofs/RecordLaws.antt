@@ -10,9 +10,9 @@ use Rattle.octets.specs.Believed.Stored.{bytesOf, numberAt}
 use Rattle.octets.proofs.Parts.{sets-append, set-sets, sets-behind-first}
 use Rattle.octets.proofs.StoredLaws.{number-out}
 use Rattle.grammar.specs.Believed.Records.{AddressRecord, recordBy, noRecord, setEnd, recordBytes, endOffset, tableBytes, recordFrom}
-use Rattle.grammar.proofs.Records.{length-recordBytes, length-tableBytes, tableBytes-append}
+use Rattle.grammar.proofs.Any.Records.{length-recordBytes, length-tableBytes, tableBytes-append}
 use Rattle.grammar.specs.Executable.Trees733.{Place, empty, comma, AddressList, idle, full, Address, mailbox, angle, group, quoted, typed}
-use Rattle.grammar.proofs.TreeRecords.{placeCount, listCount, addressCount, placeRecords, listRecords, insideRecords, addressRecords}
+use Rattle.grammar.proofs.Rfc733.TreeRecords.{placeCount, listCount, addressCount, placeRecords, listRecords, insideRecords, addressRecords}
 
 -- ---- one number after the other
 

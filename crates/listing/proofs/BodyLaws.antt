@@ -25,8 +25,8 @@ use Rattle.header.proofs.names.Known.{the-type}
 use Rattle.scanner.specs.declared.Class.{Class}
 use Rattle.grammar.specs.Believed.Grammar.{Row}
 use Rattle.grammar.specs.Believed.Records.{noRecord, count, records, tableBytes, recordIn}
-use Rattle.grammar.proofs.Records.{length-records}
-use Rattle.grammar.proofs.Positions.{ReadBack}
+use Rattle.grammar.proofs.Any.Records.{length-records}
+use Rattle.grammar.proofs.Any.Positions.{ReadBack}
 use Rattle.addresses.specs.Believed.Outcome.{Outcome, refusal, derived, outcomeBy}
 use Rattle.editions.specs.Believed.Outcome.{outcomeOf}
 use Rattle.editions.proofs.Judgements.{AnsweredBy, JudgedOf, refusedAt, listed as list-of, judged-of, unchanged-733}

@@ -27,7 +27,7 @@ use Rattle.grammar.specs.Believed.Grammar.{levels}
 use Rattle.grammar.specs.Believed.Rfc733.{Derivation, DerivedList}
 use Rattle.grammar.specs.Executable.Trees733.{Class}
 use Rattle.grammar.specs.Executable.Machine733.{answer}
-use Rattle.grammar.proofs.Condition3.{answer-derives}
+use Rattle.grammar.proofs.Rfc733.Condition3.{answer-derives}
 use Rattle.plain.specs.Believed.PlainText.{plainText}
 use Rattle.plain.specs.Believed.RoundTrip.{AcceptedBody}
 

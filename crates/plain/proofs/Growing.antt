@@ -10,9 +10,9 @@ use Rattle.octets.specs.Believed.Text.{bytes}
 use Rattle.grammar.specs.Believed.Rfc733.{kindNumber}
 use Rattle.grammar.specs.Believed.Rfc733 as rfc733
 use Rattle.grammar.specs.Executable.Trees733.{Class, Atom, Quoted, At, LessThan, GreaterThan, Comma, Semicolon, Colon, Lexeme, Sym, of, atomWord, quotedWord, Phrase, one, more, Nodes, first, next, Place, comma, AddressList, idle, full}
-use Rattle.grammar.proofs.Trees.{wordSymbol, phraseThen, nameThen, nodesThen, placeThen, listThen, addressThen, houseRule, placeLawful, listLawful, addressLawful, listLevels, DerivedTree}
+use Rattle.grammar.proofs.Rfc733.Trees.{wordSymbol, phraseThen, nameThen, nodesThen, placeThen, listThen, addressThen, houseRule, placeLawful, listLawful, addressLawful, listLevels, DerivedTree}
 use Rattle.grammar.specs.Executable.Trees733 as trees
-use Rattle.grammar.proofs.HouseRule.{placeAtomGroup, listAtomGroup, atomColon-list}
+use Rattle.grammar.proofs.Rfc733.HouseRule.{placeAtomGroup, listAtomGroup, atomColon-list}
 use Rattle.plain.specs.Believed.Meaning.{Word, atom, quotedString, Words, noWord, andWord, Addresses, noAddress, andAddress, Address, address}
 use Rattle.plain.specs.Believed.PlainText.{atomGroup, firstAtomGroup}
 use Rattle.plain.proofs.TreeMeanings.{wordMeaning, phraseMeaning, nameMeaning, nodesMeaning, placeMeaning, listMeaning, addressMeaning, typedMeaning, atom-group, addressesDepth, list-depth}

@@ -14,11 +14,11 @@ use Rattle.scanner.proofs.BodyChecks.{in-order}
 use Rattle.grammar.specs.Believed.Grammar.{levels}
 use Rattle.grammar.specs.Believed.Language.{accepted}
 use Rattle.grammar.specs.Believed.Rfc733.{Derivation, DerivedList}
-use Rattle.grammar.proofs.Trees.{listThen}
+use Rattle.grammar.proofs.Rfc733.Trees.{listThen}
 use Rattle.grammar.specs.Executable.Trees733.{asRow}
-use Rattle.grammar.proofs.Rows.{row-levels, row-derived, tree-derived}
+use Rattle.grammar.proofs.Rfc733.Derivations.{row-levels, row-derived, tree-derived}
 use Rattle.grammar.specs.Executable.Machine733.{answer}
-use Rattle.grammar.proofs.Condition3.{one-derivation, answer-accepts}
+use Rattle.grammar.proofs.Rfc733.Condition3.{one-derivation, answer-accepts}
 use Rattle.plain.specs.Believed.Meaning.{Addresses, meaning, SameAddresses}
 use Rattle.plain.specs.Believed.PlainText.{addressesText, plainText}
 use Rattle.plain.specs.Ties.Walking.{writtenText}

@@ -23,7 +23,7 @@ use Rattle.scanner.specs.Believed.Scanning.{Scanned, next, faultAt, State, outs
 use Rattle.scanner.specs.Believed.Scanning as scanning
 use Rattle.scanner.proofs.MoveLaws.{tag}
 use Rattle.grammar.specs.Executable.Trees733.{Class, Atom, Quoted, At, LessThan, GreaterThan, Comma, Semicolon, Colon, Stray, Dot, Literal, Sym, of, atomWord, quotedWord, Phrase, one, more, Nodes, first, Place, comma, AddressList, idle, full}
-use Rattle.grammar.proofs.Trees.{wordSymbol, phraseThen, nameThen, nodesThen, placeThen, listThen, addressThen}
+use Rattle.grammar.proofs.Rfc733.Trees.{wordSymbol, phraseThen, nameThen, nodesThen, placeThen, listThen, addressThen}
 use Rattle.grammar.specs.Executable.Trees733 as trees
 use Rattle.grammar.specs.Believed.Rfc733.{kindNumber}
 use Rattle.grammar.specs.Believed.Rfc733 as rfc733

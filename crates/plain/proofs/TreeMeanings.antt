@@ -14,11 +14,11 @@ use Rattle.grammar.specs.Believed.Records.{partOf}
 use Rattle.grammar.specs.Believed.Rfc733.{Derivation, include, postal, otherTyped, kindNumber, typedKind}
 use Rattle.grammar.specs.Believed.Rfc733 as rfc733
 use Rattle.grammar.specs.Executable.Trees733.{Atom, Colon, LessThan, GreaterThan, Semicolon, Lexeme, Sym, of, atomWord, quotedWord, Phrase, one, more, Nodes, first, next, Place, empty, comma, AddressList, idle, full, mailbox, angle, group, quoted, typed, wordRow, phraseRow, nodesRow, placeRow, listRow, addressRow, asRow}
-use Rattle.grammar.proofs.Trees.{phraseThen, nodesThen, placeLevels, listLevels, addressLevels}
+use Rattle.grammar.proofs.Rfc733.Trees.{phraseThen, nodesThen, placeLevels, listLevels, addressLevels}
 use Rattle.grammar.specs.Executable.Trees733 as trees
-use Rattle.grammar.proofs.HouseRule as house
-use Rattle.grammar.proofs.Rows.{nodes-yield}
-use Rattle.grammar.proofs.TreeRecords.{part-phrase}
+use Rattle.grammar.proofs.Rfc733.HouseRule as house
+use Rattle.grammar.proofs.Rfc733.Derivations.{nodes-yield}
+use Rattle.grammar.proofs.Rfc733.TreeRecords.{part-phrase}
 use Rattle.plain.specs.Believed.Meaning.{Word, atom, quotedString, Words, noWord, andWord, Addresses, noAddress, andAddress, Address, address, wordsAfter, wordsOf, nodesOf, addressesAfter, meaning}
 use Rattle.plain.specs.Believed.PlainText.{atomGroup, addressText}
 

@@ -9,11 +9,11 @@ use Rattle.octets.specs.Believed.Choice.{pick, both}
 use Rattle.octets.specs.Believed.Text.{bytes}
 use Rattle.grammar.specs.Believed.Rfc733.{Derivation, DerivedList}
 use Rattle.grammar.specs.Executable.Trees733.{Atom, Quoted, At, LessThan, GreaterThan, Comma, Semicolon, Colon, Lexeme, Sym, of, atomWord, quotedWord, Phrase, one, more, Nodes, first, next, comma, AddressList, idle, full, mailbox, angle, group, quoted, typed}
-use Rattle.grammar.proofs.Trees.{wordSymbol, phraseThen, nodesThen, placeThen, listThen, addressThen, placeLawful, listLawful, addressLawful}
+use Rattle.grammar.proofs.Rfc733.Trees.{wordSymbol, phraseThen, nodesThen, placeThen, listThen, addressThen, placeLawful, listLawful, addressLawful}
 use Rattle.grammar.specs.Executable.Trees733 as trees
-use Rattle.grammar.proofs.HouseRule.{oneAtom, placeAtomGroup, listAtomGroup, atomColon-list, oneAtom-false, oneAtom-true}
-use Rattle.grammar.proofs.HouseRule as house
-use Rattle.grammar.proofs.Rows.{tree-derived}
+use Rattle.grammar.proofs.Rfc733.HouseRule.{oneAtom, placeAtomGroup, listAtomGroup, atomColon-list, oneAtom-false, oneAtom-true}
+use Rattle.grammar.proofs.Rfc733.HouseRule as house
+use Rattle.grammar.proofs.Rfc733.Derivations.{tree-derived}
 use Rattle.plain.specs.Believed.Meaning.{noWord, Addresses, noAddress, andAddress, Address, meaning}
 use Rattle.plain.specs.Believed.PlainText.{wordText, spaceBehind, phraseText, nodesText, atomGroup, groupGap, commaBehind, addressesText, addressText, plainText}
 use Rattle.plain.specs.Ties.Walking.{gapText, gapBefore, afterAtom, afterComma, colonNext, walkText}

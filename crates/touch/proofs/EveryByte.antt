@@ -8,8 +8,8 @@ use Rattle.scanner.specs.Believed.Categories.{InStray, here, further}
 use Rattle.scanner.proofs.EveryCategory.{told-unless-stray}
 use Rattle.grammar.specs.Believed.Rfc733.{classNumber, Derivation, DerivedList}
 use Rattle.grammar.specs.Executable.Trees733.{Class, Stray, Lexeme, Sym, of, Word, atomWord, quotedWord, Phrase, one, more, Nodes, first, next, Place, empty, comma, AddressList, idle, full, Address, mailbox, angle, group, quoted, typed}
-use Rattle.grammar.proofs.Trees.{wordSymbol, phraseThen, nameThen, nodesThen, placeThen, listThen, addressThen}
-use Rattle.grammar.proofs.Rows.{tree-derived}
+use Rattle.grammar.proofs.Rfc733.Trees.{wordSymbol, phraseThen, nameThen, nodesThen, placeThen, listThen, addressThen}
+use Rattle.grammar.proofs.Rfc733.Derivations.{tree-derived}
 use Rattle.touch.specs.Believed.EveryByte.{EveryByte}
 
 -- ---- a place in a symbol that fits no rule lies behind every tree

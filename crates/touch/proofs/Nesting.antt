@@ -8,11 +8,12 @@ use Rattle.grammar.specs.Believed.Grammar.{levels}
 use Rattle.grammar.specs.Believed.Records.{AddressRecord, records}
 use Rattle.grammar.specs.Believed.Rfc733.{Derivation, DerivedList}
 use Rattle.grammar.specs.Executable.Trees733.{LessThan, GreaterThan, Comma, Semicolon, Colon, Sym, of, Place, empty, comma, AddressList, idle, full, Address, mailbox, angle, group, quoted, typed}
-use Rattle.grammar.proofs.Trees.{nodesThen, placeThen, listThen, addressThen, placeLevels, listLevels, addressLevels}
-use Rattle.grammar.proofs.Rows.{row-levels, tree-derived}
+use Rattle.grammar.proofs.Rfc733.Trees.{nodesThen, placeThen, listThen, addressThen, placeLevels, listLevels, addressLevels}
+use Rattle.grammar.proofs.Rfc733.Derivations.{row-levels, tree-derived}
 use Rattle.grammar.proofs.RecordLaws.{inside-length}
-use Rattle.grammar.proofs.TreeRecords.{phraseEnd, nameStart, addressEnd, addressRecord, placeCount, listCount, addressCount, placeRecords, listRecords, insideRecords, tree-records}
-use Rattle.grammar.proofs.Order.{InOrder, phrase-lies, nodes-lies, name-lies}
+use Rattle.grammar.proofs.Rfc733.TreeRecords.{phraseEnd, nameStart, addressEnd, addressRecord, placeCount, listCount, addressCount, placeRecords, listRecords, insideRecords, tree-records}
+use Rattle.grammar.proofs.Symbols.{InOrder}
+use Rattle.grammar.proofs.Rfc733.Order.{phrase-lies, nodes-lies, name-lies}
 
 -- ---- records that lie in each other
 

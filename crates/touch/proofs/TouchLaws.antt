@@ -20,8 +20,8 @@ use Rattle.grammar.specs.Believed.Language.{Refusal, Verdict, accepted, refused
 use Rattle.grammar.specs.Believed.Records.{count, records, tableBytes}
 use Rattle.grammar.specs.Believed.Rfc733.{Derivation}
 use Rattle.grammar.specs.Executable.Machine733.{answer}
-use Rattle.grammar.proofs.Condition3.{answer-right, answer-accepts, answer-derives}
-use Rattle.grammar.proofs.Records.{length-records, parent-smaller}
+use Rattle.grammar.proofs.Rfc733.Condition3.{answer-right, answer-accepts, answer-derives}
+use Rattle.grammar.proofs.Any.Records.{length-records, parent-smaller}
 use Rattle.grammar.specs.Executable.Trees733.{Sym}
 use Rattle.addresses.specs.Believed.Editions.{bodySymbols}
 use Rattle.addresses.specs.Believed.Outcome.{derived, outcome}

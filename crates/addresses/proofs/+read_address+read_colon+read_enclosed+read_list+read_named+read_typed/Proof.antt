@@ -6,7 +6,7 @@ use mathlib.Core.Option.{none}
 use native.Mathlib.Omega.{arith}
 use Prim.Native.Nat.{_+_, _*_, _-_}
 use lib.ListN.{length}
-use Rattle.grammar.proofs.Readers.{endsAddress, endsList}
+use Rattle.grammar.proofs.Rfc733.Readers.{endsAddress, endsList}
 use Rattle.addresses.specs.Ties.Steps.{isWord}
 use Rattle.addresses.proofs.ClassCases.{by-class, by-class-not, at-or-stray}
 use Rattle.addresses.proofs.NextLaws.{next-is, none-left}

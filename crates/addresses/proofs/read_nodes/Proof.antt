@@ -6,7 +6,7 @@ use native.Mathlib.Omega.{arith}
 use Prim.Native.Nat.{ℕ, _-_, _≤_}
 use lib.ListN.{length}
 use borrow.Author.Tests.{not-true, not-false}
-use Rattle.grammar.proofs.Readers.{endsAddress}
+use Rattle.grammar.proofs.Rfc733.Readers.{endsAddress}
 use Rattle.addresses.specs.Ties.Steps.{symbolsAhead}
 use Rattle.addresses.proofs.ClassCases.{by-class, by-class-not}
 use Rattle.addresses.proofs.NextLaws.{NextIs, next-is, none-left}

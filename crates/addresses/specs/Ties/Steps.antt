@@ -16,11 +16,11 @@ use Rattle.scanner.specs.Ties.Meanings.{meaningAt}
 use Rattle.grammar.specs.Believed.Language.{Refusal, refused, number, positionOf}
 use Rattle.grammar.specs.Believed.Records.{tableBytes}
 use Rattle.grammar.specs.Executable.Trees733.{Class, Atom, Quoted, At, LessThan, GreaterThan, Comma, Semicolon, Colon, Stray, Dot, Literal, Lexeme, Sym, of, atomWord, quotedWord, Phrase, one, more, Nodes, empty, AddressList, idle, Address, angle, group}
-use Rattle.grammar.proofs.Trees.{phraseThen, nameThen, nodesThen, atomColon}
+use Rattle.grammar.proofs.Rfc733.Trees.{phraseThen, nameThen, nodesThen, atomColon}
 use Rattle.grammar.specs.Executable.Machine733.{Here, Level, inAngle, inGroup, list, firstAt, levelsHere, levelsAt, nameless, fresh, run, judge}
-use Rattle.grammar.proofs.Complete.{begin, doneAddress, doneList, Clear}
-use Rattle.grammar.proofs.Readers.{AddressEnds, ListEnds, endsAddress}
-use Rattle.grammar.proofs.TreeRecords.{phraseStart, phraseEnd, nodesEnd, nameStart, nameEnd, addressEnd, addressCount, addressRecords, listCount, listRecords}
+use Rattle.grammar.proofs.Rfc733.Complete.{begin, doneAddress, doneList, Clear}
+use Rattle.grammar.proofs.Rfc733.Readers.{AddressEnds, ListEnds, endsAddress}
+use Rattle.grammar.proofs.Rfc733.TreeRecords.{phraseStart, phraseEnd, nodesEnd, nameStart, nameEnd, addressEnd, addressCount, addressRecords, listCount, listRecords}
 use Rattle.addresses.specs.declared.Reading.{Reading}
 use Rattle.addresses.specs.declared.Reading.the-variants.{Read, Refused}
 use Rattle.addresses.specs.declared.NodesRead.{NodesRead}

@@ -12,7 +12,7 @@ use Rattle.grammar.specs.Believed.Records.{tableBytes}
 use Rattle.grammar.specs.Believed.Rfc733.{kindNumber, typedKind, angleList, group}
 use Rattle.grammar.specs.Executable.Trees733.{Lexeme, Phrase, one, more, atomWord, quotedWord, idle, full, AddressList, Address}
 use Rattle.grammar.specs.Executable.Machine733.{Here, inList, inTyped, Level, top, inAngle, inGroup, State, list, phrase, firstAt, nextAt, node, want, levelsHere, levelsAt, fresh, Began}
-use Rattle.grammar.proofs.TreeRecords.{placeCount, listCount, placeRecords, listRecords, addressRecords, phraseStart, phraseEnd, nodesEnd, nameStart, nameEnd}
+use Rattle.grammar.proofs.Rfc733.TreeRecords.{placeCount, listCount, placeRecords, listRecords, addressRecords, phraseStart, phraseEnd, nodesEnd, nameStart, nameEnd}
 use Rattle.engine.specs.Ties.Actions.{Mode, atPlace, atStart, atFirstAtom, wanting, atAtom, atQuoted, atWords, behindAt, atNode, behindAddress, modeNumber}
 use Rattle.engine.specs.declared.Engine.{Engine}
 

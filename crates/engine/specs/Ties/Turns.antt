@@ -20,7 +20,7 @@ use Rattle.grammar.specs.Executable.Machines.{Step, go, stop}
 use Rattle.grammar.specs.Executable.Trees733.{Lexeme, Phrase, one, atomWord, quotedWord, Nodes, empty, AddressList, idle, Address}
 use Rattle.grammar.specs.Executable.Trees733 as trees
 use Rattle.grammar.specs.Executable.Machine733.{Here, inList, Level, inAngle, inGroup, State, list, phrase, node, want, Spot, close, enter, endAngle, endGroup, levelsHere, levelsAt, stepOn, finish}
-use Rattle.grammar.proofs.TreeRecords.{listCount, listRecords, addressEnd, nameStart, nameEnd}
+use Rattle.grammar.proofs.Rfc733.TreeRecords.{listCount, listRecords, addressEnd, nameStart, nameEnd}
 use Rattle.engine.specs.Ties.Actions.{modeNumber, behindAddress, wanting, atQuoted, refuses, opens, turnsTyped, actNumber, modeRoom, entry, rowOf, actionOf}
 use Rattle.engine.specs.Ties.Stands.{modeOf, stackSize, numberHere, parentAt, parentHere, Entry, HoldsHere, HoldsLevel, storedHere, storedList, storedAddress, Stands}
 use Rattle.engine.specs.declared.Engine.{Engine}

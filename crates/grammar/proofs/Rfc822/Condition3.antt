@@ -6,16 +6,16 @@ use mathlib.Core.List.{List}
 use Rattle.grammar.specs.Believed.Grammar.{Row, levels}
 use Rattle.grammar.specs.Believed.Language.{tooDeep, refused, Right}
 use Rattle.grammar.specs.Believed.Rfc822.{Notion, list, place, address, boxes, boxPlace, mailbox, routeAddr, addrSpec, route, hops, emptyPlaces, localPart, domain, subDomain, phrase, word, rulesOf, rfc822}
-use Rattle.grammar.proofs.AnyMachine as any-machine
-use Rattle.grammar.proofs.Arrows as arrows
-use Rattle.grammar.proofs.Ranks as ranks
-use Rattle.grammar.proofs.Ranks.{ranked}
+use Rattle.grammar.proofs.Any.Machine as any-machine
+use Rattle.grammar.proofs.Any.Arrows as arrows
+use Rattle.grammar.proofs.Any.Ranks as ranks
+use Rattle.grammar.proofs.Any.Ranks.{ranked}
 use Rattle.grammar.specs.Executable.{Decides822}
-use Rattle.grammar.proofs.AnyReader.{decides-by}
+use Rattle.grammar.proofs.Any.Reader.{decides-by}
 use Rattle.grammar.specs.Executable.Trees822.{Class, Sym}
-use Rattle.grammar.proofs.Trees822.{DerivedList}
+use Rattle.grammar.proofs.Rfc822.Derivations.{DerivedList}
 use Rattle.grammar.specs.Executable.Machine822.{step, finish, start, read}
-use Rattle.grammar.proofs.Complete822.{machine}
+use Rattle.grammar.proofs.Rfc822.Complete.{machine}
 
 -- the levels that a notion has at most
 abbrev rank : Notion → ℕ

@@ -9,7 +9,7 @@ use lib.ListN.{length, getD}
 use Rattle.grammar.specs.Believed.Grammar.{Item, symbol, part, Rule, nil, leaf, branch, yieldThen, yield, levels, begins, Allowed, Fits, done, take, apply}
 use Rattle.grammar.specs.Believed.Rfc733.{sameClass, plain, rulesOf, Notion, list, place, address, phrase, atNodes, node, word, rfc733, Derivation, DerivedList}
 use Rattle.grammar.specs.Executable.Trees733.{Class, Atom, At, LessThan, GreaterThan, Comma, Semicolon, Colon, Lexeme, Sym, of, Word, atomWord, quotedWord, Phrase, one, more, Nodes, first, next, Place, empty, comma, AddressList, idle, full, Address, mailbox, angle, group, quoted, typed, ruleOf, wordRow, phraseRow, nodeRow, nodesRow, placeRow, listRow, addressRow, asRow}
-use Rattle.grammar.proofs.Trees.{wordSymbol, phraseThen, nodesThen, placeThen, listThen, addressThen, placeLevels, listLevels, addressLevels, placeLawful, listLawful, addressLawful, DerivedTree}
+use Rattle.grammar.proofs.Rfc733.Trees.{wordSymbol, phraseThen, nodesThen, placeThen, listThen, addressThen, placeLevels, listLevels, addressLevels, placeLawful, listLawful, addressLawful, DerivedTree}
 
 -- ---- the same symbols
 

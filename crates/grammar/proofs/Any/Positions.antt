@@ -14,7 +14,7 @@ use Rattle.scanner.specs.Believed.Symbols.{Symbol}
 use Rattle.grammar.specs.Believed.Grammar.{Makes, Rule, Row, nil, leaf, branch, yieldThen, yield}
 use Rattle.grammar.specs.Believed.Language.{positionOf}
 use Rattle.grammar.specs.Believed.Records.{AddressRecord, noRecord, lastEnd, partOf, nameOf, count, recordOf, recordsFrom, records, recordBytes, tableBytes, recordIn}
-use Rattle.grammar.proofs.Records.{length-records, length-recordBytes, parent-smaller}
+use Rattle.grammar.proofs.Any.Records.{length-records, length-recordBytes, parent-smaller}
 
 -- ---- symbols
 

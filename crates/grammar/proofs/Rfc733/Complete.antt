@@ -8,8 +8,8 @@ use mathlib.Core.Option.{Option, none, some}
 use borrow.Author.Tests.{leb-true, leb-false}
 use Rattle.grammar.specs.Believed.Language.{tooDeep, accepted}
 use Rattle.grammar.specs.Executable.Trees733.{Atom, LessThan, Semicolon, Colon, Lexeme, Sym, of, Word, atomWord, quotedWord, Phrase, one, more, Nodes, first, next, Place, empty, comma, AddressList, idle, full, Address, mailbox, angle, group, quoted, typed}
-use Rattle.grammar.proofs.Trees.{wordSymbol, phraseThen, nameThen, nodesThen, placeThen, listThen, addressThen, placeLevels, listLevels, addressLevels, placeLawful, listLawful, addressLawful, houseRule, DerivedTree}
-use Rattle.grammar.proofs.HouseRule.{oneAtom, atomNamed, atomGroup, placeAtomGroup, listAtomGroup, atomColon-list}
+use Rattle.grammar.proofs.Rfc733.Trees.{wordSymbol, phraseThen, nameThen, nodesThen, placeThen, listThen, addressThen, placeLevels, listLevels, addressLevels, placeLawful, listLawful, addressLawful, houseRule, DerivedTree}
+use Rattle.grammar.proofs.Rfc733.HouseRule.{oneAtom, atomNamed, atomGroup, placeAtomGroup, listAtomGroup, atomColon-list}
 use Rattle.grammar.specs.Executable.Machines.{go, stop, after}
 use Rattle.grammar.specs.Executable.Machine733.{Here, inList, inTyped, Level, top, inAngle, inGroup, State, list, phrase, firstAt, nextAt, node, want, spot, asList, levelsHere, levelsAt, close, complete, withinLimit, entered, enter, onWord, Began, nameless, fresh, begun, run, read}
 

@@ -9,16 +9,16 @@ use Rattle.scanner.specs.declared.Class.the-variants.{Atom, Quoted, At, LessTha
 use Rattle.grammar.specs.Believed.Grammar.{levels}
 use Rattle.grammar.specs.Believed.Language.{GoesOn, FirstRefused, unfit, unfinished, tooDeep, Verdict, accepted, refused, Right}
 use Rattle.grammar.specs.Believed.Rfc733.{list, rfc733, Derivation, DerivedList, RightWithin}
-use Rattle.grammar.proofs.AnyReader as any-reader
+use Rattle.grammar.proofs.Any.Reader as any-reader
 use Rattle.grammar.specs.Executable.{Decides733}
-use Rattle.grammar.proofs.AnyMachine as any-machine
+use Rattle.grammar.proofs.Any.Machine as any-machine
 use Rattle.grammar.specs.Executable.Machines.{Step, go, stop, Result, after, atEnd}
-use Rattle.grammar.proofs.AnyMachine.{not-too-deep}
+use Rattle.grammar.proofs.Any.Machine.{not-too-deep}
 use Rattle.grammar.specs.Executable.Trees733.{Lexeme, Sym, of, atomWord, quotedWord, AddressList, asRow}
-use Rattle.grammar.proofs.Trees.{listLevels, DerivedTree}
+use Rattle.grammar.proofs.Rfc733.Trees.{listLevels, DerivedTree}
 use Rattle.grammar.specs.Executable.Machine733.{State, complete, onWord, onAt, onComma, onGreaterThan, onSemicolon, stepOn, step, run, read, judge, finish, start, asRows, answer}
-use Rattle.grammar.proofs.Steps.{machine}
-use Rattle.grammar.proofs.Rows.{row-levels, row-derived, tree-derived}
+use Rattle.grammar.proofs.Rfc733.Steps.{machine}
+use Rattle.grammar.proofs.Rfc733.Derivations.{row-levels, row-derived, tree-derived}
 
 -- ---- what is right of trees is right of derivations
 

@@ -8,7 +8,7 @@ use Rattle.grammar.specs.Believed.Grammar.{Item, part, Row, nil, yield, 
 use Rattle.grammar.specs.Believed.Rfc733.{sameClass, plain}
 use Rattle.grammar.specs.Believed.Rfc822.{rulesOf, Notion, list, place, address, boxes, boxPlace, mailbox, routeAddr, addrSpec, route, hops, emptyPlaces, localPart, domain, subDomain, phrase, word, rfc822}
 use Rattle.grammar.specs.Executable.Trees822.{put, Class, Sym, Word, atomWord, quotedWord, Phrase, one, more, Sub, Domain, Local, Spec, Empties, Hops, Route, RouteAddr, Mailbox, Place, Listed, Address, Bit, bit, wordPiece, phrasePiece, subPiece, domainPiece, localPiece, specPiece, emptiesPiece, hopsPiece, routePiece, routeAddrPiece, mailboxPiece, boxPlacePiece, boxesPiece, addressPiece, placePiece, listPiece, atomSub, literalSub, oneSub, moreSub, oneWord, moreWord, spec, noEmpty, oneEmpty, firstHop, nextHop, direct, trailing, noRoute, withRoute, bare, angle, routed, empty, comma, idle, full, box, group, asRow}
-use Rattle.grammar.proofs.Pieces.{member, From, put-fits, AllCovered, tree-of}
+use Rattle.grammar.proofs.Any.Pieces.{member, From, put-fits, AllCovered, tree-of}
 
 -- ---- every tree is a derivation
 

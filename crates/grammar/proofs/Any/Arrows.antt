@@ -9,8 +9,8 @@ use Rattle.octets.specs.Believed.Choice.{pick}
 use Rattle.scanner.specs.Believed.Symbols.{Lexeme, Symbol}
 use Rattle.grammar.specs.Believed.Language.{AtMost, MoreThan, GoesOn, FirstRefused, unfit, unfinished, tooDeep, Verdict, accepted, refused, Right}
 use Rattle.grammar.specs.Executable.Machines.{Result, ended, stopped, after, runBy, atEnd, verdictBy, Arrow, look, taken, stepBy}
-use Rattle.grammar.proofs.AnyMachine.{Steady, Machine}
-use Rattle.grammar.proofs.Pieces.{mark}
+use Rattle.grammar.proofs.Any.Machine.{Steady, Machine}
+use Rattle.grammar.proofs.Any.Pieces.{mark}
 
 taken-steady : {S : Type 0} (n : ℕ) (o : Option S) → Steady n (λ m. taken o) (taken o)
 taken-steady n none = λ m. refl

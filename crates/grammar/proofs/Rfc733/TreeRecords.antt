@@ -10,8 +10,8 @@ use Rattle.grammar.specs.Believed.Records.{AddressRecord, recordBy, last
 use Rattle.grammar.specs.Believed.Rfc733.{Derivation, kindNumber, typedKind}
 use Rattle.grammar.specs.Believed.Rfc733 as rfc
 use Rattle.grammar.specs.Executable.Trees733.{Lexeme, LessThan, GreaterThan, Colon, Semicolon, Comma, At, Sym, of, Word, atomWord, quotedWord, Phrase, one, more, Nodes, first, next, Place, empty, comma, AddressList, idle, full, Address, mailbox, angle, group, quoted, typed, wordRow, phraseRow, nodeRow, nodesRow, placeRow, listRow, addressRow, asRow}
-use Rattle.grammar.proofs.Trees.{wordSymbol, phraseThen, nodesThen, listThen, addressThen}
-use Rattle.grammar.proofs.Rows.{phrase-yield, list-yield, address-yield}
+use Rattle.grammar.proofs.Rfc733.Trees.{wordSymbol, phraseThen, nodesThen, listThen, addressThen}
+use Rattle.grammar.proofs.Rfc733.Derivations.{phrase-yield, list-yield, address-yield}
 
 -- ---- the record of an address
 

@@ -1,82 +1,20 @@
 -- Records of symbols that stand one after the other in a body: at most half as many as the body has bytes, their starts ascend,
--- their spans and names lie in the body, and none is deeper than the levels. Assumes nothing.
-use Prim.Native.Nat.{ℕ, zero, suc, _+_, _*_, max, _≤_, _<_}
+-- and their spans and names lie in the body. Assumes nothing.
+use Prim.Native.Nat.{ℕ, suc, _+_, _*_, _≤_, _<_}
 use native.Mathlib.Omega.{arith}
-use mathlib.Core.Path.{_≡_, refl, ap, _∙_}
-use mathlib.Core.List.{List, [], _∷_, _++_}
+use mathlib.Core.Path.{_≡_, ap, _∙_}
+use mathlib.Core.List.{List, [], _∷_}
 use mathlib.Core.Option.{Option, none, some}
-use lib.ListN.{length, getD}
-use Rattle.grammar.specs.Believed.Grammar.{levels}
-use Rattle.grammar.specs.Believed.Language.{accepted}
+use lib.ListN.{length}
 use Rattle.grammar.specs.Believed.Records.{AddressRecord, count, records}
-use Rattle.grammar.specs.Believed.Rfc733.{Derivation, DerivedList, RightWithin}
-use Rattle.grammar.proofs.Records.{length-records}
-use Rattle.grammar.specs.Executable.Trees733.{Class, Atom, Quoted, At, LessThan, GreaterThan, Comma, Semicolon, Colon, Stray, Dot, Literal, Lexeme, Sym, of, Word, atomWord, quotedWord, Phrase, one, more, Nodes, first, next, Place, empty, comma, AddressList, idle, full, Address, mailbox, angle, group, quoted, typed}
-use Rattle.grammar.proofs.Trees.{wordSymbol, phraseThen, nameThen, nodesThen, placeThen, listThen, addressThen, placeLevels, listLevels, addressLevels}
-use Rattle.grammar.proofs.Rows.{row-levels, tree-derived}
-use Rattle.grammar.proofs.TreeRecords.{wordLexeme, phraseStart, phraseEnd, nodesEnd, nameStart, nameEnd, addressEnd, addressRecord, placeCount, listCount, addressCount, placeRecords, listRecords, insideRecords, tree-records, tree-count}
-
--- ---- symbols in order
-
--- the fewest bytes of a symbol: a quoted-string has its quotes
-abbrev pub leastBytes : Class → ℕ
-leastBytes Atom = 1
-leastBytes Quoted = 2
-leastBytes At = 1
-leastBytes LessThan = 1
-leastBytes GreaterThan = 1
-leastBytes Comma = 1
-leastBytes Semicolon = 1
-leastBytes Colon = 1
-leastBytes Stray = 1
-leastBytes Dot = 1
-leastBytes Literal = 1
-
--- the symbols stand one after the other between two positions
-abbrev pub InOrder : ℕ → ℕ → List Sym → Type 0
-InOrder from to [] = from ≤ to
-InOrder from to (x ∷ xs) = (from ≤ x .lexeme .start) × (x .lexeme .start + leastBytes (x .class) ≤ x .lexeme .end) × InOrder (x .lexeme .end) to xs
-
--- ---- records in order
-
--- a record's span lies between two positions, and its name in it
-pub record Lies (from to : ℕ) (r : AddressRecord) : Type 0 where
-  pub after-from : from ≤ r .start
-  pub name-after : r .start ≤ r .nameStart
-  pub name-order : r .nameStart ≤ r .nameEnd
-  pub name-before : r .nameEnd ≤ r .end
-  pub not-empty : r .start < r .end
-  pub before-to : r .end ≤ to
-
--- records lie between two positions, and each starts behind the start of the one before
-abbrev pub Ascending : ℕ → ℕ → List AddressRecord → Type 0
-Ascending from to [] = from ≤ to
-Ascending from to (r ∷ rs) = Lies from to r × Ascending (suc (r .start)) to rs
-
-ascending-le : (from to : ℕ) (rs : List AddressRecord) → Ascending from to rs → from ≤ to
-ascending-le from to [] h = h
-ascending-le from to (r ∷ rs) h = omega (arith, h .0)
-
-lies-widen : (a b a′ b′ : ℕ) (r : AddressRecord) → Lies a b r → a′ ≤ a → b ≤ b′ → Lies a′ b′ r
-lies-widen a b a′ b′ r h p q =
-    record { after-from = omega (arith, h .after-from); name-after = h .name-after; name-order = h .name-order; name-before = h .name-before; not-empty = h .not-empty; before-to = omega (arith, h .before-to) }
-
-ascending-widen : (a b a′ b′ : ℕ) (rs : List AddressRecord) → Ascending a b rs → a′ ≤ a → b ≤ b′ → Ascending a′ b′ rs
-ascending-widen a b a′ b′ [] h p q = omega arith
-ascending-widen a b a′ b′ (r ∷ rs) h p q =
-    (lies-widen a b a′ b′ r (h .0) p q, ascending-widen (suc (r .start)) b (suc (r .start)) b′ rs (h .1) (omega arith) q)
-
-ascending-append : (a b c : ℕ) (rs ss : List AddressRecord) → Ascending a b rs → Ascending b c ss → Ascending a c (rs ++ ss)
-ascending-append a b c [] ss h g = ascending-widen b c a c ss g h (omega arith)
-ascending-append a b c (r ∷ rs) ss h g =
-    (lies-widen a b a c r (h .0) (omega arith) (ascending-le b c ss g), ascending-append (suc (r .start)) b c rs ss (h .1) g)
-
--- each of them lies there
-pub lies-at : (from to : ℕ) (rs : List AddressRecord) (i : ℕ) (d : AddressRecord) → Ascending from to rs → i < length rs → Lies from to (getD rs i d)
-lies-at from to [] i d h l = absurd (omega arith)
-lies-at from to (r ∷ rs) zero d h l = h .0
-lies-at from to (r ∷ rs) (suc i) d h l =
-    lies-widen (suc (r .start)) to from to (getD rs i d) (lies-at (suc (r .start)) to rs i d (h .1) (omega arith)) (omega (arith, h .0)) (omega arith)
+use Rattle.grammar.specs.Believed.Rfc733.{Derivation, DerivedList}
+use Rattle.grammar.proofs.Symbols.{leastBytes, InOrder}
+use Rattle.grammar.proofs.Any.Records.{length-records}
+use Rattle.grammar.proofs.Any.Order.{Lies, Ascending, lies-widen, ascending-widen, ascending-append}
+use Rattle.grammar.specs.Executable.Trees733.{At, LessThan, GreaterThan, Comma, Semicolon, Colon, Lexeme, Sym, of, Word, atomWord, quotedWord, Phrase, one, more, Nodes, first, next, Place, empty, comma, AddressList, idle, full, Address, mailbox, angle, group, quoted, typed}
+use Rattle.grammar.proofs.Rfc733.Trees.{wordSymbol, phraseThen, nameThen, nodesThen, placeThen, listThen, addressThen}
+use Rattle.grammar.proofs.Rfc733.Derivations.{tree-derived}
+use Rattle.grammar.proofs.Rfc733.TreeRecords.{wordLexeme, phraseStart, phraseEnd, nodesEnd, nameStart, nameEnd, addressEnd, addressRecord, placeCount, listCount, addressCount, placeRecords, listRecords, insideRecords, tree-records, tree-count}
 
 -- ---- the parts of a list in order
 
@@ -207,48 +145,6 @@ mutual
         ascending = λ d par e i. (lies-widen (u .end) (addressEnd b) (suc (t .start)) (addressEnd b) _ (k .lies e i) (omega arith) (omega arith), k .ascending e i (suc e) (suc i));
       }
 
--- ---- depth
-
--- no record is deeper
-abbrev pub DepthsAtMost : ℕ → List AddressRecord → Type 0
-DepthsAtMost n [] = Unit {0}
-DepthsAtMost n (r ∷ rs) = (r .depth ≤ n) × DepthsAtMost n rs
-
-depths-widen : (n m : ℕ) (rs : List AddressRecord) → n ≤ m → DepthsAtMost n rs → DepthsAtMost m rs
-depths-widen n m [] h p = tt
-depths-widen n m (r ∷ rs) h p = (omega (arith, p .0), depths-widen n m rs h (p .1))
-
-depths-append : (n : ℕ) (rs ss : List AddressRecord) → DepthsAtMost n rs → DepthsAtMost n ss → DepthsAtMost n (rs ++ ss)
-depths-append n [] ss p q = q
-depths-append n (r ∷ rs) ss p q = (p .0, depths-append n rs ss (p .1) q)
-
-address-depth : (a : Address) (d par : ℕ) → addressRecord a d par .depth ≡ d
-address-depth (mailbox p m) d par = refl
-address-depth (angle o t l u) d par = refl
-address-depth (group o t l u) d par = refl
-address-depth (quoted t) d par = refl
-address-depth (typed t a u b) d par = refl
-
-mutual
-  place-depths : (r : Place) (d par i : ℕ) → DepthsAtMost (d + placeLevels r) (placeRecords r d par i)
-  place-depths empty d par i = tt
-  place-depths (comma l t) d par i = list-depths l d par i
-
-  list-depths : (l : AddressList) (d par i : ℕ) → DepthsAtMost (d + listLevels l) (listRecords l d par i)
-  list-depths (idle r) d par i = place-depths r d par i
-  list-depths (full r a) d par i =
-      depths-append (d + max (placeLevels r) (addressLevels a)) (placeRecords r d par i) _
-      (depths-widen (d + placeLevels r) (d + max (placeLevels r) (addressLevels a)) (placeRecords r d par i) (omega arith) (place-depths r d par i))
-      (omega (arith, address-depth a d par), depths-widen (d + addressLevels a) (d + max (placeLevels r) (addressLevels a)) (insideRecords a (suc d) (suc (i + placeCount r))) (omega arith) (inside-depths a d (suc (i + placeCount r))))
-
-  inside-depths : (a : Address) (d i : ℕ) → DepthsAtMost (d + addressLevels a) (insideRecords a (suc d) i)
-  inside-depths (mailbox p m) d i = tt
-  inside-depths (angle o t l u) d i = depths-widen (suc d + listLevels l) (d + suc (listLevels l)) (listRecords l (suc d) i i) (omega arith) (list-depths l (suc d) i i)
-  inside-depths (group o t l u) d i = depths-widen (suc d + listLevels l) (d + suc (listLevels l)) (listRecords l (suc d) i i) (omega arith) (list-depths l (suc d) i i)
-  inside-depths (quoted t) d i = tt
-  inside-depths (typed t a u b) d i =
-      (omega (arith, address-depth b (suc d) i), depths-widen (suc d + addressLevels b) (d + suc (addressLevels b)) (insideRecords b (suc (suc d)) (suc i)) (omega arith) (inside-depths b (suc d) (suc i)))
-
 -- ---- of a derivation
 
 -- the records lie in the body, in order of start
@@ -270,15 +166,3 @@ count-half {k} {xs} from to d h =
 -- .. and so many records
 pub records-half : {k : Derivation} {xs : List Sym} (from to : ℕ) → DerivedList k xs → InOrder from to xs → from + 2 * length (records k) ≤ to
 records-half {k} from to d h = omega (arith, length-records k, count-half from to d h)
-
--- a record is at most as deep as the derivation has levels
-pub depth-levels : {k : Derivation} {xs : List Sym} → DerivedList k xs → DepthsAtMost (levels k) (records k)
-depth-levels {k} {xs} d =
-    let (l, e, t) = tree-derived d in
-    let q : records k ≡ listRecords l 0 0 0 = ap records e ∙ tree-records l in
-    let v : levels k ≡ listLevels l = ap levels e ∙ row-levels l in
-    rw (q, v) (depths-widen (0 + listLevels l) (listLevels l) (listRecords l 0 0 0) (omega arith) (list-depths l 0 0 0))
-
--- .. so one that is accepted with a limit is at most so deep
-pub depth-limit : (limit : ℕ) {k : Derivation} {xs : List Sym} → RightWithin limit xs (accepted k) → DepthsAtMost limit (records k)
-depth-limit limit {k} r = depths-widen (levels k) limit (records k) (r .1) (depth-levels (r .0))

@@ -12,11 +12,11 @@ use Rattle.grammar.specs.Believed.Grammar.{levels}
 use Rattle.grammar.specs.Believed.Language.{Verdict, accepted, refused, verdictNumber, verdictPosition}
 use Rattle.grammar.specs.Believed.Records.{AddressRecord, recordBy, records, tableBytes}
 use Rattle.grammar.specs.Believed.Rfc733.{Derivation, DerivedList}
-use Rattle.grammar.proofs.OnlyRight.{unfit-none}
+use Rattle.grammar.proofs.Any.OnlyRight.{unfit-none}
 use Rattle.grammar.specs.Executable.Trees733.{Class, Atom, Quoted, At, LessThan, GreaterThan, Comma, Semicolon, Colon, Stray, Sym, of}
-use Rattle.grammar.proofs.Order.{InOrder}
+use Rattle.grammar.proofs.Symbols.{InOrder}
 use Rattle.grammar.specs.Executable.Machine733.{answer}
-use Rattle.grammar.proofs.Condition3.{answer-right}
+use Rattle.grammar.proofs.Rfc733.Condition3.{answer-right}
 
 -- ---- the table
 
