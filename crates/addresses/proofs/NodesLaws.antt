@@ -9,7 +9,7 @@ use Rattle.octets.specs.Believed.Numbers.{noListGoesOn, endsTooSoon}
 use Rattle.scanner.specs.declared.Next.{Next}
 use Rattle.scanner.specs.declared.Next.the-variants.{Found}
 use Rattle.grammar.specs.Believed.Language.{unfit, unfinished, refused}
-use Rattle.grammar.specs.Executable.Trees733.{Class, Atom, Quoted, At, LessThan, GreaterThan, Comma, Semicolon, Colon, Stray, Dot, Literal, Lexeme, Sym, of, Word, Phrase, Nodes, first, next}
+use Rattle.grammar.specs.Executable.Trees733.{Class, Atom, Quoted, At, LessThan, GreaterThan, Comma, Semicolon, Colon, Stray, Dot, Literal, Lexeme, Sym, of, oneOf, Word, Phrase, Nodes, first, next}
 use Rattle.grammar.proofs.Rfc733.Trees.{wordSymbol, nodesThen}
 use Rattle.grammar.specs.Executable.Machine733.{Here, State, firstAt, nextAt, node, run, judge}
 use Rattle.grammar.proofs.Rfc733.Complete.{run-word}
@@ -78,17 +78,7 @@ node-wanted n h p (next-open m t) = refl
 
 -- behind a node: "at", or what ends an address
 abbrev pub followsNode : Class → Bool
-followsNode Atom = false
-followsNode Quoted = false
-followsNode At = true
-followsNode LessThan = false
-followsNode GreaterThan = true
-followsNode Comma = true
-followsNode Semicolon = true
-followsNode Colon = false
-followsNode Stray = false
-followsNode Dot = false
-followsNode Literal = false
+followsNode c = oneOf (At ∷ GreaterThan ∷ Comma ∷ Semicolon ∷ []) c
 
 behind-node : (n : ℕ) (h : Here) (p : Phrase) (m : Nodes) (class : Class) (t : Lexeme) (xs : List Sym) → followsNode class ≡ false → judge (run n (node h p m) (of class t ∷ xs)) ≡ refused unfit (of class t ∷ xs)
 behind-node n h p m Atom t xs e = refl

@@ -1,13 +1,16 @@
 -- A phrase, word by word. Assumes nothing.
 use mathlib.Core.Path.{_≡_, refl, sym, ap, _∙_}
-use mathlib.Core.Bool.{Bool, true, false, true≢false}
-use mathlib.Core.List.{List, [], _∷_}
+use mathlib.Core.Bool.{Bool, true, false}
+use mathlib.Core.List.{List, [], _∷_, List·Memᴰ, List·Memᴰ·head as here, List·Memᴰ·tail as there}
 use Prim.Native.Nat.{ℕ, _≤_}
 use native.Mathlib.Omega.{arith}
 use lib.ListN.{length}
+use Rattle.octets.specs.Believed.Choice.{pick}
 use Rattle.scanner.specs.declared.Next.{Next}
 use Rattle.scanner.specs.declared.Next.the-variants.{Found}
-use Rattle.grammar.specs.Executable.Trees733.{Class, Atom, Quoted, At, LessThan, GreaterThan, Comma, Semicolon, Colon, Stray, Dot, Literal, Lexeme, Sym, of, Word, atomWord, quotedWord, Phrase, one, more}
+use Rattle.grammar.specs.Believed.Rfc733.{sameClass}
+use Rattle.grammar.proofs.Symbols.{one-of}
+use Rattle.grammar.specs.Executable.Trees733.{Class, Atom, Quoted, Lexeme, Sym, of, Word, atomWord, quotedWord, Phrase, one, more}
 use Rattle.grammar.proofs.Rfc733.Trees.{wordSymbol, phraseThen}
 use Rattle.grammar.proofs.Rfc733.TreeRecords.{wordLexeme, phraseStart, phraseEnd}
 use Rattle.addresses.specs.Ties.Steps.{isWord, isQuoted, loneQuoted, symbolsFrom, lexemeAt, symbolsAhead, Faultless, Reached, NoWord, WordsIs}
@@ -15,57 +18,29 @@ use Rattle.addresses.proofs.NextLaws.{NextIs}
 
 -- the word of a class
 abbrev pub wordOf : Class → Lexeme → Word
-wordOf Atom t = atomWord t
-wordOf Quoted t = quotedWord t
-wordOf At t = atomWord t
-wordOf LessThan t = atomWord t
-wordOf GreaterThan t = atomWord t
-wordOf Comma t = atomWord t
-wordOf Semicolon t = atomWord t
-wordOf Colon t = atomWord t
-wordOf Stray t = atomWord t
-wordOf Dot t = atomWord t
-wordOf Literal t = atomWord t
+wordOf c t = pick (sameClass Quoted c) (quotedWord t) (atomWord t)
 
 pub word-symbol : (class : Class) (t : Lexeme) → isWord class ≡ true → wordSymbol (wordOf class t) ≡ of class t
-word-symbol Atom t e = refl
-word-symbol Quoted t e = refl
-word-symbol At t e = absurd (true≢false (sym e))
-word-symbol LessThan t e = absurd (true≢false (sym e))
-word-symbol GreaterThan t e = absurd (true≢false (sym e))
-word-symbol Comma t e = absurd (true≢false (sym e))
-word-symbol Semicolon t e = absurd (true≢false (sym e))
-word-symbol Colon t e = absurd (true≢false (sym e))
-word-symbol Stray t e = absurd (true≢false (sym e))
-word-symbol Dot t e = absurd (true≢false (sym e))
-word-symbol Literal t e = absurd (true≢false (sym e))
+word-symbol class t e = by (one-of (Atom ∷ Quoted ∷ []) class e)
+  where
+    by : List·Memᴰ class (Atom ∷ Quoted ∷ []) → wordSymbol (wordOf class t) ≡ of class t
+    by (here q) = rw q
+    by (there (here q)) = rw q
 
 pub word-lexeme : (class : Class) (t : Lexeme) → wordLexeme (wordOf class t) ≡ t
-word-lexeme Atom t = refl
-word-lexeme Quoted t = refl
-word-lexeme At t = refl
-word-lexeme LessThan t = refl
-word-lexeme GreaterThan t = refl
-word-lexeme Comma t = refl
-word-lexeme Semicolon t = refl
-word-lexeme Colon t = refl
-word-lexeme Stray t = refl
-word-lexeme Dot t = refl
-word-lexeme Literal t = refl
+word-lexeme class t = by (sameClass Quoted class)
+  where
+    by : (b : Bool) → wordLexeme (pick b (quotedWord t) (atomWord t)) ≡ t
+    by true = refl
+    by false = refl
 
 -- the first word
 pub word-lone : (class : Class) (t : Lexeme) → isQuoted class ≡ loneQuoted (one (wordOf class t))
-word-lone Atom t = refl
-word-lone Quoted t = refl
-word-lone At t = refl
-word-lone LessThan t = refl
-word-lone GreaterThan t = refl
-word-lone Comma t = refl
-word-lone Semicolon t = refl
-word-lone Colon t = refl
-word-lone Stray t = refl
-word-lone Dot t = refl
-word-lone Literal t = refl
+word-lone class t = by (sameClass Quoted class)
+  where
+    by : (b : Bool) → b ≡ loneQuoted (one (pick b (quotedWord t) (atomWord t)))
+    by true = refl
+    by false = refl
 
 module _ (classes text : List ℕ) where
   -- the words so far, up to a position

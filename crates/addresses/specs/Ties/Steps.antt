@@ -15,7 +15,8 @@ use Rattle.scanner.specs.declared.Next.the-variants.{Found, Ended, Fault}
 use Rattle.scanner.specs.Ties.Meanings.{meaningAt}
 use Rattle.grammar.specs.Believed.Language.{Refusal, refused, number, positionOf}
 use Rattle.grammar.specs.Believed.Records.{tableBytes}
-use Rattle.grammar.specs.Executable.Trees733.{Class, Atom, Quoted, At, LessThan, GreaterThan, Comma, Semicolon, Colon, Stray, Dot, Literal, Lexeme, Sym, of, atomWord, quotedWord, Phrase, one, more, Nodes, empty, AddressList, idle, Address, angle, group}
+use Rattle.grammar.specs.Believed.Rfc733.{sameClass}
+use Rattle.grammar.specs.Executable.Trees733.{Class, Atom, Quoted, At, LessThan, GreaterThan, Semicolon, Colon, Lexeme, Sym, of, oneOf, atomWord, quotedWord, Phrase, one, more, Nodes, empty, AddressList, idle, Address, angle, group}
 use Rattle.grammar.proofs.Rfc733.Trees.{phraseThen, nameThen, nodesThen, atomColon}
 use Rattle.grammar.specs.Executable.Machine733.{Here, Level, inAngle, inGroup, list, firstAt, levelsHere, levelsAt, nameless, fresh, run, judge}
 use Rattle.grammar.proofs.Rfc733.Complete.{begin, doneAddress, doneList, Clear}
@@ -36,30 +37,10 @@ use Rattle.addresses.specs.declared.Enclosure.the-variants.{Angle, Group
 -- ---- classes
 
 abbrev pub isWord : Class → Bool
-isWord Atom = true
-isWord Quoted = true
-isWord At = false
-isWord LessThan = false
-isWord GreaterThan = false
-isWord Comma = false
-isWord Semicolon = false
-isWord Colon = false
-isWord Stray = false
-isWord Dot = false
-isWord Literal = false
+isWord c = oneOf (Atom ∷ Quoted ∷ []) c
 
 abbrev pub isQuoted : Class → Bool
-isQuoted Atom = false
-isQuoted Quoted = true
-isQuoted At = false
-isQuoted LessThan = false
-isQuoted GreaterThan = false
-isQuoted Comma = false
-isQuoted Semicolon = false
-isQuoted Colon = false
-isQuoted Stray = false
-isQuoted Dot = false
-isQuoted Literal = false
+isQuoted c = sameClass Quoted c
 
 -- what comes next may stand behind an address
 abbrev pub endsAddressNext : Next → Bool
@@ -303,17 +284,7 @@ module _ (classes text : List ℕ) where
 
   -- what follows a phrase, and is neither a word nor a mark of an address
   abbrev pub followsPhrase : Class → Bool
-  followsPhrase Atom = true
-  followsPhrase Quoted = true
-  followsPhrase At = true
-  followsPhrase LessThan = true
-  followsPhrase GreaterThan = false
-  followsPhrase Comma = false
-  followsPhrase Semicolon = false
-  followsPhrase Colon = true
-  followsPhrase Stray = false
-  followsPhrase Dot = false
-  followsPhrase Literal = false
+  followsPhrase c = oneOf (Atom ∷ Quoted ∷ At ∷ LessThan ∷ Colon ∷ []) c
 
   abbrev pub NoMark : Next → Type 0
   NoMark (Found class start end) = followsPhrase class ≡ false

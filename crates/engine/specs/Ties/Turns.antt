@@ -3,7 +3,7 @@
 use Prim.Native.Nat.{ℕ, _+_, _*_, _/_, _≤_, _<_}
 use mathlib.Core.Path.{_≡_}
 use mathlib.Core.Bool.{Bool, true, false}
-use mathlib.Core.List.{List}
+use mathlib.Core.List.{List, [], _∷_}
 use mathlib.Core.Option.{Option, none, some}
 use lib.Dec.{eqb}
 use lib.ListN.{length}
@@ -12,12 +12,12 @@ use Rattle.octets.specs.Believed.Numbers.{messageLimit, levelLimit, addressReco
 use Rattle.octets.specs.Believed.Choice.{pick}
 use Rattle.octets.specs.Believed.Text.{part}
 use Rattle.scanner.specs.declared.Class.{Class}
-use Rattle.scanner.specs.declared.Class.the-variants.{Atom, Quoted, At, LessThan, GreaterThan, Comma, Semicolon, Colon, Stray, Dot, Literal}
+use Rattle.scanner.specs.declared.Class.the-variants.{Atom, LessThan, GreaterThan}
 use Rattle.grammar.specs.Believed.Language.{Refusal, number}
 use Rattle.grammar.specs.Believed.Records.{recordBy, recordBytes, tableBytes}
 use Rattle.grammar.specs.Believed.Rfc733.{kindNumber, mailbox, angleList, group, quoted}
 use Rattle.grammar.specs.Executable.Machines.{Step, go, stop}
-use Rattle.grammar.specs.Executable.Trees733.{Lexeme, Phrase, one, atomWord, quotedWord, Nodes, empty, AddressList, idle, Address}
+use Rattle.grammar.specs.Executable.Trees733.{oneOf, Lexeme, Phrase, one, atomWord, quotedWord, Nodes, empty, AddressList, idle, Address}
 use Rattle.grammar.specs.Executable.Trees733 as trees
 use Rattle.grammar.specs.Executable.Machine733.{Here, inList, Level, inAngle, inGroup, State, list, phrase, node, want, Spot, close, enter, endAngle, endGroup, levelsHere, levelsAt, stepOn, finish}
 use Rattle.grammar.proofs.Rfc733.TreeRecords.{listCount, listRecords, addressEnd, nameStart, nameEnd}
@@ -31,17 +31,7 @@ use Rattle.engine.specs.declared.Turned.the-variants.{On, Stop}
 
 -- a bracket, not a mark of groups
 abbrev pub isAngle : Class → Bool
-isAngle Atom = false
-isAngle Quoted = false
-isAngle At = false
-isAngle LessThan = true
-isAngle GreaterThan = true
-isAngle Comma = false
-isAngle Semicolon = false
-isAngle Colon = false
-isAngle Stray = false
-isAngle Dot = false
-isAngle Literal = false
+isAngle c = oneOf (LessThan ∷ GreaterThan ∷ []) c
 
 -- the kind of what a bracket or a mark of groups opens
 abbrev pub kindIf : Bool → ℕ

@@ -18,16 +18,6 @@ Steady n f (stop unfit) = (m : ℕ) → f m ≡ stop unfit
 Steady n f (stop unfinished) = ⊥
 Steady {S = S} n f (stop tooDeep) = (m : ℕ) × (n ≤ m) × (s : S) × (f m ≡ go s)
 
--- a step that does not look at the levels never refuses one
-pub not-too-deep : {S : Type 0} (n : ℕ) (st : Step S) → Steady n (λ m. st) st → st ≡ stop tooDeep → ⊥
-not-too-deep n (go s) h e = let z : _≡_ {A = ℕ} 0 1 = cc in omega arith
-not-too-deep n (stop unfit) h e = let z : _≡_ {A = ℕ} 0 1 = cc in omega arith
-not-too-deep n (stop unfinished) h e = h
-not-too-deep n (stop tooDeep) h e =
-    let f = h .3 in
-    let z : _≡_ {A = ℕ} 0 1 = cc in
-    omega arith
-
 module _ {C S T : Type 0} (Derives : T → List (Symbol C) → Type 0) (levels : T → ℕ) (step : ℕ → S → Symbol C → Step S) (finish : S → Option T) (start : S) where
   abbrev pub run : ℕ → S → List (Symbol C) → Result C S
   run n s xs = runBy step n s xs

@@ -1,22 +1,19 @@
 -- Condition 3 for RFC 733: exactly one derivation; the machine's answer is right, and the only right one. Assumes nothing.
 use Prim.Native.Nat.{ℕ, _≤_}
 use native.Mathlib.Omega.{arith}
-use mathlib.Core.Path.{_≡_, refl, sym, ap, _∙_}
-use mathlib.Core.Option.{Option, none, some}
-use mathlib.Core.List.{List, [], _∷_}
+use mathlib.Core.Path.{_≡_, sym, ap, _∙_}
+use mathlib.Core.List.{List}
 use Rattle.scanner.specs.declared.Class.{Class}
-use Rattle.scanner.specs.declared.Class.the-variants.{Atom, Quoted, At, LessThan, GreaterThan, Comma, Semicolon, Colon, Stray, Dot, Literal}
 use Rattle.grammar.specs.Believed.Grammar.{levels}
 use Rattle.grammar.specs.Believed.Language.{GoesOn, FirstRefused, unfit, unfinished, tooDeep, Verdict, accepted, refused, Right}
 use Rattle.grammar.specs.Believed.Rfc733.{list, rfc733, Derivation, DerivedList, RightWithin}
 use Rattle.grammar.proofs.Any.Reader as any-reader
 use Rattle.grammar.specs.Executable.{Decides733}
 use Rattle.grammar.proofs.Any.Machine as any-machine
-use Rattle.grammar.specs.Executable.Machines.{Step, go, stop, Result, after, atEnd}
-use Rattle.grammar.proofs.Any.Machine.{not-too-deep}
-use Rattle.grammar.specs.Executable.Trees733.{Lexeme, Sym, of, atomWord, quotedWord, AddressList, asRow}
+use Rattle.grammar.specs.Executable.Machines.{after}
+use Rattle.grammar.specs.Executable.Trees733.{Sym, AddressList, asRow}
 use Rattle.grammar.proofs.Rfc733.Trees.{listLevels, DerivedTree}
-use Rattle.grammar.specs.Executable.Machine733.{State, complete, onWord, onAt, onComma, onGreaterThan, onSemicolon, stepOn, step, run, read, judge, finish, start, asRows, answer}
+use Rattle.grammar.specs.Executable.Machine733.{step, read, finish, start, asRows, answer}
 use Rattle.grammar.proofs.Rfc733.Steps.{machine}
 use Rattle.grammar.proofs.Rfc733.Derivations.{row-levels, row-derived, tree-derived}
 
@@ -94,57 +91,3 @@ answer-accepts limit d v = any-reader.answer-accepts rfc733 list 0 answer decide
 -- .. and only that is accepted
 pub answer-derives : (limit : ℕ) {k : Derivation} {xs : List Sym} → answer limit xs ≡ accepted k → DerivedList k xs × (levels k ≤ limit)
 answer-derives limit {k} {xs} e = any-reader.answer-derives rfc733 list 0 answer decides limit (omega arith) {xs = xs} e
-
--- ---- the place of 10
-
--- these symbols begin with "<" or ":"
-pub data BeginsLevel : List Sym → Type 0 where
-  less : (t : Lexeme) (xs : List Sym) → BeginsLevel (of LessThan t ∷ xs)
-  colon : (t : Lexeme) (xs : List Sym) → BeginsLevel (of Colon t ∷ xs)
-
-abbrev DeepAt : {T : Type 0} → Verdict Class T → Type 0
-DeepAt (accepted t) = Unit {0}
-DeepAt (refused unfit rest) = Unit {0}
-DeepAt (refused unfinished rest) = Unit {0}
-DeepAt (refused tooDeep rest) = BeginsLevel rest
-
-deep-after : (st : Step State) (go-on : State → Result Class State) (xs : List Sym) → (st ≡ stop tooDeep → BeginsLevel xs)
-    → ((s : State) → DeepAt (judge (go-on s))) → DeepAt (judge (after st go-on xs))
-deep-after (go s) go-on xs f g = g s
-deep-after (stop unfit) go-on xs f g = tt
-deep-after (stop unfinished) go-on xs f g = tt
-deep-after (stop tooDeep) go-on xs f g = f refl
-
-deep-end : (o : Option AddressList) → DeepAt (atEnd {C = Class} o)
-deep-end none = tt
-deep-end (some l) = tt
-
--- only a step at "<" or ":" asks for a level
-deep-step : (n : ℕ) (s : State) (c : Class) (t : Lexeme) (xs : List Sym) → stepOn n s c t ≡ stop tooDeep → BeginsLevel (of c t ∷ xs)
-deep-step n s Atom t xs e = absurd (not-too-deep n (onWord s (atomWord t)) (machine .steady n s (of Atom t)) e)
-deep-step n s Quoted t xs e = absurd (not-too-deep n (onWord s (quotedWord t)) (machine .steady n s (of Quoted t)) e)
-deep-step n s At t xs e = absurd (not-too-deep n (onAt s t) (machine .steady n s (of At t)) e)
-deep-step n s LessThan t xs e = less t xs
-deep-step n s GreaterThan t xs e = absurd (not-too-deep n (onGreaterThan (complete s) t) (machine .steady n s (of GreaterThan t)) e)
-deep-step n s Comma t xs e = absurd (not-too-deep n (onComma (complete s) t) (machine .steady n s (of Comma t)) e)
-deep-step n s Semicolon t xs e = absurd (not-too-deep n (onSemicolon (complete s) t) (machine .steady n s (of Semicolon t)) e)
-deep-step n s Colon t xs e = colon t xs
-deep-step n s Stray t xs e = absurd (not-too-deep n (stop unfit) (machine .steady n s (of Stray t)) e)
-deep-step n s Dot t xs e = absurd (not-too-deep n (stop unfit) (machine .steady n s (of Dot t)) e)
-deep-step n s Literal t xs e = absurd (not-too-deep n (stop unfit) (machine .steady n s (of Literal t)) e)
-
-deep-run : (n : ℕ) (s : State) (xs : List Sym) → DeepAt (judge (run n s xs))
-deep-run n s [] = deep-end (finish s)
-deep-run n s (x ∷ xs) = deep-after (step n s x) (λ s′. run n s′ xs) (x ∷ xs) (deep-step n s (x .class) (x .lexeme) xs) (λ s′. deep-run n s′ xs)
-
-deep-rows : (v : Verdict Class AddressList) → DeepAt v → DeepAt (asRows v)
-deep-rows (accepted l) h = tt
-deep-rows (refused unfit rest) h = tt
-deep-rows (refused unfinished rest) h = tt
-deep-rows (refused tooDeep rest) h = h
-
--- 10 is always at a "<" or ":"
-pub too-deep-at : (limit : ℕ) (xs rest : List Sym) → RightWithin limit xs (refused tooDeep rest) → BeginsLevel rest
-too-deep-at limit xs rest r =
-    let e : answer limit xs ≡ refused tooDeep rest = sym (answer-only limit xs (refused tooDeep rest) r) in
-    rw e at (deep-rows (read limit xs) (deep-run limit start xs))

@@ -1,4 +1,4 @@
--- Document 01's examples 1 to 10 and others, as evaluations of the executable answer. Assumes nothing.
+-- Lists at the bounds of levels and of records, refused ones, and kinds, as evaluations of the executable answer; document 01's examples stand in crate `examples`. Assumes nothing.
 use Prim.Native.Nat.{ℕ, zero, suc, _+_}
 use Prim.Native.String.{String, len}
 use native.Mathlib.Omega.{arith}
@@ -10,15 +10,13 @@ use Rattle.octets.specs.Believed.Numbers.{levelLimit}
 use Rattle.octets.specs.Believed.Text.{bytes}
 use Rattle.grammar.specs.Believed.Grammar.{levels}
 use Rattle.grammar.specs.Believed.Language.{Verdict, accepted, refused, verdictNumber, verdictPosition}
-use Rattle.grammar.specs.Believed.Records.{AddressRecord, recordBy, records, tableBytes}
+use Rattle.grammar.specs.Believed.Records.{AddressRecord, records}
 use Rattle.grammar.specs.Believed.Rfc733.{Derivation, DerivedList}
 use Rattle.grammar.proofs.Any.OnlyRight.{unfit-none}
-use Rattle.grammar.specs.Executable.Trees733.{Class, Atom, Quoted, At, LessThan, GreaterThan, Comma, Semicolon, Colon, Stray, Sym, of}
+use Rattle.grammar.specs.Executable.Trees733.{Class, Atom, Quoted, At, LessThan, GreaterThan, Semicolon, Colon, Stray, Sym, of}
 use Rattle.grammar.proofs.Symbols.{InOrder}
 use Rattle.grammar.specs.Executable.Machine733.{answer}
 use Rattle.grammar.proofs.Rfc733.Condition3.{answer-right}
-
--- ---- the table
 
 -- a symbol from a position to another, its meaning left out
 abbrev s : Class → ℕ → ℕ → Sym
@@ -27,64 +25,6 @@ s c i j = of c record { start = i; end = j; meaning = [] }
 abbrev recordsOf : Verdict Class Derivation → List AddressRecord
 recordsOf (accepted k) = records k
 recordsOf (refused why rest) = []
-
--- a body's symbols and end, and what is answered
-record Example : Type 0 where
-  symbols : List Sym
-  bodyEnd : ℕ
-  number : ℕ
-  position : ℕ
-  table : List AddressRecord
-
-abbrev example : List Sym → ℕ → ℕ → ℕ → List AddressRecord → Example
-example xs e n p rs = record { symbols = xs; bodyEnd = e; number = n; position = p; table = rs }
-
-abbrev Answered : Example → Type 0
-Answered e =
-    let v = answer levelLimit (e .symbols) in
-    (verdictNumber v ≡ e .number) × (verdictPosition (e .bodyEnd) v ≡ e .position) × (recordsOf v ≡ e .table)
-
-data AllAnswered : List Example → Type 0 where
-  none : AllAnswered []
-  and : {e : Example} {es : List Example} → Answered e → AllAnswered es → AllAnswered (e ∷ es)
-
-abbrev table : List Example
-table =
-    -- 1: nothing; 2: `,,`; 3: `Neuman@BBN-TENEXA`; 4: `x`; 5: `"x"`
-    example [] 0 0 0 []
-    ∷ example (s Comma 0 1 ∷ s Comma 1 2 ∷ []) 2 0 0 []
-    ∷ example (s Atom 0 6 ∷ s At 6 7 ∷ s Atom 7 17 ∷ []) 17 0 0 (recordBy 1 0 0 0 17 0 6 ∷ [])
-    ∷ example (s Atom 0 1 ∷ []) 1 9 1 []
-    ∷ example (s Quoted 0 3 ∷ []) 3 0 0 (recordBy 4 0 0 0 3 0 3 ∷ [])
-    -- 6: `a at b c`; 7: `:A:;;`; 8: `:,A:;;`
-    ∷ example (s Atom 0 1 ∷ s At 2 4 ∷ s Atom 5 6 ∷ s Atom 7 8 ∷ []) 8 8 7 []
-    ∷ example (s Colon 0 1 ∷ s Atom 1 2 ∷ s Colon 2 3 ∷ s Semicolon 3 4 ∷ s Semicolon 4 5 ∷ []) 5 8 3 []
-    ∷ example (s Colon 0 1 ∷ s Comma 1 2 ∷ s Atom 2 3 ∷ s Colon 3 4 ∷ s Semicolon 4 5 ∷ s Semicolon 5 6 ∷ []) 6 0 0
-    (recordBy 3 0 0 0 6 0 0 ∷ recordBy 3 1 1 2 5 2 3 ∷ [])
-    -- 9: `:A: :B: x at H;;`; 10: `<a at b`
-    ∷ example
-    (s Colon 0 1 ∷ s Atom 1 2 ∷ s Colon 2 3 ∷ s Colon 4 5 ∷ s Atom 5 6 ∷ s Colon 6 7 ∷ s Atom 8 9 ∷ s At 10 12 ∷ s Atom 13 14 ∷ s Semicolon 14 15 ∷ s Semicolon 15 16 ∷ [])
-    16 8 14 []
-    ∷ example (s LessThan 0 1 ∷ s Atom 1 2 ∷ s At 3 5 ∷ s Atom 6 7 ∷ []) 7 9 7 []
-    ∷ []
-
-examples : AllAnswered table
-examples =
-    and (refl, refl, refl)
-    (and (refl, refl, refl)
-    (and (refl, refl, refl)
-    (and (refl, refl, refl)
-    (and (refl, refl, refl)
-    (and (refl, refl, refl)
-    (and (refl, refl, refl)
-    (and (refl, refl, refl)
-    (and (refl, refl, refl)
-    (and (refl, refl, refl) none)))))))))
-
--- the bytes of example 8's records
-example8-bytes : tableBytes (recordBy 3 0 0 0 6 0 0 ∷ recordBy 3 1 1 2 5 2 3 ∷ [])
-    ≡ 3 ∷ 0 ∷ 0 ∷ 0 ∷ 0 ∷ 0 ∷ 0 ∷ 6 ∷ 0 ∷ 0 ∷ 0 ∷ 0 ∷ 3 ∷ 1 ∷ 0 ∷ 1 ∷ 0 ∷ 2 ∷ 0 ∷ 5 ∷ 0 ∷ 2 ∷ 0 ∷ 3 ∷ []
-example8-bytes = refl
 
 -- `""` has one record for two bytes: more there are not
 half-met : InOrder 0 2 (s Quoted 0 2 ∷ []) × (length (recordsOf (answer levelLimit (s Quoted 0 2 ∷ []))) ≡ 1)

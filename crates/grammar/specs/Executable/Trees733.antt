@@ -1,10 +1,12 @@
 -- The executable layer: the address rules of RFC 733 as trees, a constructor for a rule with its parts as fields, and a tree as a derivation. Nothing here needs to be believed: what the verdict is `Decides` says, over the grammar alone.
 use Prim.Native.Nat.{ℕ}
-use mathlib.Core.List.{[]}
+use mathlib.Core.Bool.{Bool, false}
+use mathlib.Core.List.{List, [], _∷_}
 use mathlib.Core.Option.{Option, none, some}
 use lib.ListN.{getD}
+use Rattle.octets.specs.Believed.Choice.{either}
 use Rattle.grammar.specs.Believed.Grammar.{Rule, nil, leaf, branch}
-use Rattle.grammar.specs.Believed.Rfc733.{plain, rulesOf, Notion, list, place, address, phrase, atNodes, node, word, Derivation}
+use Rattle.grammar.specs.Believed.Rfc733.{sameClass, plain, rulesOf, Notion, list, place, address, phrase, atNodes, node, word, Derivation}
 pub use Rattle.scanner.specs.Believed.Symbols.{Lexeme, Symbol}
 pub use Rattle.scanner.specs.declared.Class.{Class}
 pub use Rattle.scanner.specs.declared.Class.the-variants.{Atom, Quoted, At, LessThan, GreaterThan, Comma, Semicolon, Colon, Stray, Dot, Literal}
@@ -15,6 +17,11 @@ Sym = Symbol Class
 -- the symbol of a class with a lexeme
 abbrev pub of : Class → Lexeme → Sym
 of c t = record { class = c; lexeme = t }
+
+-- a class is one of these
+abbrev pub oneOf : List Class → Class → Bool
+oneOf [] c = false
+oneOf (d ∷ ds) c = either (sameClass d c) (oneOf ds c)
 
 -- word: atom or quoted-string
 pub data Word : Type 0 where
