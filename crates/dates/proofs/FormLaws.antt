@@ -14,6 +14,7 @@ use lib.Signed.{mag}
 use mir.Syntax.{w16}
 use mir.Val.{SFits}
 use mir.Facts.{sfits-lit}
+use Rattle.octets.specs.Believed.Choice.{pick}
 use Rattle.octets.specs.Believed.Classes.{letter, digit}
 use Rattle.octets.specs.Believed.Octets.{minusByte}
 use Rattle.octets.specs.Believed.Text.{part}
@@ -22,7 +23,7 @@ use Rattle.octets.proofs.Parts.{part-cons, part-none, part-length}
 use Rattle.dates.specs.Believed.Names.{place, zoneNames, zoneMinutes}
 use Rattle.dates.specs.Believed.Parts.{Part}
 use Rattle.dates.specs.Believed.Grammar.{numberFrom, number, offsetOf}
-use Rattle.dates.specs.Executable.Form.{firstKey, after, done, digitsOf, named, noZone, zoned, zoneNamed, hourAfter, pastDash, yearAfter}
+use Rattle.dates.specs.Executable.Form.{firstKey, after, done, digitsOf, upToSix, named, noZone, zoned, zoneNamed, pastDash}
 use Rattle.dates.specs.Ties.Steps.{TokenIs, NumberIs, NamedIs, SpotIs}
 use Rattle.dates.specs.declared.parts.Token.{Token}
 use Rattle.dates.specs.declared.form.Offset.the-variants.{Minutes, OutOfRange}
@@ -45,33 +46,20 @@ bounded v n k h l = omega (arith, pow-le-pow-right {n = 1000} (omega arith) l)
 -- ---- the first part
 
 module _ {classes text : List ℕ} {l : List Part} {t : Token} (x : TokenIs classes text l t) where
-  pub no-number : (t .key ≡ digit → ⊥) → NumberIs classes text l (record { count = 0; value = 0; at = t .stop; end = t .end })
-  unfolding digitsOf number
+  pub no-number : (t .key ≡ digit → ⊥) → NumberIs classes text (digitsOf l) (after l) (record { count = 0; value = 0; at = t .stop; end = t .end })
+  unfolding digitsOf upToSix number
   no-number n =
-      record {
-        count-is = rw (x .key-is, ne-eqb (t .key) digit n);
-        value-is = λ h. rw (x .key-is, ne-eqb (t .key) digit n);
-        small = omega arith;
-        rest-is = x .rest-is;
-        place = x .place;
-      }
+      let e = ne-eqb (t .key) digit n in
+      record { count-is = rw (x .key-is, e); value-is = rw (x .key-is, e); small = omega arith; rest-is = x .rest-is; place = x .place }
 
-  module _ (e : t .key ≡ digit) where
-    digits-are : digitsOf l ≡ part text (t .start) (t .stop)
-    unfolding digitsOf
-    digits-are = rw (x .key-is, eq-eqb (t .key) digit e, x .bytes-are)
-
-    digits-count : length (digitsOf l) ≡ t .stop - t .start
-    digits-count = ap length digits-are ∙ part-length text (t .start) (t .stop) (omega (arith, x .place .order, x .place .inside))
-
-    pub long-number : 6 < t .stop - t .start → NumberIs classes text l (record { count = t .stop - t .start; value = 0; at = t .stop; end = t .end })
-    long-number h =
-        record { count-is = digits-count; value-is = λ k. absurd (omega arith); small = omega arith; rest-is = x .rest-is; place = x .place }
-
-    pub a-number : (v : ℕ) → v ≡ number (part text (t .start) (t .stop)) → v < 1000000000000000000
-        → NumberIs classes text l (record { count = t .stop - t .start; value = v; at = t .stop; end = t .end })
-    a-number v m s =
-        record { count-is = digits-count; value-is = λ k. ap number digits-are ∙ sym m; small = s; rest-is = x .rest-is; place = x .place }
+  -- a run of digits, of which at most six have a value
+  pub a-number : t .key ≡ digit → (v : ℕ) → v ≡ pick (ltb 6 (t .stop - t .start)) 0 (number (part text (t .start) (t .stop))) → v < 1000000000000000000
+      → NumberIs classes text (digitsOf l) (after l) (record { count = t .stop - t .start; value = v; at = t .stop; end = t .end })
+  unfolding digitsOf upToSix
+  a-number e v m s =
+      let d : digitsOf l ≡ part text (t .start) (t .stop) = rw (x .key-is, eq-eqb (t .key) digit e, x .bytes-are) in
+      let n : length (part text (t .start) (t .stop)) ≡ t .stop - t .start = part-length text (t .start) (t .stop) (omega (arith, x .place .order, x .place .inside)) in
+      record { count-is = rw d n; value-is = rw (d, n) (sym m); small = s; rest-is = x .rest-is; place = x .place }
 
   module _ (names : List (List ℕ)) where
     pub no-letters : (t .key ≡ letter → ⊥) → (n : ℕ) → length names ≡ n → NamedIs classes text names l (record { place = n; at = t .stop; end = t .end })
@@ -130,14 +118,3 @@ module _ (l : List Part) (p : ℕ) (e : named zoneNames l ≡ p) where
   pub a-zone : p < 43 → (z : ℤ) (r : List Part) → z ≡ getD zoneMinutes p (pos 0) → after l ≡ r → zoneNamed l ≡ zoned (Minutes z) r
   unfolding zoneNamed
   a-zone h z r m f = rw (e, lt-ltb p 43 h, m, f)
-
--- ---- the year
-
-module _ (name day month : ℕ) (l r : List Part) (v : ℕ) (e : number (digitsOf l) ≡ v) (f : after l ≡ r) where
-  pub two-digits : length (digitsOf l) ≡ 2 → hourAfter name day month (v + 1900) r ≡ yearAfter name day month l
-  unfolding yearAfter
-  two-digits h = sym (rw (h, e, f))
-
-  pub four-digits : length (digitsOf l) ≡ 4 → hourAfter name day month v r ≡ yearAfter name day month l
-  unfolding yearAfter
-  four-digits h = sym (rw (h, e, f))

@@ -8,14 +8,14 @@ use native.Mathlib.Omega.{arith}
 use lib.Dec.{eqb, leb, ltb}
 use lib.IntN.{ℤ, pos}
 use lib.ListN.{length, getD}
-use borrow.Author.Tests.{eqb-true, ltb-true, leb-true, lt-ltb}
+use borrow.Author.Tests.{eqb-true, ltb-true, leb-true, lt-ltb, le-ltb}
 use Rattle.octets.specs.Believed.Choice.{pick, both}
 use Rattle.octets.specs.Believed.Classes.{letter, digit}
 use Rattle.octets.specs.Believed.Octets.{plusByte, commaByte, minusByte, colonByte}
 use Rattle.dates.specs.Believed.Names.{dayNames, monthNames, zoneNames, zoneMinutes, place, ahead, behind}
 use Rattle.dates.specs.Believed.Parts.{Part}
 use Rattle.dates.specs.Believed.Grammar.{num, offsetOf, Digits, Name, DayNameIs, day-name, no-day-name, DashIs, dash, no-dash, DayIs, one-digit, two-digits, MonthIs, month, YearIs, short-year, full-year, HourIs, four, six, two-two, two-four, four-two, two-two-two, ZoneIs, zone-name, dashed-name, east, west, DateIs, date}
-use Rattle.dates.specs.Executable.Form.{firstKey, firstBytes, after, done, digitsOf, named, Hour, noHour, hour, secondFrom, secondAfter, minuteFrom, minuteAfter, hourFrom, hourOf, Zoned, noZone, zoned, zoneFrom, zoneNamed, signedFrom, zoneOf, ended, zoneAfter, hourAfter, pastDash, yearFrom, yearAfter, monthFrom, monthAfter, dayFrom, dayAfter, readingFrom, readingOf, ReadsRight}
+use Rattle.dates.specs.Executable.Form.{firstKey, firstBytes, after, done, digitsOf, upToSix, moreDigits, pastMore, named, Hour, noHour, hour, secondFrom, secondAfter, minuteFrom, hourFrom, hourOf, Zoned, noZone, zoned, zoneFrom, zoneNamed, signedFrom, zoneOf, ended, zoneAfter, hourAfter, pastDash, yearFrom, yearAfter, monthFrom, monthAfter, dayFrom, dayAfter, readingFrom, readingOf, ReadsRight}
 use Rattle.dates.specs.declared.form.Offset.{Offset}
 use Rattle.dates.specs.declared.form.Offset.the-variants.{Minutes}
 use Rattle.dates.specs.declared.form.Written.{Written}
@@ -25,7 +25,7 @@ use Rattle.dates.specs.declared.form.Reading.the-variants.{Wrong, Right}
 -- ---- what the grammar derives is read
 
 read-zone : {l : List Part} {offset : Offset} → ZoneIs l offset → zoneOf l ≡ zoned offset []
-unfolding zoneOf zoneNamed named digitsOf firstKey firstBytes after
+unfolding zoneOf zoneNamed named upToSix digitsOf firstKey firstBytes after
 read-zone (zone-name n) = rw (n .run, n .called, lt-ltb _ _ (n .known))
 read-zone (dashed-name e n) = rw (e, n .run, n .called, lt-ltb _ _ (n .known))
 read-zone (east e d) = rw (e, d .run, d .many)
@@ -40,7 +40,7 @@ zone-starts (east e d) = rw e
 zone-starts (west e d) = rw e
 
 read-hour : {l r : List Part} {h m s : ℕ} → HourIs l h m s r → eqb (firstKey r) colonByte ≡ false → hourOf l ≡ hour h m s r
-unfolding hourOf minuteAfter secondAfter digitsOf firstKey firstBytes after
+unfolding hourOf secondAfter moreDigits pastMore upToSix digitsOf firstKey firstBytes after
 read-hour (four d) c = rw (d .run, d .many, c)
 read-hour (six d) c = rw (d .run, d .many)
 read-hour (two-two d e f) c = rw (d .run, d .many, e, f .run, f .many, c)
@@ -55,7 +55,7 @@ module _ (name d m : ℕ) where
   read-end h z = rw (read-hour h (zone-starts z), read-zone z)
 
   read-year : {l r : List Part} {y : ℕ} → YearIs l y r → yearAfter name d m l ≡ hourAfter name d m y r
-  unfolding yearAfter digitsOf firstKey firstBytes after
+  unfolding yearAfter upToSix digitsOf firstKey firstBytes after
   read-year (short-year e) = rw (e .run, e .many)
   read-year (full-year e) = rw (e .run, e .many)
 
@@ -79,7 +79,7 @@ unfolding monthAfter named firstKey firstBytes after
 read-month name d (month n) = rw (n .run, n .called, lt-ltb _ _ (n .known))
 
 read-day : (name : ℕ) {l r : List Part} {d : ℕ} → DayIs l d r → dayAfter name l ≡ monthAfter name d (pastDash r)
-unfolding dayAfter digitsOf firstKey firstBytes after
+unfolding dayAfter upToSix digitsOf firstKey firstBytes after
 read-day name (one-digit e) = rw (e .run, e .many)
 read-day name (two-digits e) = rw (e .run, e .many)
 
@@ -120,41 +120,51 @@ abbrev HourOk : List Part → Hour → Type 0
 HourOk l noHour = Unit {0}
 HourOk l (hour h m s r) = HourIs l h m s r
 
+-- the value of so many digits, at most six
+worth : {n : ℕ} {p : Part} → Digits n p → n ≤ 6 → upToSix (p .bytes) ≡ num p
+unfolding upToSix
+worth d h = rw (d .many, le-ltb 6 _ h)
+
+-- digits after a colon, or none
+more-ok : (Q : List ℕ → List Part → Type 0) (l : List Part) → ((c q : Part) (z : List Part) → l ≡ c ∷ q ∷ z → c .key ≡ colonByte → q .key ≡ digit → Q (q .bytes) z)
+    → ((z : List Part) → Q [] z) → Q (moreDigits l) (pastMore l)
+unfolding moreDigits pastMore digitsOf firstKey firstBytes after
+more-ok Q [] f none = none []
+more-ok Q (c ∷ r) f none = go (eqb (c .key) colonByte) refl r f
+  where
+    go : (t : Bool) → eqb (c .key) colonByte ≡ t → (r : List Part)
+        → ((c′ q : Part) (z : List Part) → c ∷ r ≡ c′ ∷ q ∷ z → c′ .key ≡ colonByte → q .key ≡ digit → Q (q .bytes) z) → Q (pick t (digitsOf r) []) (pick t (after r) (c ∷ r))
+    go false e r f = none (c ∷ r)
+    go true e [] f = none []
+    go true e (q ∷ z) f = pick-eq (λ d. Q d z) (q .key) digit (λ g. f c q z refl (eqb-true _ _ e) g) (none z)
+
 second-ok : (l : List Part) (h m : ℕ) (r : List Part) → HourIs l h m 0 r
     → ((c q : Part) (z : List Part) → r ≡ c ∷ q ∷ z → c .key ≡ colonByte → Digits 2 q → HourIs l h m (num q) z) → HourOk l (secondAfter h m r)
-unfolding secondAfter digitsOf firstKey firstBytes after
-second-ok l h m [] x f = x
-second-ok l h m (c ∷ []) x f = pick-eq (HourOk l) (c .key) colonByte (λ e. tt) x
-second-ok l h m (c ∷ q ∷ z) x f =
-    pick-eq (HourOk l) (c .key) colonByte
-    (λ e. pick-eq (λ d. HourOk l (secondFrom h m d z)) (q .key) digit
-    (λ g. pick-eq (HourOk l) (length (q .bytes)) 2 (λ k. f c q z refl e record { run = g; many = k }) tt) tt) x
+unfolding secondAfter
+second-ok l h m r x f =
+    more-ok (λ d z. HourOk l (secondFrom h m d z r)) r
+    (λ c q z w e g. pick-eq (HourOk l) (length (q .bytes)) 2 (λ k. let d : Digits 2 q = record { run = g; many = k } in rw (worth d (omega arith)) (f c q z w e d)) x) (λ z. x)
 
-minute-ok : (p c : Part) (r : List Part) → Digits 2 p → c .key ≡ colonByte → HourOk (p ∷ c ∷ r) (minuteAfter (num p) r)
-unfolding minuteAfter digitsOf firstKey firstBytes after
-minute-ok p c [] d e = tt
-minute-ok p c (q ∷ z) d e =
-    pick-eq (λ b. HourOk (p ∷ c ∷ q ∷ z) (minuteFrom (num p) b z)) (q .key) digit
-    (λ g. pick-eq (HourOk (p ∷ c ∷ q ∷ z)) (length (q .bytes)) 4 (λ k. two-four d e record { run = g; many = k })
+minute-ok : (p : Part) (r : List Part) → Digits 2 p → HourOk (p ∷ r) (minuteFrom (num p) (moreDigits r) (pastMore r))
+minute-ok p r d =
+    more-ok (λ b z. HourOk (p ∷ r) (minuteFrom (num p) b z)) r
+    (λ c q z w e g. rw w
+    (pick-eq (HourOk (p ∷ c ∷ q ∷ z)) (length (q .bytes)) 4 (λ k. let f : Digits 4 q = record { run = g; many = k } in rw (worth f (omega arith)) (two-four d e f))
     (pick-eq (HourOk (p ∷ c ∷ q ∷ z)) (length (q .bytes)) 2
-    (λ k. second-ok (p ∷ c ∷ q ∷ z) (num p) (num q) z (two-two d e record { run = g; many = k })
-    (λ c′ s z′ w e′ d′. subst (λ (x : List Part). HourIs (p ∷ c ∷ q ∷ x) (num p) (num q) (num s) z′) (sym w) (two-two-two d e record { run = g; many = k } e′ d′))) tt)) tt
-
-colon-ok : (p : Part) (r : List Part) → Digits 2 p → HourOk (p ∷ r) (pick (eqb (firstKey r) colonByte) (minuteAfter (num p) (after r)) noHour)
-unfolding firstKey after
-colon-ok p [] d = tt
-colon-ok p (c ∷ z) d = pick-eq (HourOk (p ∷ c ∷ z)) (c .key) colonByte (λ e. minute-ok p c z d e) tt
+    (λ k. let f : Digits 2 q = record { run = g; many = k } in rw (worth f (omega arith))
+    (second-ok (p ∷ c ∷ q ∷ z) (num p) (num q) z (two-two d e f) (λ c′ s z′ w′ e′ d′. rw w′ (two-two-two d e f e′ d′)))) tt))) (λ z. tt)
 
 hour-ok : (l : List Part) → HourOk l (hourOf l)
 unfolding hourOf digitsOf firstKey firstBytes after
 hour-ok [] = tt
 hour-ok (p ∷ r) =
     pick-eq (λ b. HourOk (p ∷ r) (hourFrom b r)) (p .key) digit
-    (λ g. pick-eq (HourOk (p ∷ r)) (length (p .bytes)) 6 (λ k. six record { run = g; many = k })
+    (λ g. pick-eq (HourOk (p ∷ r)) (length (p .bytes)) 6 (λ k. let d : Digits 6 p = record { run = g; many = k } in rw (worth d (omega arith)) (six d))
     (pick-eq (HourOk (p ∷ r)) (length (p .bytes)) 4
-    (λ k. second-ok (p ∷ r) (num p / 100) (num p % 100) r (four record { run = g; many = k })
-    (λ c s z w e d. subst (λ (x : List Part). HourIs (p ∷ x) (num p / 100) (num p % 100) (num s) z) (sym w) (four-two record { run = g; many = k } e d)))
-    (pick-eq (HourOk (p ∷ r)) (length (p .bytes)) 2 (λ k. colon-ok p r record { run = g; many = k }) tt))) tt
+    (λ k. let d : Digits 4 p = record { run = g; many = k } in rw (worth d (omega arith))
+    (second-ok (p ∷ r) (num p / 100) (num p % 100) r (four d) (λ c s z w e f. rw w (four-two d e f))))
+    (pick-eq (HourOk (p ∷ r)) (length (p .bytes)) 2
+    (λ k. let d : Digits 2 p = record { run = g; many = k } in rw (worth d (omega arith)) (minute-ok p r d)) tt))) tt
 
 -- a zone is one if nothing follows it
 abbrev ZoneOk : List Part → Zoned → Type 0
@@ -174,7 +184,8 @@ unfolding digitsOf firstKey firstBytes after
 signed-ok l [] direction z x f = x
 signed-ok l (p ∷ q) direction z x f =
     pick-eq (λ d. ZoneOk l (signedFrom direction d q z)) (p .key) digit
-    (λ e. pick-eq (ZoneOk l) (length (p .bytes)) 4 (λ k w. f p (ap (λ (x : List Part). p ∷ x) w) record { run = e; many = k }) x) x
+    (λ e. pick-eq (ZoneOk l) (length (p .bytes)) 4
+    (λ k. let d : Digits 4 p = record { run = e; many = k } in rw (worth d (omega arith)) (λ w. f p (ap (λ (x : List Part). p ∷ x) w) d)) x) x
 
 zone-ok : (l : List Part) → ZoneOk l (zoneOf l)
 unfolding zoneOf zoneNamed named digitsOf firstKey firstBytes after
@@ -219,8 +230,8 @@ unfolding yearAfter digitsOf firstKey firstBytes after
 year-ok l name d m [] f = tt
 year-ok l name d m (p ∷ r) f =
     pick-eq (λ b. ReadingOk l (yearFrom name d m b r)) (p .key) digit
-    (λ e. pick-eq (ReadingOk l) (length (p .bytes)) 2 (λ k. end-ok l name d m (num p + 1900) r (f (num p + 1900) r (short-year record { run = e; many = k })))
-    (pick-eq (ReadingOk l) (length (p .bytes)) 4 (λ k. end-ok l name d m (num p) r (f (num p) r (full-year record { run = e; many = k }))) tt)) tt
+    (λ e. pick-eq (ReadingOk l) (length (p .bytes)) 2 (λ k. let i : Digits 2 p = record { run = e; many = k } in rw (worth i (omega arith)) (end-ok l name d m (num p + 1900) r (f (num p + 1900) r (short-year i))))
+    (pick-eq (ReadingOk l) (length (p .bytes)) 4 (λ k. let i : Digits 4 p = record { run = e; many = k } in rw (worth i (omega arith)) (end-ok l name d m (num p) r (f (num p) r (full-year i)))) tt)) tt
 
 dash-ok : (l : List Part) → DashIs l (pastDash l)
 unfolding pastDash firstKey after
@@ -242,17 +253,18 @@ unfolding dayAfter digitsOf firstKey firstBytes after
 day-ok l name [] x = tt
 day-ok l name (p ∷ r) x = pick-eq (λ b. ReadingOk l (dayFrom name b r)) (p .key) digit (λ e. go e (leb 1 (length (p .bytes))) refl (leb (length (p .bytes)) 2) refl) tt
   where
-    day-is : p .key ≡ digit → 1 ≤ length (p .bytes) → length (p .bytes) ≤ 2 → DayIs (p ∷ r) (num p) r
+    day-is : p .key ≡ digit → 1 ≤ length (p .bytes) → length (p .bytes) ≤ 2 → DayIs (p ∷ r) (upToSix (p .bytes)) r
     day-is e a b =
-        elim (decLt (length (p .bytes)) 2) [
+        rw (worth {p = p} record { run = e; many = refl } (omega arith))
+        (elim (decLt (length (p .bytes)) 2) [
           | yes h ↦ one-digit {p = p} record { run = e; many = omega arith }
           | no h ↦ two-digits {p = p} record { run = e; many = omega arith }
-        ]
+        ])
 
     go : p .key ≡ digit → (t : Bool) → leb 1 (length (p .bytes)) ≡ t → (u : Bool) → leb (length (p .bytes)) 2 ≡ u
-        → ReadingOk l (pick (both t u) (monthAfter name (num p) (pastDash r)) Wrong)
+        → ReadingOk l (pick (both t u) (monthAfter name (upToSix (p .bytes)) (pastDash r)) Wrong)
     go e true a true b =
-        month-ok l name (num p) (pastDash r)
+        month-ok l name (upToSix (p .bytes)) (pastDash r)
         (λ m z g z′ k y r′ i h mi s offset q j c. date x (day-is e (leb-true _ _ a) (leb-true _ _ b)) (dash-ok r) g k i j c)
     go e true a false b = tt
     go e false a u b = tt

@@ -7,7 +7,7 @@ ghost use Rattle.octets.specs.Believed.Choice.{pick};
 ghost use Rattle.octets.specs.Believed.Text.{part};
 ghost use Rattle.dates.specs.Believed.Names.{ahead, behind};
 ghost use Rattle.dates.specs.Believed.Grammar.{number, offsetOf};
-ghost use Rattle.dates.specs.Executable.Form.{secondAfter, minuteAfter, hourOf, zoneNamed, zoneOf, hourAfter, pastDash, yearAfter, monthAfter, dayAfter, readingOf};
+ghost use Rattle.dates.specs.Executable.Form.{digitsOf, after, moreDigits, pastMore, secondAfter, hourOf, zoneNamed, zoneOf, hourAfter, pastDash, yearAfter, monthAfter, dayAfter, readingOf};
 ghost use Rattle.dates.specs.Ties.Steps.{rows, ascend, Within, left, NumberIs, NamedIs, SpotIs, ClockIs, ZoneFoundIs};
 use crate::names::DAY_ENDS;
 use crate::names::DAYS;
@@ -107,7 +107,7 @@ fn value(text: &[u8], start: usize, stop: usize) -> u64
 // The first part as a number.
 fn read_number(classes: &[u8; 256], text: &[u8], at: usize, end: usize) -> Number
     requires { ⌜ Within (now text) at end ⌝ }
-    ensures { λ r. ⌜ NumberIs (now (classes .entry)) (now (text .entry)) (left (now (classes .entry)) (now (text .entry)) at end) r ⌝ }
+    ensures { λ r. ⌜ NumberIs (now (classes .entry)) (now (text .entry)) (digitsOf (left (now (classes .entry)) (now (text .entry)) at end)) (after (left (now (classes .entry)) (now (text .entry)) at end)) r ⌝ }
 {
     let t = crate::parts::next_part(classes, text, at, end);
     let start = t.start;
@@ -182,7 +182,24 @@ fn past_dash(classes: &[u8; 256], text: &[u8], at: usize, end: usize) -> Spot
     Spot { at, end }
 }
 
-// A colon and the second, or neither.
+// A colon and a run of digits: no digits, if there is no colon.
+fn more_digits(classes: &[u8; 256], text: &[u8], at: usize, end: usize) -> Number
+    requires { ⌜ Within (now text) at end ⌝ }
+    ensures { λ r. ⌜ NumberIs (now (classes .entry)) (now (text .entry)) (moreDigits (left (now (classes .entry)) (now (text .entry)) at end)) (pastMore (left (now (classes .entry)) (now (text .entry)) at end)) r ⌝ }
+{
+    let t = crate::parts::next_part(classes, text, at, end);
+    if t.key != COLON {
+        return Number {
+            count: 0,
+            value: 0,
+            at,
+            end,
+        };
+    }
+    read_number(classes, text, t.stop, t.end)
+}
+
+// The second, a colon and two digits, or none.
 fn second_after(
     classes: &[u8; 256],
     text: &[u8],
@@ -194,31 +211,11 @@ fn second_after(
     requires { ⌜ Within (now text) at end ⌝ }
     ensures { λ r. ⌜ ClockIs (now (classes .entry)) (now (text .entry)) (secondAfter hour minute (left (now (classes .entry)) (now (text .entry)) at end)) r ⌝ }
 {
-    let t = crate::parts::next_part(classes, text, at, end);
-    if t.key != COLON {
-        return Clock::Time(hour, minute, 0, at, end);
-    }
-    let n = read_number(classes, text, t.stop, t.end);
-    if n.count != 2 {
-        return Clock::NoClock;
-    }
-    Clock::Time(hour, minute, n.value, n.at, n.end)
-}
-
-// The minute behind an hour and a colon, and perhaps the second.
-fn minute_after(classes: &[u8; 256], text: &[u8], at: usize, end: usize, hour: u64) -> Clock
-    requires { ⌜ Within (now text) at end ⌝ }
-    ensures { λ r. ⌜ ClockIs (now (classes .entry)) (now (text .entry)) (minuteAfter hour (left (now (classes .entry)) (now (text .entry)) at end)) r ⌝ }
-{
-    let n = read_number(classes, text, at, end);
-    let v = n.value;
-    if n.count == 4 {
-        return Clock::Time(hour, v / 100, v % 100, n.at, n.end);
-    }
+    let n = more_digits(classes, text, at, end);
     if n.count == 2 {
-        return second_after(classes, text, n.at, n.end, hour, v);
+        return Clock::Time(hour, minute, n.value, n.at, n.end);
     }
-    Clock::NoClock
+    Clock::Time(hour, minute, 0, at, end)
 }
 
 // The hour in its six forms.
@@ -237,11 +234,15 @@ fn read_hour(classes: &[u8; 256], text: &[u8], at: usize, end: usize) -> Clock
     if n.count != 2 {
         return Clock::NoClock;
     }
-    let t = crate::parts::next_part(classes, text, n.at, n.end);
-    if t.key != COLON {
-        return Clock::NoClock;
+    let m = more_digits(classes, text, n.at, n.end);
+    let w = m.value;
+    if m.count == 4 {
+        return Clock::Time(v, w / 100, w % 100, m.at, m.end);
     }
-    minute_after(classes, text, t.stop, t.end, v)
+    if m.count == 2 {
+        return second_after(classes, text, m.at, m.end, v, w);
+    }
+    Clock::NoClock
 }
 
 // The offset of four digits behind a sign.
@@ -300,7 +301,7 @@ fn read_zone(classes: &[u8; 256], text: &[u8], at: usize, end: usize) -> Zone
     Zone::Found(offset_of(true, n.value), n.at, n.end)
 }
 
-// The hour, the zone and the end, behind the year.
+// The hour, the zone and the end, after the year.
 fn hour_after(
     classes: &[u8; 256],
     text: &[u8],

@@ -42,6 +42,18 @@ done (p ∷ rest) = false
 unfoldable pub digitsOf : List Part → List ℕ
 digitsOf l = pick (eqb (firstKey l) digit) (firstBytes l) []
 
+-- their value, if they are at most six
+unfoldable pub upToSix : List ℕ → ℕ
+upToSix d = pick (ltb 6 (length d)) 0 (number d)
+
+-- the digits after a colon; none, if the first part is no colon
+unfoldable pub moreDigits : List Part → List ℕ
+moreDigits l = pick (eqb (firstKey l) colonByte) (digitsOf (after l)) []
+
+-- the parts after them
+unfoldable pub pastMore : List Part → List Part
+pastMore l = pick (eqb (firstKey l) colonByte) (after (after l)) l
+
 -- its place among names; past the last, if it is none of them
 unfoldable pub named : List (List ℕ) → List Part → ℕ
 named names l = pick (eqb (firstKey l) letter) (place names (firstBytes l)) (length names)
@@ -52,28 +64,25 @@ pub data Hour : Type 0 where
   noHour : Hour
   hour : ℕ → ℕ → ℕ → List Part → Hour
 
--- two digits of the second
-abbrev pub secondFrom : ℕ → ℕ → List ℕ → List Part → Hour
-secondFrom h m d rest = pick (eqb (length d) 2) (hour h m (number d) rest) noHour
+-- the second, a colon and two digits, or none
+abbrev pub secondFrom : ℕ → ℕ → List ℕ → List Part → List Part → Hour
+secondFrom h m d rest l = pick (eqb (length d) 2) (hour h m (upToSix d) rest) (hour h m 0 l)
 
--- a colon and the second; or neither
 unfoldable pub secondAfter : ℕ → ℕ → List Part → Hour
-secondAfter h m l = pick (eqb (firstKey l) colonByte) (secondFrom h m (digitsOf (after l)) (after (after l))) (hour h m 0 l)
+secondAfter h m l = secondFrom h m (moreDigits l) (pastMore l) l
 
--- four digits; or two, and perhaps the second
+-- after two digits: a colon and four; or a colon, two and perhaps the second
 abbrev pub minuteFrom : ℕ → List ℕ → List Part → Hour
 minuteFrom h d rest =
-    pick (eqb (length d) 4) (hour h (number d / 100) (number d % 100) rest)
-    (pick (eqb (length d) 2) (secondAfter h (number d) rest) noHour)
+    pick (eqb (length d) 4) (hour h (upToSix d / 100) (upToSix d % 100) rest)
+    (pick (eqb (length d) 2) (secondAfter h (upToSix d) rest) noHour)
 
-unfoldable pub minuteAfter : ℕ → List Part → Hour
-minuteAfter h l = minuteFrom h (digitsOf l) (after l)
-
+-- six digits; four and perhaps the second; or two and what comes after them
 abbrev pub hourFrom : List ℕ → List Part → Hour
 hourFrom d rest =
-    pick (eqb (length d) 6) (hour (number d / 10000) (number d / 100 % 100) (number d % 100) rest)
-    (pick (eqb (length d) 4) (secondAfter (number d / 100) (number d % 100) rest)
-    (pick (eqb (length d) 2) (pick (eqb (firstKey rest) colonByte) (minuteAfter (number d) (after rest)) noHour) noHour))
+    pick (eqb (length d) 6) (hour (upToSix d / 10000) (upToSix d / 100 % 100) (upToSix d % 100) rest)
+    (pick (eqb (length d) 4) (secondAfter (upToSix d / 100) (upToSix d % 100) rest)
+    (pick (eqb (length d) 2) (minuteFrom (upToSix d) (moreDigits rest) (pastMore rest)) noHour))
 
 unfoldable pub hourOf : List Part → Hour
 hourOf l = hourFrom (digitsOf l) (after l)
@@ -93,7 +102,7 @@ zoneNamed l = zoneFrom (named zoneNames l) (after l)
 
 -- four digits behind a sign
 abbrev pub signedFrom : (ℕ → ℕ → ℤ) → List ℕ → List Part → Zoned → Zoned
-signedFrom direction d rest otherwise = pick (eqb (length d) 4) (zoned (offsetOf direction (number d)) rest) otherwise
+signedFrom direction d rest otherwise = pick (eqb (length d) 4) (zoned (offsetOf direction (upToSix d)) rest) otherwise
 
 unfoldable pub zoneOf : List Part → Zoned
 zoneOf l =
@@ -121,8 +130,8 @@ pastDash l = pick (eqb (firstKey l) minusByte) (after l) l
 
 abbrev pub yearFrom : ℕ → ℕ → ℕ → List ℕ → List Part → Reading
 yearFrom name day month d rest =
-    pick (eqb (length d) 2) (hourAfter name day month (number d + 1900) rest)
-    (pick (eqb (length d) 4) (hourAfter name day month (number d) rest) Wrong)
+    pick (eqb (length d) 2) (hourAfter name day month (upToSix d + 1900) rest)
+    (pick (eqb (length d) 4) (hourAfter name day month (upToSix d) rest) Wrong)
 
 unfoldable pub yearAfter : ℕ → ℕ → ℕ → List Part → Reading
 yearAfter name day month l = yearFrom name day month (digitsOf l) (after l)
@@ -134,7 +143,7 @@ unfoldable pub monthAfter : ℕ → ℕ → List Part → Reading
 monthAfter name day l = monthFrom name day (named monthNames l) (after l)
 
 abbrev pub dayFrom : ℕ → List ℕ → List Part → Reading
-dayFrom name d rest = pick (both (leb 1 (length d)) (leb (length d) 2)) (monthAfter name (number d) (pastDash rest)) Wrong
+dayFrom name d rest = pick (both (leb 1 (length d)) (leb (length d) 2)) (monthAfter name (upToSix d) (pastDash rest)) Wrong
 
 unfoldable pub dayAfter : ℕ → List Part → Reading
 dayAfter name l = dayFrom name (digitsOf l) (after l)

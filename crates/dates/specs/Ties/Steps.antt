@@ -9,8 +9,7 @@ use Rattle.octets.specs.Believed.Choice.{pick, both}
 use Rattle.octets.specs.Believed.Text.{part}
 use Rattle.scanner.specs.Believed.Scanning.{scanBy}
 use Rattle.dates.specs.Believed.Parts.{Part, noPart, keyOf, runs, parts}
-use Rattle.dates.specs.Believed.Grammar.{number}
-use Rattle.dates.specs.Executable.Form.{firstKey, firstBytes, after, digitsOf, named, Hour, noHour, hour, Zoned, noZone, zoned}
+use Rattle.dates.specs.Executable.Form.{firstKey, firstBytes, after, upToSix, named, Hour, noHour, hour, Zoned, noZone, zoned}
 use Rattle.dates.specs.declared.parts.Token.{Token}
 use Rattle.dates.specs.declared.form.Number.{Number}
 use Rattle.dates.specs.declared.form.Named.{Named}
@@ -58,11 +57,12 @@ pub record TokenIs (classes text : List ℕ) (l : List Part) (t : Token) : Type 
   pub order : t .start ≤ t .stop
   pub place : Within text (t .stop) (t .end)
 
-pub record NumberIs (classes text : List ℕ) (l : List Part) (n : Number) : Type 0 where
-  pub count-is : length (digitsOf l) ≡ n .count
-  pub value-is : n .count ≤ 6 → number (digitsOf l) ≡ n .value
+-- a run of digits, and the parts after it
+pub record NumberIs (classes text digits : List ℕ) (rest : List Part) (n : Number) : Type 0 where
+  pub count-is : length digits ≡ n .count
+  pub value-is : upToSix digits ≡ n .value
   pub small : n .value < 1000000000000000000
-  pub rest-is : after l ≡ left classes text (n .at) (n .end)
+  pub rest-is : rest ≡ left classes text (n .at) (n .end)
   pub place : Within text (n .at) (n .end)
 
 pub record NamedIs (classes text : List ℕ) (names : List (List ℕ)) (l : List Part) (n : Named) : Type 0 where

@@ -1,6 +1,5 @@
 -- `dates::form::day_after` meets its contract. Assumes nothing.
 use borrow.Author.Needs.{needs}
-use native.Mathlib.Omega.{arith}
 use borrow.Author.Tests.{le-leb, lt-leb}
 use Rattle.dates.specs.Executable.Form.{dayAfter}
 use Rattle.dates.proofs.form.day_after.Statement.{statement}
@@ -36,7 +35,7 @@ returns-3 c =
     let if2 = c .before .before .if2 in
     let past-dash = c .before .past-dash in
     let n = read-number .ensures in
-    rw (n .count-is, le-leb 1 (read-number .result .count) (if1 .left), le-leb (read-number .result .count) 2 (if2 .left), n .value-is (omega (arith, if2 .left)), n .rest-is, past-dash .ensures .is) (c .month-after .ensures)
+    rw (n .count-is, le-leb 1 (read-number .result .count) (if1 .left), le-leb (read-number .result .count) 2 (if2 .left), n .value-is, n .rest-is, past-dash .ensures .is) (c .month-after .ensures)
 
 pub day-after-spec : {M : Type 1} → statement M
 day-after-spec =

@@ -1,6 +1,5 @@
 -- `dates::form::read_hour` meets its contract. Assumes nothing.
 use borrow.Author.Needs.{needs}
-use native.Mathlib.Omega.{arith}
 use borrow.Author.Tests.{eq-eqb, ne-eqb}
 use Rattle.dates.specs.Executable.Form.{hourOf}
 use Rattle.dates.proofs.form.read_hour.Statement.{statement}
@@ -12,9 +11,8 @@ read-number-requires c κs = search needs
 returns : tie.Need-returns
 unfolding hourOf
 returns c =
-    let read-number = c .before .before .read-number in
-    let n = read-number .ensures in
-    record { is = rw (n .count-is, eq-eqb _ _ (c .if1 .taken), n .value-is (omega (arith, c .if1 .taken)), n .rest-is); place = n .place }
+    let n = c .before .before .read-number .ensures in
+    record { is = rw (n .count-is, eq-eqb _ _ (c .if1 .taken), n .value-is, n .rest-is); place = n .place }
 
 second-after-requires : tie.Need-second-after-requires
 second-after-requires c κs = c .before .before .before .before .read-number .ensures .place
@@ -22,50 +20,45 @@ second-after-requires c κs = c .before .before .before .before .read-number .en
 returns-2 : tie.Need-returns-2
 unfolding hourOf
 returns-2 c =
-    let read-number = c .before .before .before .before .before .read-number in
-    let if1 = c .before .before .before .if1 in
-    let if2 = c .before .if2 in
-    let n = read-number .ensures in
-    rw (n .count-is, ne-eqb _ _ (if1 .left), eq-eqb _ _ (if2 .taken), n .value-is (omega (arith, if2 .taken)), n .rest-is) (c .second-after .ensures)
+    let n = c .before .before .before .before .before .read-number .ensures in
+    rw (n .count-is, c .before .if2 .taken, n .value-is, n .rest-is) (c .second-after .ensures)
 
 returns-3 : tie.Need-returns-3
 unfolding hourOf
 returns-3 c =
-    let read-number = c .before .before .before .before .before .before .read-number in
-    let if1 = c .before .before .before .before .if1 in
-    let if2 = c .before .before .if2 in
-    let n = read-number .ensures in
-    rw (n .count-is, ne-eqb _ _ (if1 .left), ne-eqb _ _ (if2 .left), ne-eqb _ _ (c .if3 .taken))
+    let n = c .before .before .before .before .before .before .read-number .ensures in
+    rw (n .count-is, ne-eqb _ _ (c .before .before .before .before .if1 .left), ne-eqb _ _ (c .before .before .if2 .left), ne-eqb _ _ (c .if3 .taken))
 
-next-part-requires : tie.Need-next-part-requires
-next-part-requires c κs = c .before .before .before .before .before .before .read-number .ensures .place
+more-digits-requires : tie.Need-more-digits-requires
+more-digits-requires c κs = c .before .before .before .before .before .before .read-number .ensures .place
 
 returns-4 : tie.Need-returns-4
 unfolding hourOf
 returns-4 c =
-    let read-number = c .before .before .before .before .before .before .before .before .before .read-number in
-    let if1 = c .before .before .before .before .before .before .before .if1 in
-    let if2 = c .before .before .before .before .before .if2 in
-    let if3 = c .before .before .before .if3 in
-    let next-part = c .before .before .next-part in
-    let n = read-number .ensures in
-    rw (n .count-is, ne-eqb _ _ (if1 .left), ne-eqb _ _ (if2 .left), eq-eqb _ _ (if3 .left), n .rest-is, next-part .ensures .key-is, ne-eqb _ _ (c .if4 .taken))
+    let n = c .before .before .before .before .before .before .before .before .before .read-number .ensures in
+    let m = c .before .before .more-digits .ensures in
+    record {
+      is = rw (n .count-is, c .before .before .before .if3 .left, n .value-is, n .rest-is, m .count-is, c .if4 .taken, m .value-is, m .rest-is);
+      place = m .place;
+    }
 
-minute-after-requires : tie.Need-minute-after-requires
-minute-after-requires c κs = c .before .before .next-part .ensures .place
+second-after-requires-2 : tie.Need-second-after-requires-2
+second-after-requires-2 c κs = c .before .before .before .before .more-digits .ensures .place
 
 returns-5 : tie.Need-returns-5
 unfolding hourOf
 returns-5 c =
-    let read-number = c .before .before .before .before .before .before .before .before .before .before .read-number in
-    let if1 = c .before .before .before .before .before .before .before .before .if1 in
-    let if2 = c .before .before .before .before .before .before .if2 in
-    let if3 = c .before .before .before .before .if3 in
-    let next-part = c .before .before .before .next-part in
-    let if4 = c .before .if4 in
-    let n = read-number .ensures in
-    let x = next-part .ensures in
-    rw (n .count-is, ne-eqb _ _ (if1 .left), ne-eqb _ _ (if2 .left), eq-eqb _ _ (if3 .left), n .value-is (omega (arith, if3 .left)), n .rest-is, x .key-is, eq-eqb _ _ (if4 .left), x .rest-is) (c .minute-after .ensures)
+    let n = c .before .before .before .before .before .before .before .before .before .before .before .before .read-number .ensures in
+    let m = c .before .before .before .before .before .more-digits .ensures in
+    rw (n .count-is, c .before .before .before .before .before .before .if3 .left, n .value-is, n .rest-is, m .count-is, c .before .if5 .taken, m .value-is, m .rest-is)
+    (c .second-after2 .ensures)
+
+returns-6 : tie.Need-returns-6
+unfolding hourOf
+returns-6 c =
+    let n = c .before .before .before .before .before .before .before .before .before .before .before .read-number .ensures in
+    let m = c .before .before .before .before .more-digits .ensures in
+    rw (n .count-is, c .before .before .before .before .before .if3 .left, n .rest-is, m .count-is, ne-eqb _ _ (c .before .before .if4 .left), ne-eqb _ _ (c .if5 .left))
 
 pub read-hour-spec : {M : Type 1} → statement M
 read-hour-spec =
@@ -76,7 +69,8 @@ read-hour-spec =
     second-after-requires
     returns-2
     returns-3
-    next-part-requires
+    more-digits-requires
     returns-4
-    minute-after-requires
-    returns-5)
+    second-after-requires-2
+    returns-5
+    returns-6)

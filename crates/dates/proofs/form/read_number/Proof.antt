@@ -1,7 +1,8 @@
 -- `dates::form::read_number` meets its contract. Assumes nothing.
 use borrow.Author.Needs.{needs}
 use native.Mathlib.Omega.{arith}
-use Rattle.dates.proofs.FormLaws.{no-number, long-number, a-number}
+use borrow.Author.Tests.{lt-ltb, le-ltb}
+use Rattle.dates.proofs.FormLaws.{no-number, a-number}
 use Rattle.dates.proofs.form.read_number.Statement.{statement}
 use Rattle.dates.proofs.form.read_number.Tie as tie
 
@@ -18,7 +19,7 @@ sub-t11 : tie.Need-sub-t11
 sub-t11 c = c .before .before .before .next-part .ensures .order
 
 returns-2 : tie.Need-returns-2
-returns-2 c = long-number (c .before .before .before .next-part .ensures) (c .before .if1 .left) (omega arith)
+returns-2 c = a-number (c .before .before .before .next-part .ensures) (c .before .if1 .left) 0 (rw (lt-ltb 6 _ (c .if2 .taken))) (omega arith)
 
 value-requires : tie.Need-value-requires
 value-requires c κs =
@@ -31,9 +32,8 @@ sub-t10 c = c .before .before .before .before .next-part .ensures .order
 
 returns-3 : tie.Need-returns-3
 returns-3 c =
-    let next-part = c .before .before .before .before .next-part in
-    let if1 = c .before .before .if1 in
-    a-number (next-part .ensures) (if1 .left) (c .value .result) (c .value .ensures .0) (c .value .ensures .1)
+    let x = c .before .before .before .before .next-part .ensures in
+    a-number x (c .before .before .if1 .left) (c .value .result) (rw (le-ltb 6 _ (c .before .if2 .left)) (c .value .ensures .0)) (c .value .ensures .1)
 
 pub read-number-spec : {M : Type 1} → statement M
 read-number-spec =

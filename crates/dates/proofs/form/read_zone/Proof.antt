@@ -1,6 +1,5 @@
 -- `dates::form::read_zone` meets its contract. Assumes nothing.
 use borrow.Author.Needs.{needs}
-use native.Mathlib.Omega.{arith}
 use borrow.Author.Tests.{eq-eqb, ne-eqb}
 use Rattle.dates.specs.Executable.Form.{zoneOf}
 use Rattle.dates.proofs.form.read_zone.Statement.{statement}
@@ -34,7 +33,7 @@ returns-2 c =
     let if2 = c .before .if2 in
     let x = next-part .ensures in
     let n = read-number .ensures in
-    record { is = rw (x .key-is, eq-eqb _ _ (if1 .taken), x .rest-is, n .count-is, eq-eqb _ _ (if2 .left), n .value-is (omega (arith, if2 .left)), n .rest-is, c .offset-of .ensures); place = n .place }
+    record { is = rw (x .key-is, eq-eqb _ _ (if1 .taken), x .rest-is, n .count-is, eq-eqb _ _ (if2 .left), n .value-is, n .rest-is, c .offset-of .ensures); place = n .place }
 
 zone-named-requires : tie.Need-zone-named-requires
 zone-named-requires c κs = c .before .before .before .before .before .before .pre
@@ -79,7 +78,7 @@ returns-5 c =
     let if4 = c .before .if4 in
     let x = next-part .ensures in
     let n = read-number2 .ensures in
-    record { is = rw (x .key-is, ne-eqb _ _ (if1 .left), eq-eqb _ _ (if3 .left), x .rest-is, n .count-is, eq-eqb _ _ (if4 .left), n .value-is (omega (arith, if4 .left)), n .rest-is, c .offset-of2 .ensures); place = n .place }
+    record { is = rw (x .key-is, ne-eqb _ _ (if1 .left), eq-eqb _ _ (if3 .left), x .rest-is, n .count-is, eq-eqb _ _ (if4 .left), n .value-is, n .rest-is, c .offset-of2 .ensures); place = n .place }
 
 pub read-zone-spec : {M : Type 1} → statement M
 read-zone-spec =

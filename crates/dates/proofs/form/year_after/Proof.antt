@@ -1,10 +1,7 @@
 -- `dates::form::year_after` meets its contract. Assumes nothing.
 use borrow.Author.Needs.{needs}
-use mathlib.Core.Path.{_∙_}
-use native.Mathlib.Omega.{arith}
 use borrow.Author.Tests.{ne-eqb}
 use Rattle.dates.specs.Executable.Form.{yearAfter}
-use Rattle.dates.proofs.FormLaws.{two-digits, four-digits}
 use Rattle.dates.proofs.form.year_after.Statement.{statement}
 use Rattle.dates.proofs.form.year_after.Tie as tie
 
@@ -18,30 +15,25 @@ hour-after-requires : tie.Need-hour-after-requires
 hour-after-requires c κs = c .before .before .before .read-number .ensures .place
 
 returns : tie.Need-returns
+unfolding yearAfter
 returns c =
-    let a = c .before .before .before .before .before .before .args in
-    let read-number = c .before .before .before .before .read-number in
-    let if1 = c .before .before .if1 in
-    let n = read-number .ensures in
-    c .hour-after .ensures ∙ two-digits (a .name) (a .day) (a .month) _ _ (read-number .result .value) (n .value-is (omega (arith, if1 .taken))) (n .rest-is) (n .count-is ∙ if1 .taken)
+    let n = c .before .before .before .before .read-number .ensures in
+    rw (n .count-is, c .before .before .if1 .taken, n .value-is, n .rest-is) (c .hour-after .ensures)
 
 hour-after-requires-2 : tie.Need-hour-after-requires-2
 hour-after-requires-2 c κs = c .before .before .before .before .read-number .ensures .place
 
 returns-2 : tie.Need-returns-2
+unfolding yearAfter
 returns-2 c =
-    let a = c .before .before .before .before .before .before .before .args in
-    let read-number = c .before .before .before .before .before .read-number in
-    let if2 = c .before .if2 in
-    let n = read-number .ensures in
-    c .hour-after2 .ensures ∙ four-digits (a .name) (a .day) (a .month) _ _ (read-number .result .value) (n .value-is (omega (arith, if2 .taken))) (n .rest-is) (n .count-is ∙ if2 .taken)
+    let n = c .before .before .before .before .before .read-number .ensures in
+    rw (n .count-is, c .before .if2 .taken, n .value-is, n .rest-is) (c .hour-after2 .ensures)
 
 returns-3 : tie.Need-returns-3
 unfolding yearAfter
 returns-3 c =
-    let read-number = c .before .before .before .before .read-number in
-    let if1 = c .before .before .if1 in
-    rw (read-number .ensures .count-is, ne-eqb _ _ (if1 .left), ne-eqb _ _ (c .if2 .left))
+    let n = c .before .before .before .before .read-number .ensures in
+    rw (n .count-is, ne-eqb _ _ (c .before .before .if1 .left), ne-eqb _ _ (c .if2 .left))
 
 pub year-after-spec : {M : Type 1} → statement M
 year-after-spec =
