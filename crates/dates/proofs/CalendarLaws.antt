@@ -6,20 +6,12 @@ use Prim.Native.Nat.{ℕ, zero, suc, _+_, _-_, _*_, _/_, _%_, _≤_, _<_}
 use native.Mathlib.Omega.{arith}
 use lib.Dec.{eqb, eqb→eq, leb, leb→le}
 use lib.ListN.{getD, take, List·getD-eq-default}
-use borrow.Author.Tests.{eqb-true, eqb-false, eq-eqb, ne-eqb}
+use borrow.Author.Tests.{eqb-true, eqb-false}
 use Rattle.octets.specs.Believed.Choice.{pick}
 use Rattle.octets.proofs.Tables.{at}
 use Rattle.dates.specs.Believed.Calendar.{leap, monthLengths, sum, monthLength, daysBeforeMonth, daysOfYears}
 
 -- ---- leap years
-
-pub leap-hundred : (year : ℕ) → year % 100 ≡ 0 → eqb (year % 400) 0 ≡ leap year
-unfolding leap
-leap-hundred year h = rw (eq-eqb (year % 100) 0 h)
-
-pub leap-other : (year : ℕ) → (year % 100 ≡ 0 → ⊥) → eqb (year % 4) 0 ≡ leap year
-unfolding leap
-leap-other year h = rw (ne-eqb (year % 100) 0 h)
 
 -- the leap years up to a year
 abbrev leaps : ℕ → ℕ

@@ -1,12 +1,12 @@
 -- The first part as a number or a name, and the zone, as the code reads them. Assumes nothing.
-use mathlib.Core.Path.{_≡_, refl, sym, ap, _∙_}
+use mathlib.Core.Path.{_≡_, refl, sym, ap}
 use mathlib.Core.Bool.{Bool, true, false}
 use mathlib.Core.List.{List, [], _∷_}
-use Prim.Native.Nat.{ℕ, _+_, _-_, _*_, _/_, _%_, _^_, _≤_, _<_}
+use Prim.Native.Nat.{ℕ, _+_, _-_, _*_, _^_, _≤_, _<_}
 use native.Mathlib.Nat.{pow-suc, pow-le-pow-right}
 use native.Mathlib.Numerals.{add-one}
 use native.Mathlib.Omega.{arith}
-use borrow.Author.Tests.{eq-eqb, ne-eqb, le-leb, lt-leb, lt-ltb, le-ltb}
+use borrow.Author.Tests.{eq-eqb, ne-eqb}
 use lib.Dec.{ltb}
 use lib.IntN.{ℤ, pos}
 use lib.ListN.{length, getD}
@@ -16,17 +16,15 @@ use mir.Val.{SFits}
 use mir.Facts.{sfits-lit}
 use Rattle.octets.specs.Believed.Choice.{pick}
 use Rattle.octets.specs.Believed.Classes.{letter, digit}
-use Rattle.octets.specs.Believed.Octets.{minusByte}
 use Rattle.octets.specs.Believed.Text.{part}
 use Rattle.octets.proofs.Tables.{at}
 use Rattle.octets.proofs.Parts.{part-cons, part-none, part-length}
-use Rattle.dates.specs.Believed.Names.{place, zoneNames, zoneMinutes}
+use Rattle.dates.specs.Believed.Names.{place, zoneMinutes}
 use Rattle.dates.specs.Believed.Parts.{Part}
-use Rattle.dates.specs.Believed.Grammar.{numberFrom, number, offsetOf}
-use Rattle.dates.specs.Executable.Form.{firstKey, after, done, digitsOf, upToSix, named, noZone, zoned, zoneNamed, pastDash}
-use Rattle.dates.specs.Ties.Steps.{TokenIs, NumberIs, NamedIs, SpotIs}
+use Rattle.dates.specs.Believed.Grammar.{numberFrom, number}
+use Rattle.dates.specs.Executable.Form.{firstKey, after, done, digitsOf, upToSix, named}
+use Rattle.dates.specs.Ties.Steps.{TokenIs, NumberIs, NamedIs}
 use Rattle.dates.specs.declared.parts.Token.{Token}
-use Rattle.dates.specs.declared.form.Offset.the-variants.{Minutes, OutOfRange}
 
 -- ---- the value of digits
 
@@ -70,14 +68,6 @@ module _ {classes text : List ℕ} {l : List Part} {t : Token} (x : TokenIs clas
     unfolding named
     a-name k n e = record { place-is = rw (x .key-is, eq-eqb (t .key) letter k, x .bytes-are) (sym e); rest-is = x .rest-is; place = x .place }
 
-  pub dash : t .key ≡ minusByte → SpotIs classes text (pastDash l) (record { at = t .stop; end = t .end })
-  unfolding pastDash
-  dash e = record { is = rw (x .key-is, eq-eqb (t .key) minusByte e) (x .rest-is); place = x .place }
-
-  pub no-dash : (t .key ≡ minusByte → ⊥) → pastDash l ≡ l
-  unfolding pastDash
-  no-dash n = rw (x .key-is, ne-eqb (t .key) minusByte n)
-
 pub all-done : {l : List Part} → l ≡ [] → done l ≡ true
 unfolding done
 all-done e = rw e
@@ -89,19 +79,6 @@ not-done {l = p ∷ l} x n = refl
 
 -- ---- the zone
 
-module _ (direction : ℕ → ℕ → ℤ) (n : ℕ) where
-  pub hours-out : 23 < n / 100 → OutOfRange ≡ offsetOf direction n
-  unfolding offsetOf
-  hours-out h = rw (lt-leb (n / 100) 23 h)
-
-  pub minutes-out : n / 100 ≤ 23 → 59 < n % 100 → OutOfRange ≡ offsetOf direction n
-  unfolding offsetOf
-  minutes-out h k = rw (le-leb (n / 100) 23 h, lt-leb (n % 100) 59 k)
-
-  pub in-range : n / 100 ≤ 23 → n % 100 ≤ 59 → Minutes (direction (n / 100) (n % 100)) ≡ offsetOf direction n
-  unfolding offsetOf
-  in-range h k = rw (le-leb (n / 100) 23 h, le-leb (n % 100) 59 k)
-
 -- each offset of the table fits
 small : ℕ → ℤ → Bool
 small i z = ltb (mag z) (2 ^ 15)
@@ -109,12 +86,3 @@ small i z = ltb (mag z) (2 ^ 15)
 pub minutes-fit : (i : ℕ) → i < 43 → SFits w16 (getD zoneMinutes i (pos 0))
 unfolding small
 minutes-fit i h = sfits-lit (at small zoneMinutes (pos 0) tt i h)
-
-module _ (l : List Part) (p : ℕ) (e : named zoneNames l ≡ p) where
-  pub no-zone : 43 ≤ p → zoneNamed l ≡ noZone
-  unfolding zoneNamed
-  no-zone h = rw (e, le-ltb p 43 h)
-
-  pub a-zone : p < 43 → (z : ℤ) (r : List Part) → z ≡ getD zoneMinutes p (pos 0) → after l ≡ r → zoneNamed l ≡ zoned (Minutes z) r
-  unfolding zoneNamed
-  a-zone h z r m f = rw (e, lt-ltb p 43 h, m, f)

@@ -7,30 +7,13 @@ use native.Mathlib.Nat.{add-zero}
 use native.Mathlib.Omega.{arith}
 use borrow.Author.Tests.{leb-true}
 use lib.Dec.{leb}
-use lib.ListN.{length, drop, getD, take, drop-of-length-le}
-use lib.Seq.{take-all}
+use lib.ListN.{length, drop, getD, drop-of-length-le}
 use Rattle.octets.specs.Believed.Choice.{pick}
-use Rattle.octets.specs.Believed.Letters.{sameLetters}
 use Rattle.octets.specs.Believed.Text.{part}
 use Rattle.octets.proofs.ChoiceLaws.{both-parts}
 use Rattle.octets.proofs.Parts.{from-here}
 use Rattle.dates.specs.Believed.Names.{called, place}
 use Rattle.dates.specs.Ties.Steps.{rows, ascend}
-
--- ---- full, or the first three letters
-
-module _ (full name : List ℕ) where
-  pub full-name : sameLetters name full ≡ true → true ≡ called full name
-  unfolding called
-  full-name e = rw e
-
-  pub short-full : sameLetters name full ≡ false → length full < 3 → false ≡ called full name
-  unfolding called
-  short-full e h = rw (e, take-all 3 full (omega arith), e)
-
-  pub three-letters : sameLetters name full ≡ false → sameLetters name (take 3 full) ≡ called full name
-  unfolding called
-  three-letters e = rw e
 
 -- ---- the rows of a table
 

@@ -10,8 +10,6 @@ use borrow.Author.Tests.{eq-eqb, ne-eqb, eqb-true}
 use denote.Enum.Declared.{tagOf}
 use types.Run.{OneOf, miss}
 use Rattle.octets.specs.Believed.Choice.{pick, both}
-use Rattle.octets.specs.Believed.Classes.{letter, digit}
-use Rattle.octets.specs.Believed.Octets.{plusByte, commaByte, minusByte, colonByte}
 use Rattle.octets.specs.Believed.Text.{part}
 use Rattle.octets.proofs.ChoiceLaws.{both-false}
 use Rattle.octets.proofs.Parts.{part-cons, part-none, part-drop, part-take}
@@ -26,44 +24,6 @@ use Rattle.dates.specs.Executable.Form.{firstKey, firstBytes, after}
 use Rattle.dates.specs.Ties.Steps.{left, span, RunEnds, TokenIs}
 
 -- ---- keys
-
-module _ (b : ℕ) where
-  pub is-comma : b ≡ commaByte → true ≡ isMark b
-  unfolding isMark
-  is-comma e = rw (eq-eqb b commaByte e)
-
-  pub is-colon : (b ≡ commaByte → ⊥) → b ≡ colonByte → true ≡ isMark b
-  unfolding isMark
-  is-colon m e = rw (ne-eqb b commaByte m, eq-eqb b colonByte e)
-
-  pub is-plus : (b ≡ commaByte → ⊥) → (b ≡ colonByte → ⊥) → b ≡ plusByte → true ≡ isMark b
-  unfolding isMark
-  is-plus m n e = rw (ne-eqb b commaByte m, ne-eqb b colonByte n, eq-eqb b plusByte e)
-
-  pub is-minus : (b ≡ commaByte → ⊥) → (b ≡ colonByte → ⊥) → (b ≡ plusByte → ⊥) → eqb b minusByte ≡ isMark b
-  unfolding isMark
-  is-minus m n o = rw (ne-eqb b commaByte m, ne-eqb b colonByte n, ne-eqb b plusByte o)
-
-pub run-of-digits : (key : ℕ) → key ≡ digit → true ≡ isRun key
-unfolding isRun
-run-of-digits key e = rw (eq-eqb key digit e)
-
-pub run-of-letters : (key : ℕ) → (key ≡ digit → ⊥) → eqb key letter ≡ isRun key
-unfolding isRun
-run-of-letters key n = rw (ne-eqb key digit n)
-
-module _ (classes : List ℕ) (b : ℕ) where
-  pub key-run : isRun (getD classes b 0) ≡ true → getD classes b 0 ≡ keyOf classes b
-  unfolding keyOf
-  key-run e = rw e
-
-  pub key-mark : isRun (getD classes b 0) ≡ false → isMark b ≡ true → b ≡ keyOf classes b
-  unfolding keyOf
-  key-mark e m = rw (e, m)
-
-  pub key-other : isRun (getD classes b 0) ≡ false → isMark b ≡ false → otherPart ≡ keyOf classes b
-  unfolding keyOf
-  key-other e m = rw (e, m)
 
 -- a byte has a part
 pub some-part : (classes : List ℕ) (b : ℕ) → keyOf classes b ≡ noPart → ⊥
@@ -166,35 +126,25 @@ pub left-here : (classes text : List ℕ) (at end : ℕ) → end ≤ at → left
 unfolding left runs
 left-here classes text at end h = rw (part-none text at end h)
 
--- the parts of a symbol that is no quoted-string and no literal are those of its bytes
-unquoted : (classes text : List ℕ) (class : Class) (start end : ℕ) → OneOf (0 ∷ 2 ∷ 3 ∷ 4 ∷ 5 ∷ 6 ∷ 7 ∷ 8 ∷ 9 ∷ []) (tagOf the-type class)
-    → partsOf classes class (meaningAt classes text class start end) ≡ runs classes (part text start end)
-unquoted classes text Atom start end o = refl
-unquoted classes text Quoted start end o = absurd (miss (0 ∷ 2 ∷ 3 ∷ 4 ∷ 5 ∷ 6 ∷ 7 ∷ 8 ∷ 9 ∷ []) 1 tt o)
-unquoted classes text At start end o = refl
-unquoted classes text LessThan start end o = refl
-unquoted classes text GreaterThan start end o = refl
-unquoted classes text Comma start end o = refl
-unquoted classes text Semicolon start end o = refl
-unquoted classes text Colon start end o = refl
-unquoted classes text Stray start end o = refl
-unquoted classes text Dot start end o = refl
-unquoted classes text Literal start end o = absurd (miss (0 ∷ 2 ∷ 3 ∷ 4 ∷ 5 ∷ 6 ∷ 7 ∷ 8 ∷ 9 ∷ []) 10 tt o)
+-- the parts of a symbol are those of its bytes; but a quoted-string or a literal is one part
+module _ (classes text : List ℕ) (start end : ℕ) where
+  abbrev Symbol : Class → Type 0
+  Symbol class =
+      (OneOf (0 ∷ 2 ∷ 3 ∷ 4 ∷ 5 ∷ 6 ∷ 7 ∷ 8 ∷ 9 ∷ []) (tagOf the-type class) → partsOf classes class (meaningAt classes text class start end) ≡ runs classes (part text start end))
+      × (OneOf (1 ∷ 10 ∷ []) (tagOf the-type class) → partsOf classes class (meaningAt classes text class start end) ≡ record { key = otherPart; bytes = [] } ∷ [])
 
--- a quoted-string or a literal is one part
-quoted : (classes text : List ℕ) (class : Class) (start end : ℕ) → OneOf (1 ∷ 10 ∷ []) (tagOf the-type class)
-    → partsOf classes class (meaningAt classes text class start end) ≡ record { key = otherPart; bytes = [] } ∷ []
-quoted classes text Atom start end o = absurd (miss (1 ∷ 10 ∷ []) 0 tt o)
-quoted classes text Quoted start end o = refl
-quoted classes text At start end o = absurd (miss (1 ∷ 10 ∷ []) 2 tt o)
-quoted classes text LessThan start end o = absurd (miss (1 ∷ 10 ∷ []) 3 tt o)
-quoted classes text GreaterThan start end o = absurd (miss (1 ∷ 10 ∷ []) 4 tt o)
-quoted classes text Comma start end o = absurd (miss (1 ∷ 10 ∷ []) 5 tt o)
-quoted classes text Semicolon start end o = absurd (miss (1 ∷ 10 ∷ []) 6 tt o)
-quoted classes text Colon start end o = absurd (miss (1 ∷ 10 ∷ []) 7 tt o)
-quoted classes text Stray start end o = absurd (miss (1 ∷ 10 ∷ []) 8 tt o)
-quoted classes text Dot start end o = absurd (miss (1 ∷ 10 ∷ []) 9 tt o)
-quoted classes text Literal start end o = refl
+  symbol : (class : Class) → Symbol class
+  symbol Atom = (λ o. refl, λ o. absurd (miss (1 ∷ 10 ∷ []) 0 tt o))
+  symbol Quoted = (λ o. absurd (miss (0 ∷ 2 ∷ 3 ∷ 4 ∷ 5 ∷ 6 ∷ 7 ∷ 8 ∷ 9 ∷ []) 1 tt o), λ o. refl)
+  symbol At = (λ o. refl, λ o. absurd (miss (1 ∷ 10 ∷ []) 2 tt o))
+  symbol LessThan = (λ o. refl, λ o. absurd (miss (1 ∷ 10 ∷ []) 3 tt o))
+  symbol GreaterThan = (λ o. refl, λ o. absurd (miss (1 ∷ 10 ∷ []) 4 tt o))
+  symbol Comma = (λ o. refl, λ o. absurd (miss (1 ∷ 10 ∷ []) 5 tt o))
+  symbol Semicolon = (λ o. refl, λ o. absurd (miss (1 ∷ 10 ∷ []) 6 tt o))
+  symbol Colon = (λ o. refl, λ o. absurd (miss (1 ∷ 10 ∷ []) 7 tt o))
+  symbol Stray = (λ o. refl, λ o. absurd (miss (1 ∷ 10 ∷ []) 8 tt o))
+  symbol Dot = (λ o. refl, λ o. absurd (miss (1 ∷ 10 ∷ []) 9 tt o))
+  symbol Literal = (λ o. absurd (miss (0 ∷ 2 ∷ 3 ∷ 4 ∷ 5 ∷ 6 ∷ 7 ∷ 8 ∷ 9 ∷ []) 10 tt o), λ o. refl)
 
 module _ (classes text : List ℕ) (at end : ℕ) (h : end ≤ at) where
   no-part : end ≤ length text → parts classes (scanBy classes text end) ≡ [] → TokenIs classes text (left classes text at end) (record { key = noPart; start = end; stop = end; end = end })
@@ -225,7 +175,7 @@ module _ (classes text : List ℕ) (at end : ℕ) (h : end ≤ at) where
   part-quoted {class} {start} {stop} x o =
       let l : left classes text at end ≡ record { key = otherPart; bytes = [] } ∷ left classes text stop stop =
       left-here classes text at end h ∙ ap (λ (s : Scanned). parts classes s) (x .same)
-      ∙ ap (λ (r : List Part). r ++ parts classes (scanBy classes text stop)) (quoted classes text class start stop o)
+      ∙ ap (λ (r : List Part). r ++ parts classes (scanBy classes text stop)) (symbol classes text start stop class .1 o)
       ∙ ap (λ (r : List Part). record { key = otherPart; bytes = [] } ∷ r) (sym (left-here classes text stop stop (omega arith))) in
       record {
         key-is = rw l;
@@ -241,4 +191,4 @@ module _ (classes text : List ℕ) (at end : ℕ) (h : end ≤ at) where
   unfolding left parts
   part-unquoted {class} {start} {stop} x o =
       left-here classes text at end h ∙ ap (λ (s : Scanned). parts classes s) (x .same)
-      ∙ ap (λ (r : List Part). r ++ parts classes (scanBy classes text stop)) (unquoted classes text class start stop o)
+      ∙ ap (λ (r : List Part). r ++ parts classes (scanBy classes text stop)) (symbol classes text start stop class .0 o)

@@ -1,6 +1,6 @@
 // The moment that a date says.
 ghost use mathlib.Core.Path.{_≡_};
-ghost use Prim.Native.Nat.{_<_};
+ghost use Prim.Native.Nat.{_+_, _*_, _≤_, _<_};
 ghost use Rattle.dates.specs.Believed.Answers.{dayExists, timeExists, nameTrue, seconds as secondsOf, momentOf};
 use crate::form::Offset;
 use crate::form::Written;
@@ -49,6 +49,14 @@ fn name_true(name: usize, days: u64) -> bool
     name as u64 == days % 7
 }
 
+// Seconds of local time from 1 January 1900, 00:00.
+fn local_seconds(days: u64, hour: u64, minute: u64, second: u64) -> u64
+    requires { ⌜ (days < 5000000) × (hour ≤ 23) × (minute ≤ 59) × (second ≤ 59) ⌝ }
+    ensures { λ r. ⌜ (r ≡ days * 86400 + hour * 3600 + minute * 60 + second) × (r < 1000000000000000) ⌝ }
+{
+    days * 86400 + hour * 3600 + minute * 60 + second
+}
+
 // Seconds of GMT from seconds of local time.
 fn seconds(local: u64, minutes: i16) -> i64
     requires { ⌜ local < 1000000000000000 ⌝ }
@@ -71,8 +79,8 @@ pub(crate) fn moment_of(w: Written) -> Moment
     if !name_true(w.name, days) {
         return Moment::Impossible;
     }
+    let local = local_seconds(days, w.hour, w.minute, w.second);
     let zone = w.zone;
-    let local = days * 86400 + w.hour * 3600 + w.minute * 60 + w.second;
     match zone {
         Offset::Minutes(minutes) => Moment::At(seconds(local, minutes)),
         Offset::OutOfRange => Moment::Impossible,

@@ -45,12 +45,6 @@ returns-3 c =
 slice-aggregate-text : tie.Need-slice-aggregate-text
 slice-aggregate-text c = sym (length-take-le _ (c .before .before .before .before .before .before .args .message .now) (omega arith))
 
-fault-by-requires : tie.Need-fault-by-requires
-fault-by-requires c κs = search needs
-
-enum-known-number : tie.Need-enum-known-number
-enum-known-number c = search needs
-
 returns-4 : tie.Need-returns-4
 unfolding classTable classOf
 returns-4 c =
@@ -65,25 +59,10 @@ read-form-requires c κs =
     let a = c .before .before .before .before .before .before .before .before .args in
     omega (arith, length-take-le (a .end) (a .message .now) (omega arith))
 
-enum-known-written : tie.Need-enum-known-written
-enum-known-written c = search needs
-
-enum-told : tie.Need-enum-told
-enum-told c = search needs
-
 returns-5 : tie.Need-returns-5
 returns-5 c =
     let a = c .before .before .before .before .before .before .before .before .before .before .before .args in
     promised (a .message .now) (a .start) (a .end) (rw (c .enum-told .given .1) at (answered (c .before .before)))
-
-moment-of-requires : tie.Need-moment-of-requires
-moment-of-requires c κs = search needs
-
-enum-told-2 : tie.Need-enum-told-2
-enum-told-2 c = search needs
-
-enum-known-value : tie.Need-enum-known-value
-enum-known-value c = search needs
 
 returns-6 : tie.Need-returns-6
 returns-6 c =
@@ -109,20 +88,5 @@ returns-7 c =
 pub read-date-spec : {M : Type 1} → statement M
 read-date-spec =
     tie.close
-    (tie.spec
-    returns
-    returns-2
-    returns-3
-    slice-aggregate-text
-    fault-by-requires
-    enum-known-number
-    returns-4
-    read-form-requires
-    enum-known-written
-    enum-told
-    returns-5
-    moment-of-requires
-    enum-told-2
-    enum-known-value
-    returns-6
-    returns-7)
+    (tie.spec returns returns-2 returns-3 slice-aggregate-text (λ c κs. search needs) (λ c. search needs) returns-4 read-form-requires (λ c. search needs)
+    (λ c. search needs) returns-5 (λ c κs. search needs) (λ c. search needs) (λ c. search needs) returns-6 returns-7)

@@ -9,12 +9,6 @@ use Rattle.dates.specs.Believed.Answers.{valueOf}
 use Rattle.dates.proofs.value.Statement.{statement}
 use Rattle.dates.proofs.value.Tie as tie
 
-enum-known-answer : tie.Need-enum-known-answer
-enum-known-answer c = search needs
-
-enum-told : tie.Need-enum-told
-enum-told c = search needs
-
 returns : tie.Need-returns
 returns c =
     let answer = c .before .answer in
@@ -26,10 +20,4 @@ returns-2 : tie.Need-returns-2
 returns-2 c = sym (ap valueOf (c .enum-told .given .1))
 
 pub value-spec : {M : Type 1} → statement M
-value-spec =
-    tie.close
-    (tie.spec
-    enum-known-answer
-    enum-told
-    returns
-    returns-2)
+value-spec = tie.close (tie.spec (λ c. search needs) (λ c. search needs) returns returns-2)

@@ -5,24 +5,6 @@ use Rattle.dates.proofs.CalendarLaws.{formula}
 use Rattle.dates.proofs.calendar.before_year.Statement.{statement}
 use Rattle.dates.proofs.calendar.before_year.Tie as tie
 
-sub-last : tie.Need-sub-last
-sub-last c = search needs
-
-sub-result : tie.Need-sub-result
-sub-result c = search needs
-
-mul-result : tie.Need-mul-result
-mul-result c = search needs
-
-add-result : tie.Need-add-result
-add-result c = search needs
-
-add-result-2 : tie.Need-add-result-2
-add-result-2 c = search needs
-
-sub-result-2 : tie.Need-sub-result-2
-sub-result-2 c = search needs
-
 sub-result-3 : tie.Need-sub-result-3
 sub-result-3 c = formula (c .args .year) (c .pre .0) .enough
 
@@ -32,12 +14,4 @@ returns c = let f = formula (c .args .year) (c .pre .0) in (f .same, omega (arit
 pub before-year-spec : {M : Type 1} → statement M
 before-year-spec =
     tie.close
-    (tie.spec
-    sub-last
-    sub-result
-    mul-result
-    add-result
-    add-result-2
-    sub-result-2
-    sub-result-3
-    returns)
+    (tie.spec (λ c. search needs) (λ c. search needs) (λ c. search needs) (λ c. search needs) (λ c. search needs) (λ c. search needs) sub-result-3 returns)

@@ -9,21 +9,6 @@ use Rattle.dates.proofs.calendar.month_length.Tie as tie
 returns : tie.Need-returns
 returns c = no-month (c .before .args .year) (c .before .args .month) (c .if1 .taken)
 
-is-leap-requires : tie.Need-is-leap-requires
-is-leap-requires c κs = search needs
-
-mul-result : tie.Need-mul-result
-mul-result c = search needs
-
-array-read-result : tie.Need-array-read-result
-array-read-result c = search needs
-
-mul-result-2 : tie.Need-mul-result-2
-mul-result-2 c = search needs
-
-array-read-result-2 : tie.Need-array-read-result-2
-array-read-result-2 c = search needs
-
 returns-2 : tie.Need-returns-2
 returns-2 c = length-of (c .before .before .before .args .year) (c .before .before .before .args .month) true (sym (c .before .is-leap .ensures) ∙ c .if2 .taken)
 
@@ -33,12 +18,4 @@ returns-3 c = length-of (c .before .before .before .args .year) (c .before .befo
 pub month-length-spec : {M : Type 1} → statement M
 month-length-spec =
     tie.close
-    (tie.spec
-    returns
-    is-leap-requires
-    mul-result
-    array-read-result
-    mul-result-2
-    array-read-result-2
-    returns-2
-    returns-3)
+    (tie.spec returns (λ c κs. search needs) (λ c. search needs) (λ c. search needs) (λ c. search needs) (λ c. search needs) returns-2 returns-3)

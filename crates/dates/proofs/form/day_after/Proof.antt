@@ -5,9 +5,6 @@ use Rattle.dates.specs.Executable.Form.{dayAfter}
 use Rattle.dates.proofs.form.day_after.Statement.{statement}
 use Rattle.dates.proofs.form.day_after.Tie as tie
 
-read-number-requires : tie.Need-read-number-requires
-read-number-requires c κs = search needs
-
 returns : tie.Need-returns
 unfolding dayAfter
 returns c =
@@ -38,12 +35,4 @@ returns-3 c =
     rw (n .count-is, le-leb 1 (read-number .result .count) (if1 .left), le-leb (read-number .result .count) 2 (if2 .left), n .value-is, n .rest-is, past-dash .ensures .is) (c .month-after .ensures)
 
 pub day-after-spec : {M : Type 1} → statement M
-day-after-spec =
-    tie.close
-    (tie.spec
-    read-number-requires
-    returns
-    returns-2
-    past-dash-requires
-    month-after-requires
-    returns-3)
+day-after-spec = tie.close (tie.spec (λ c κs. search needs) returns returns-2 past-dash-requires month-after-requires returns-3)

@@ -18,27 +18,12 @@ the-zone : (c : tie.After-zone) → (let a = c .before .before .before .before .
     ZoneFound (a .classes .now) (a .text .now) (zoneOf (left (a .classes .now) (a .text .now) (f .1 .1 .1 .0) (f .1 .1 .1 .1 .0))) (g .0) (g .1 .0) (g .1 .1 .0))
 the-zone c = rw (c .zone .given .1) at (c .before .before .read-zone .ensures)
 
-read-hour-requires : tie.Need-read-hour-requires
-read-hour-requires c κs = search needs
-
-enum-known-hour : tie.Need-enum-known-hour
-enum-known-hour c = search needs
-
-enum-told : tie.Need-enum-told
-enum-told c = search needs
-
 returns : tie.Need-returns
 unfolding hourAfter
 returns c = let x : hourOf _ ≡ noHour = rw (c .enum-told .given .1) at (c .before .before .read-hour .ensures) in rw x
 
 read-zone-requires : tie.Need-read-zone-requires
 read-zone-requires c κs = the-hour (c .before) .place
-
-enum-known-zone : tie.Need-enum-known-zone
-enum-known-zone c = search needs
-
-enum-told-2 : tie.Need-enum-told-2
-enum-told-2 c = search needs
 
 returns-2 : tie.Need-returns-2
 unfolding hourAfter
@@ -73,15 +58,5 @@ returns-4 c =
 pub hour-after-spec : {M : Type 1} → statement M
 hour-after-spec =
     tie.close
-    (tie.spec
-    read-hour-requires
-    enum-known-hour
-    enum-told
-    returns
-    read-zone-requires
-    enum-known-zone
-    enum-told-2
-    returns-2
-    next-part-requires
-    returns-3
-    returns-4)
+    (tie.spec (λ c κs. search needs) (λ c. search needs) (λ c. search needs) returns read-zone-requires (λ c. search needs) (λ c. search needs) returns-2
+    next-part-requires returns-3 returns-4)

@@ -36,11 +36,4 @@ returns-2 c =
     rw (e, lt-ltb _ 12 (if1 .left), read-name .ensures .rest-is, past-dash .ensures .is) (c .year-after .ensures)
 
 pub month-after-spec : {M : Type 1} → statement M
-month-after-spec =
-    tie.close
-    (tie.spec
-    read-name-requires
-    returns
-    past-dash-requires
-    year-after-requires
-    returns-2)
+month-after-spec = tie.close (tie.spec read-name-requires returns past-dash-requires year-after-requires returns-2)

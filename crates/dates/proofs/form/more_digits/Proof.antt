@@ -7,9 +7,6 @@ use Rattle.dates.specs.Executable.Form.{upToSix, moreDigits, pastMore}
 use Rattle.dates.proofs.form.more_digits.Statement.{statement}
 use Rattle.dates.proofs.form.more_digits.Tie as tie
 
-next-part-requires : tie.Need-next-part-requires
-next-part-requires c κs = search needs
-
 returns : tie.Need-returns
 unfolding moreDigits pastMore upToSix number
 returns c =
@@ -33,4 +30,4 @@ returns-2 c =
     rw (x .key-is, eq-eqb _ _ (c .before .if1 .left), x .rest-is) (c .read-number .ensures)
 
 pub more-digits-spec : {M : Type 1} → statement M
-more-digits-spec = tie.close (tie.spec next-part-requires returns read-number-requires returns-2)
+more-digits-spec = tie.close (tie.spec (λ c κs. search needs) returns read-number-requires returns-2)

@@ -1,82 +1,55 @@
 -- `dates::form::offset_of` meets its contract. Assumes nothing.
 use borrow.Author.Needs.{needs}
-use mathlib.Core.Path.{_≡_, sym, ap, _∙_}
+use mathlib.Core.Path.{_≡_}
 use native.Mathlib.Omega.{arith}
+use borrow.Author.Tests.{le-leb, lt-leb}
 use Prim.Native.Nat.{ℕ, _+_, _*_, _/_, _%_, _<_}
 use lib.IntN.{pos, negℤ, +ℤ-idl}
 use mir.Syntax.{w16}
 use mir.Val.{toZ}
 use mir.Facts.{toZ-ofZ, toZ-pos}
-use Rattle.octets.specs.Believed.Choice.{pick}
-use Rattle.dates.specs.Believed.Names.{ahead, behind}
 use Rattle.dates.specs.Believed.Grammar.{offsetOf}
-use Rattle.dates.specs.declared.form.Offset.the-variants.{Minutes}
 use Rattle.dates.proofs.MomentLaws.{minus-fits}
-use Rattle.dates.proofs.FormLaws.{hours-out, minutes-out, in-range}
 use Rattle.dates.proofs.form.offset_of.Statement.{statement}
 use Rattle.dates.proofs.form.offset_of.Tie as tie
 
 returns : tie.Need-returns
-returns c = hours-out _ (c .before .args .hhmm) (omega arith)
+unfolding offsetOf
+returns c = rw (lt-leb _ 23 (c .if1 .taken))
 
 returns-2 : tie.Need-returns-2
-returns-2 c = minutes-out _ (c .before .before .args .hhmm) (omega arith) (omega arith)
+unfolding offsetOf
+returns-2 c = rw (le-leb _ 23 (c .before .if1 .left), lt-leb _ 59 (c .if2 .taken))
 
-mul-t6 : tie.Need-mul-t6
-mul-t6 c = search needs
+-- hours and minutes in minutes, which fit
+abbrev minutes : ℕ → ℕ
+minutes hhmm = hhmm / 100 * 60 + hhmm % 100
 
-add-t7 : tie.Need-add-t7
-add-t7 c = search needs
-
-cast-t8 : tie.Need-cast-t8
-cast-t8 c = search needs
+as-read : (hhmm : ℕ) → minutes hhmm < 10000 → toZ w16 (minutes hhmm) ≡ pos (minutes hhmm)
+as-read hhmm k = toZ-pos w16 (omega arith)
 
 sub-t9 : tie.Need-sub-t9
 sub-t9 c =
-    let a = c .before .before .before .args in
-    let n : ℕ = a .hhmm / 100 * 60 + a .hhmm % 100 in
-    let k : n < 10000 = omega arith in
-    let q : toZ w16 n ≡ pos n = toZ-pos w16 (omega arith) in
-    rw q (minus-fits n k)
+    let n = c .before .before .before .args .hhmm in
+    let k : minutes n < 10000 = omega arith in
+    rw (as-read n k) (minus-fits (minutes n) k)
 
 returns-3 : tie.Need-returns-3
+unfolding offsetOf
 returns-3 c =
-    let a = c .before .before .before .args in
-    let n : ℕ = a .hhmm / 100 * 60 + a .hhmm % 100 in
-    let k : n < 10000 = omega arith in
-    let q : toZ w16 n ≡ pos n = toZ-pos w16 (omega arith) in
-    rw (q, toZ-ofZ (minus-fits n k))
-    (ap Minutes (+ℤ-idl (negℤ (pos n))) ∙ in-range behind (a .hhmm) (omega arith) (omega arith) ∙ ap (λ t. offsetOf (pick t behind ahead) (a .hhmm)) (sym (c .if3 .taken)))
-
-mul-t10 : tie.Need-mul-t10
-mul-t10 c = search needs
-
-add-t11 : tie.Need-add-t11
-add-t11 c = search needs
-
-cast-t12 : tie.Need-cast-t12
-cast-t12 c = search needs
+    let n = c .before .before .before .args .hhmm in
+    let k : minutes n < 10000 = omega arith in
+    rw (as-read n k, toZ-ofZ (minus-fits (minutes n) k), +ℤ-idl (negℤ (pos (minutes n))), c .if3 .taken, le-leb _ 23 (c .before .before .if1 .left), le-leb _ 59 (c .before .if2 .left))
 
 returns-4 : tie.Need-returns-4
+unfolding offsetOf
 returns-4 c =
-    let a = c .before .before .before .args in
-    let n : ℕ = a .hhmm / 100 * 60 + a .hhmm % 100 in
-    let k : n < 10000 = omega arith in
-    let q : toZ w16 n ≡ pos n = toZ-pos w16 (omega arith) in
-    rw q (in-range ahead (a .hhmm) (omega arith) (omega arith) ∙ ap (λ t. offsetOf (pick t behind ahead) (a .hhmm)) (sym (c .if3 .left)))
+    let n = c .before .before .before .args .hhmm in
+    let k : minutes n < 10000 = omega arith in
+    rw (as-read n k, c .if3 .left, le-leb _ 23 (c .before .before .if1 .left), le-leb _ 59 (c .before .if2 .left))
 
 pub offset-of-spec : {M : Type 1} → statement M
 offset-of-spec =
     tie.close
-    (tie.spec
-    returns
-    returns-2
-    mul-t6
-    add-t7
-    cast-t8
-    sub-t9
-    returns-3
-    mul-t10
-    add-t11
-    cast-t12
-    returns-4)
+    (tie.spec returns returns-2 (λ c. search needs) (λ c. search needs) (λ c. search needs) sub-t9 returns-3 (λ c. search needs) (λ c. search needs)
+    (λ c. search needs) returns-4)

@@ -1,25 +1,20 @@
 -- `dates::form::past_dash` meets its contract. Assumes nothing.
 use borrow.Author.Needs.{needs}
-use Rattle.dates.proofs.FormLaws.{dash, no-dash}
+use borrow.Author.Tests.{eq-eqb, ne-eqb}
+use Rattle.dates.specs.Executable.Form.{pastDash}
 use Rattle.dates.proofs.form.past_dash.Statement.{statement}
 use Rattle.dates.proofs.form.past_dash.Tie as tie
 
-next-part-requires : tie.Need-next-part-requires
-next-part-requires c κs = search needs
-
 returns : tie.Need-returns
-returns c = dash (c .before .before .next-part .ensures) (c .if1 .taken)
+unfolding pastDash
+returns c =
+    let x = c .before .before .next-part .ensures in
+    record { is = rw (x .key-is, eq-eqb _ _ (c .if1 .taken)) (x .rest-is); place = x .place }
 
 returns-2 : tie.Need-returns-2
+unfolding pastDash
 returns-2 c =
-    let p = c .before .before .before .before .pre in
-    let next-part = c .before .before .next-part in
-    record { is = no-dash (next-part .ensures) (c .if1 .left); place = p }
+    record { is = rw (c .before .before .next-part .ensures .key-is, ne-eqb _ _ (c .if1 .left)); place = c .before .before .before .before .pre }
 
 pub past-dash-spec : {M : Type 1} → statement M
-past-dash-spec =
-    tie.close
-    (tie.spec
-    next-part-requires
-    returns
-    returns-2)
+past-dash-spec = tie.close (tie.spec (λ c κs. search needs) returns returns-2)

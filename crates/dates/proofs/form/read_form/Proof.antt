@@ -53,13 +53,4 @@ returns-3 c =
     rw (e, lt-ltb _ 7 (if1 .left), read-name .ensures .rest-is, x .key-is, eq-eqb _ _ (if2 .left), x .rest-is) (c .day-after2 .ensures)
 
 pub read-form-spec : {M : Type 1} → statement M
-read-form-spec =
-    tie.close
-    (tie.spec
-    read-name-requires
-    day-after-requires
-    returns
-    next-part-requires
-    returns-2
-    day-after-requires-2
-    returns-3)
+read-form-spec = tie.close (tie.spec read-name-requires day-after-requires returns next-part-requires returns-2 day-after-requires-2 returns-3)

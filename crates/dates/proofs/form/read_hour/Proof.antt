@@ -5,9 +5,6 @@ use Rattle.dates.specs.Executable.Form.{hourOf}
 use Rattle.dates.proofs.form.read_hour.Statement.{statement}
 use Rattle.dates.proofs.form.read_hour.Tie as tie
 
-read-number-requires : tie.Need-read-number-requires
-read-number-requires c κs = search needs
-
 returns : tie.Need-returns
 unfolding hourOf
 returns c =
@@ -63,14 +60,5 @@ returns-6 c =
 pub read-hour-spec : {M : Type 1} → statement M
 read-hour-spec =
     tie.close
-    (tie.spec
-    read-number-requires
-    returns
-    second-after-requires
-    returns-2
-    returns-3
-    more-digits-requires
-    returns-4
-    second-after-requires-2
-    returns-5
+    (tie.spec (λ c κs. search needs) returns second-after-requires returns-2 returns-3 more-digits-requires returns-4 second-after-requires-2 returns-5
     returns-6)

@@ -35,13 +35,4 @@ returns-2 c =
     a-name (next-part .ensures) (rows (a .names .now) 0 (a .ends .now)) (if1 .left) (c .find .result) (c .find .ensures)
 
 pub read-name-spec : {M : Type 1} → statement M
-read-name-spec =
-    tie.close
-    (tie.spec
-    next-part-requires
-    returns
-    sub-find
-    part-find-start
-    part-find-end
-    find-requires
-    returns-2)
+read-name-spec = tie.close (tie.spec next-part-requires returns sub-find part-find-start part-find-end find-requires returns-2)

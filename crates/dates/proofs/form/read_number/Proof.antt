@@ -6,9 +6,6 @@ use Rattle.dates.proofs.FormLaws.{no-number, a-number}
 use Rattle.dates.proofs.form.read_number.Statement.{statement}
 use Rattle.dates.proofs.form.read_number.Tie as tie
 
-next-part-requires : tie.Need-next-part-requires
-next-part-requires c κs = search needs
-
 returns : tie.Need-returns
 returns c = no-number (c .before .before .next-part .ensures) (c .if1 .taken)
 
@@ -36,14 +33,4 @@ returns-3 c =
     a-number x (c .before .before .if1 .left) (c .value .result) (rw (le-ltb 6 _ (c .before .if2 .left)) (c .value .ensures .0)) (c .value .ensures .1)
 
 pub read-number-spec : {M : Type 1} → statement M
-read-number-spec =
-    tie.close
-    (tie.spec
-    next-part-requires
-    returns
-    sub-if2
-    sub-t11
-    returns-2
-    value-requires
-    sub-t10
-    returns-3)
+read-number-spec = tie.close (tie.spec (λ c κs. search needs) returns sub-if2 sub-t11 returns-2 value-requires sub-t10 returns-3)

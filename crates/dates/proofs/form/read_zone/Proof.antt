@@ -5,9 +5,6 @@ use Rattle.dates.specs.Executable.Form.{zoneOf}
 use Rattle.dates.proofs.form.read_zone.Statement.{statement}
 use Rattle.dates.proofs.form.read_zone.Tie as tie
 
-next-part-requires : tie.Need-next-part-requires
-next-part-requires c κs = search needs
-
 read-number-requires : tie.Need-read-number-requires
 read-number-requires c κs = c .before .before .next-part .ensures .place
 
@@ -20,9 +17,6 @@ returns c =
     let x = next-part .ensures in
     let n = read-number .ensures in
     rw (x .key-is, eq-eqb _ _ (if1 .taken), x .rest-is, n .count-is, ne-eqb _ _ (c .if2 .taken))
-
-offset-of-requires : tie.Need-offset-of-requires
-offset-of-requires c κs = search needs
 
 returns-2 : tie.Need-returns-2
 unfolding zoneOf
@@ -65,9 +59,6 @@ returns-4 c =
     let n = read-number2 .ensures in
     rw (x .key-is, ne-eqb _ _ (if1 .left), eq-eqb _ _ (if3 .left), x .rest-is, n .count-is, ne-eqb _ _ (if4 .taken)) (c .zone-named2 .ensures)
 
-offset-of-requires-2 : tie.Need-offset-of-requires-2
-offset-of-requires-2 c κs = search needs
-
 returns-5 : tie.Need-returns-5
 unfolding zoneOf
 returns-5 c =
@@ -83,16 +74,5 @@ returns-5 c =
 pub read-zone-spec : {M : Type 1} → statement M
 read-zone-spec =
     tie.close
-    (tie.spec
-    next-part-requires
-    read-number-requires
-    returns
-    offset-of-requires
-    returns-2
-    zone-named-requires
-    returns-3
-    read-number-requires-2
-    zone-named-requires-2
-    returns-4
-    offset-of-requires-2
-    returns-5)
+    (tie.spec (λ c κs. search needs) read-number-requires returns (λ c κs. search needs) returns-2 zone-named-requires returns-3 read-number-requires-2
+    zone-named-requires-2 returns-4 (λ c κs. search needs) returns-5)

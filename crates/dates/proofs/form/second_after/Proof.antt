@@ -5,9 +5,6 @@ use Rattle.dates.specs.Executable.Form.{secondAfter}
 use Rattle.dates.proofs.form.second_after.Statement.{statement}
 use Rattle.dates.proofs.form.second_after.Tie as tie
 
-more-digits-requires : tie.Need-more-digits-requires
-more-digits-requires c κs = search needs
-
 returns : tie.Need-returns
 unfolding secondAfter
 returns c =
@@ -21,4 +18,4 @@ returns-2 c =
     record { is = rw (n .count-is, ne-eqb _ _ (c .if1 .left)); place = c .before .before .before .before .pre }
 
 pub second-after-spec : {M : Type 1} → statement M
-second-after-spec = tie.close (tie.spec more-digits-requires returns returns-2)
+second-after-spec = tie.close (tie.spec (λ c κs. search needs) returns returns-2)

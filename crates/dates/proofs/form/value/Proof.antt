@@ -33,9 +33,6 @@ mul-v c =
 shared-slice-read-digit : tie.Need-shared-slice-read-digit Inv-loop μ-loop
 shared-slice-read-digit c = omega (arith, c .before .before .before .before .pre .2)
 
-digit-requires : tie.Need-digit-requires Inv-loop μ-loop
-digit-requires c κs = search needs
-
 add-v : tie.Need-add-v Inv-loop μ-loop
 add-v c =
     let a = c .before .before .before .before .before .args in
@@ -43,12 +40,6 @@ add-v c =
     let l = c .before .before .before .loop in
     let loop-test = c .before .before .loop-test in
     omega (arith, bounded (l .v) (l .p - a .start) 5 (l .inv .3) (omega (arith, l .inv .0, p .1, loop-test .taken)), c .digit .ensures .1)
-
-add-p : tie.Need-add-p Inv-loop μ-loop
-add-p c = search needs
-
-loop-less : tie.Need-loop-less Inv-loop μ-loop
-loop-less c = search needs
 
 loop-again : tie.Need-loop-again Inv-loop μ-loop
 loop-again c =
@@ -76,15 +67,4 @@ returns c =
 pub value-spec : {M : Type 1} → statement M
 value-spec =
     tie.close
-    (tie.spec
-    Inv-loop
-    μ-loop
-    loop-holds
-    mul-v
-    shared-slice-read-digit
-    digit-requires
-    add-v
-    add-p
-    loop-less
-    loop-again
-    returns)
+    (tie.spec Inv-loop μ-loop loop-holds mul-v shared-slice-read-digit (λ c κs. search needs) add-v (λ c. search needs) (λ c. search needs) loop-again returns)

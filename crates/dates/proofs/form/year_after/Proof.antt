@@ -5,12 +5,6 @@ use Rattle.dates.specs.Executable.Form.{yearAfter}
 use Rattle.dates.proofs.form.year_after.Statement.{statement}
 use Rattle.dates.proofs.form.year_after.Tie as tie
 
-read-number-requires : tie.Need-read-number-requires
-read-number-requires c κs = search needs
-
-add-hour-after : tie.Need-add-hour-after
-add-hour-after c = search needs
-
 hour-after-requires : tie.Need-hour-after-requires
 hour-after-requires c κs = c .before .before .before .read-number .ensures .place
 
@@ -36,13 +30,4 @@ returns-3 c =
     rw (n .count-is, ne-eqb _ _ (c .before .before .if1 .left), ne-eqb _ _ (c .if2 .left))
 
 pub year-after-spec : {M : Type 1} → statement M
-year-after-spec =
-    tie.close
-    (tie.spec
-    read-number-requires
-    add-hour-after
-    hour-after-requires
-    returns
-    hour-after-requires-2
-    returns-2
-    returns-3)
+year-after-spec = tie.close (tie.spec (λ c κs. search needs) (λ c. search needs) hour-after-requires returns hour-after-requires-2 returns-2 returns-3)

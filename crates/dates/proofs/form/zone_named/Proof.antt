@@ -1,9 +1,12 @@
 -- `dates::form::zone_named` meets its contract: the tables of the source are the zone table. Assumes nothing.
 use borrow.Author.Needs.{needs}
-use mathlib.Core.Path.{refl}
+use mathlib.Core.Path.{_≡_, refl}
+use borrow.Author.Tests.{lt-ltb, le-ltb}
 use mir.Facts.{toZ-ofZ}
-use Rattle.dates.specs.Ties.Steps.{rows, ascend, left}
-use Rattle.dates.proofs.FormLaws.{minutes-fit, no-zone, a-zone}
+use Rattle.dates.specs.Believed.Names.{zoneNames}
+use Rattle.dates.specs.Executable.Form.{named, zoneNamed}
+use Rattle.dates.specs.Ties.Steps.{rows, ascend}
+use Rattle.dates.proofs.FormLaws.{minutes-fit}
 use Rattle.dates.proofs.form.zone_named.Statement.{statement}
 use Rattle.dates.proofs.form.zone_named.Tie as tie
 
@@ -12,31 +15,17 @@ unfolding ascend
 read-name-requires c κs = (c .before .before .before .before .before .pre, refl)
 
 returns : tie.Need-returns
-unfolding rows
-returns c =
-    let read-name = c .before .read-name in
-    no-zone _ (read-name .result .place) (read-name .ensures .place-is) (c .if1 .taken)
-
-mul-t17 : tie.Need-mul-t17
-mul-t17 c = search needs
-
-array-copy-out-t20 : tie.Need-array-copy-out-t20
-array-copy-out-t20 c = search needs
+unfolding rows zoneNamed
+returns c = let e : named zoneNames _ ≡ _ = c .before .read-name .ensures .place-is in rw (e, le-ltb _ 43 (c .if1 .taken))
 
 returns-2 : tie.Need-returns-2
-unfolding rows
+unfolding rows zoneNamed
 returns-2 c =
     let read-name = c .before .before .read-name in
     let if1 = c .before .if1 in
     let n = read-name .ensures in
-    record { is = a-zone _ (read-name .result .place) (n .place-is) (if1 .left) _ _ (toZ-ofZ (minutes-fit (read-name .result .place) (if1 .left))) (n .rest-is); place = n .place }
+    let e : named zoneNames _ ≡ read-name .result .place = n .place-is in
+    record { is = rw (e, lt-ltb _ 43 (if1 .left), n .rest-is, toZ-ofZ (minutes-fit (read-name .result .place) (if1 .left))); place = n .place }
 
 pub zone-named-spec : {M : Type 1} → statement M
-zone-named-spec =
-    tie.close
-    (tie.spec
-    read-name-requires
-    returns
-    mul-t17
-    array-copy-out-t20
-    returns-2)
+zone-named-spec = tie.close (tie.spec read-name-requires returns (λ c. search needs) (λ c. search needs) returns-2)

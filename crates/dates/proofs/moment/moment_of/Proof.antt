@@ -7,146 +7,63 @@ use borrow.Author.Tests.{not-true, not-false}
 use mir.Syntax.{w16, w64}
 use mir.Val.{SFits}
 use mir.Facts.{toZ-ofZ}
-use Rattle.dates.specs.Believed.Answers.{dayExists, timeExists, nameTrue, localSeconds, inZone, seconds}
+use Rattle.dates.specs.Believed.Answers.{dayExists, timeExists, localSeconds, inZone, momentOf}
+use Rattle.dates.specs.declared.form.Offset.{Offset}
 use Rattle.dates.specs.declared.moment.Moment.the-variants.{At}
-use Rattle.dates.proofs.MomentLaws.{InCalendar, in-calendar, InDay, in-day, no-day, no-time, false-name, in-zone}
+use Rattle.dates.proofs.MomentLaws.{in-calendar, in-day}
 use Rattle.dates.proofs.moment.moment_of.Statement.{statement}
 use Rattle.dates.proofs.moment.moment_of.Tie as tie
 
--- the calendar has the day, and the day the time
+-- the calendar has the day, and the day the time and the name
 day-known : (c : tie.Else1) → (let w = c .before .before .args .w in dayExists (w .year) (w .month) (w .day) ≡ true)
 day-known c = sym (c .before .day-exists .ensures) ∙ not-false _ (c .if1 .left)
 
 time-known : (c : tie.Else2) → (let w = c .before .before .before .before .args .w in timeExists (w .hour) (w .minute) (w .second) ≡ true)
 time-known c = sym (c .before .time-exists .ensures) ∙ not-false _ (c .if2 .left)
 
-day : (c : tie.Else1) → (let w = c .before .before .args .w in InCalendar (w .year) (w .month) (w .day))
-day c = let w = c .before .before .args .w in in-calendar (w .year) (w .month) (w .day) (day-known c)
-
-time : (c : tie.Else2) → (let w = c .before .before .before .before .args .w in InDay (w .hour) (w .minute) (w .second))
-time c = let w = c .before .before .before .before .args .w in in-day (w .hour) (w .minute) (w .second) (time-known c)
-
-day-exists-requires : tie.Need-day-exists-requires
-day-exists-requires c κs = search needs
+-- so its zone decides
+in-zone : (c : tie.Else3) → (let w = c .before .before .before .before .before .before .before .args .w in (z : Offset) → w .zone ≡ z → inZone (localSeconds w) z ≡ momentOf w)
+unfolding momentOf
+in-zone c z e =
+    let w = c .before .before .before .before .before .before .before .args .w in
+    let name-true = c .before .name-true in
+    ap (λ x. inZone (localSeconds w) x) (sym e)
+    ∙ rw (day-known (c .before .before .before .before .before), time-known (c .before .before .before), ← c .before .before .day-number .ensures .0, ← name-true .ensures, not-false (name-true .result) (c .if3 .left))
 
 returns : tie.Need-returns
-returns c = no-day (c .before .before .args .w) (sym (c .before .day-exists .ensures) ∙ not-true _ (c .if1 .taken))
-
-time-exists-requires : tie.Need-time-exists-requires
-time-exists-requires c κs = search needs
+unfolding momentOf
+returns c = rw (← c .before .day-exists .ensures, not-true (c .before .day-exists .result) (c .if1 .taken))
 
 returns-2 : tie.Need-returns-2
-returns-2 c =
-    let a = c .before .before .before .before .args in
-    let time-exists = c .before .time-exists in
-    no-time (a .w) (day-known (c .before .before)) (sym (time-exists .ensures) ∙ not-true _ (c .if2 .taken))
+unfolding momentOf
+returns-2 c = rw (day-known (c .before .before), ← c .before .time-exists .ensures, not-true (c .before .time-exists .result) (c .if2 .taken))
 
 day-number-requires : tie.Need-day-number-requires
-day-number-requires c κs = let d = day (c .before .before) in (d .from, omega (arith, d .to), d .month-is, d .first, omega (arith, d .last))
-
-name-true-requires : tie.Need-name-true-requires
-name-true-requires c κs = search needs
+day-number-requires c κs = let d = in-calendar _ _ _ (day-known (c .before .before)) in (d .from, omega (arith, d .to), d .month-is, d .first, omega (arith, d .last))
 
 returns-3 : tie.Need-returns-3
+unfolding momentOf
 returns-3 c =
-    let a = c .before .before .before .before .before .before .before .args in
-    let day-number = c .before .before .day-number in
-    let name-true = c .before .name-true in
-    false-name (a .w) (day-known (c .before .before .before .before .before)) (time-known (c .before .before .before))
-    (ap (λ n. nameTrue (a .w .name) n) (sym (day-number .ensures .0)) ∙ sym (name-true .ensures) ∙ not-true _ (c .if3 .taken))
+    rw (day-known (c .before .before .before .before .before), time-known (c .before .before .before), ← c .before .before .day-number .ensures .0, ← c .before .name-true .ensures, not-true (c .before .name-true .result) (c .if3 .taken))
 
-mul-local : tie.Need-mul-local
-mul-local c = search needs
-
-mul-local-2 : tie.Need-mul-local-2
-mul-local-2 c =
-    let day-number = c .before .before .before .day-number in
-    let t = time (c .before .before .before .before) in
-    omega (arith, t .hours, t .minutes, t .seconds-are, day-number .ensures .1)
-
-add-local : tie.Need-add-local
-add-local c =
-    let day-number = c .before .before .before .day-number in
-    let t = time (c .before .before .before .before) in
-    omega (arith, t .hours, t .minutes, t .seconds-are, day-number .ensures .1)
-
-mul-local-3 : tie.Need-mul-local-3
-mul-local-3 c =
-    let day-number = c .before .before .before .before .day-number in
-    let t = time (c .before .before .before .before .before) in
-    omega (arith, t .hours, t .minutes, t .seconds-are, day-number .ensures .1)
-
-add-local-2 : tie.Need-add-local-2
-add-local-2 c =
-    let day-number = c .before .before .before .before .day-number in
-    let t = time (c .before .before .before .before .before) in
-    omega (arith, t .hours, t .minutes, t .seconds-are, day-number .ensures .1)
-
-add-local-3 : tie.Need-add-local-3
-add-local-3 c =
-    let day-number = c .before .before .before .before .before .day-number in
-    let t = time (c .before .before .before .before .before .before) in
-    omega (arith, t .hours, t .minutes, t .seconds-are, day-number .ensures .1)
-
-enum-known-zone : tie.Need-enum-known-zone
-enum-known-zone c = search needs
-
-seconds-requires : tie.Need-seconds-requires
-seconds-requires c κs =
-    let day-number = c .before .before .before .before .before .before .before .before .day-number in
-    let t = time (c .before .before .before .before .before .before .before .before .before) in
-    omega (arith, t .hours, t .minutes, t .seconds-are, day-number .ensures .1)
-
-enum-told : tie.Need-enum-told
-enum-told c = search needs
+local-seconds-requires : tie.Need-local-seconds-requires
+local-seconds-requires c κs = let t = in-day _ _ _ (time-known (c .before .before .before)) in (c .before .before .day-number .ensures .1, t .hours, t .minutes, t .seconds-are)
 
 returns-4 : tie.Need-returns-4
 returns-4 c =
-    let a = c .before .before .before .before .before .before .before .before .before .before .before .before .before .before .args in
-    let day-number = c .before .before .before .before .before .before .before .before .before .day-number in
-    let name-true = c .before .before .before .before .before .before .before .before .name-true in
-    let if3 = c .before .before .before .before .before .before .before .if3 in
-    let zone = c .before .before .zone in
-    let known-told = c .before .known-told in
-    let w = a .w in
-    let m = zone .given .0 .0 in
-    let k = known-told .given in
-    let g : SFits w16 m = record { sfits = omega arith } in
+    let e = c .before .before .before .before .before in
+    let z = c .before .before .zone .given in
+    let k = c .before .known-told .given in
+    let g : SFits w16 (z .0 .0) = record { sfits = omega arith } in
     let f : SFits w64 (c .seconds .result) = record { sfits = c .seconds .ok } in
-    let s : c .seconds .result ≡ seconds (localSeconds w) m = c .seconds .ensures ∙ rw (toZ-ofZ g, day-number .ensures .0) in
-    ap At (toZ-ofZ f ∙ s) ∙ ap (λ z. inZone (localSeconds w) z) (sym (zone .given .1))
-    ∙ in-zone w (day-known (c .before .before .before .before .before .before .before .before .before .before .before .before)) (time-known (c .before .before .before .before .before .before .before .before .before .before))
-    (ap (λ n. nameTrue (a .w .name) n) (sym (day-number .ensures .0)) ∙ sym (name-true .ensures) ∙ not-false _ (if3 .left))
+    ap At (toZ-ofZ f ∙ c .seconds .ensures ∙ rw (toZ-ofZ g, c .before .before .before .before .local-seconds .ensures .0, e .before .before .day-number .ensures .0))
+    ∙ in-zone e _ (z .1)
 
 returns-5 : tie.Need-returns-5
-returns-5 c =
-    let a = c .before .before .before .before .before .before .before .before .before .before .before .before .args in
-    let day-number = c .before .before .before .before .before .before .before .day-number in
-    let name-true = c .before .before .before .before .before .before .name-true in
-    let if3 = c .before .before .before .before .before .if3 in
-    let w = a .w in
-    ap (λ z. inZone (localSeconds w) z) (sym (c .enum-told .given .1)) ∙ in-zone w (day-known (c .before .before .before .before .before .before .before .before .before .before)) (time-known (c .before .before .before .before .before .before .before .before))
-    (ap (λ n. nameTrue (a .w .name) n) (sym (day-number .ensures .0)) ∙ sym (name-true .ensures) ∙ not-false _ (if3 .left))
+returns-5 c = in-zone (c .before .before .before) _ (c .enum-told .given .1)
 
 pub moment-of-spec : {M : Type 1} → statement M
 moment-of-spec =
     tie.close
-    (tie.spec
-    day-exists-requires
-    returns
-    time-exists-requires
-    returns-2
-    day-number-requires
-    name-true-requires
-    returns-3
-    mul-local
-    mul-local-2
-    add-local
-    mul-local-3
-    add-local-2
-    add-local-3
-    enum-known-zone
-    seconds-requires
-    enum-told
-    returns-4
-    returns-5)
+    (tie.spec (λ c κs. search needs) returns (λ c κs. search needs) returns-2 day-number-requires (λ c κs. search needs) returns-3 local-seconds-requires
+    (λ c. search needs) (λ c κs. search needs) (λ c. search needs) returns-4 returns-5)

@@ -7,9 +7,6 @@ use Rattle.dates.proofs.MomentLaws.{sixty-fits, seconds-fit}
 use Rattle.dates.proofs.moment.seconds.Statement.{statement}
 use Rattle.dates.proofs.moment.seconds.Tie as tie
 
-cast-result : tie.Need-cast-result
-cast-result c = search needs
-
 cast-result-2 : tie.Need-cast-result-2
 cast-result-2 c = let f = c .fits .minutes in rw (toZ-ofZ f) (sfits-widen {w = w16} tt f)
 
@@ -43,4 +40,4 @@ returns c =
     )
 
 pub seconds-spec : {M : Type 1} → statement M
-seconds-spec = tie.close (tie.spec cast-result cast-result-2 mul-result sub-result returns)
+seconds-spec = tie.close (tie.spec (λ c. search needs) cast-result-2 mul-result sub-result returns)

@@ -1,17 +1,20 @@
 -- `dates::moment::time_exists` meets its contract. Assumes nothing.
-use native.Mathlib.Omega.{arith}
-use Rattle.dates.proofs.MomentLaws.{no-hour, no-minute, time-in-day}
+use borrow.Author.Tests.{le-leb, lt-leb}
+use Rattle.dates.specs.Believed.Answers.{timeExists}
 use Rattle.dates.proofs.moment.time_exists.Statement.{statement}
 use Rattle.dates.proofs.moment.time_exists.Tie as tie
 
 returns : tie.Need-returns
-returns c = let a = c .before .args in no-hour (a .hour) (a .minute) (a .second) (omega arith)
+unfolding timeExists
+returns c = rw (lt-leb _ 23 (c .if1 .taken))
 
 returns-2 : tie.Need-returns-2
-returns-2 c = let a = c .before .before .args in no-minute (a .hour) (a .minute) (a .second) (omega arith) (omega arith)
+unfolding timeExists
+returns-2 c = rw (le-leb _ 23 (c .before .if1 .left), lt-leb _ 59 (c .if2 .taken))
 
 returns-3 : tie.Need-returns-3
-returns-3 c = let a = c .before .before .args in time-in-day (a .hour) (a .minute) (a .second) (omega arith) (omega arith)
+unfolding timeExists
+returns-3 c = rw (le-leb _ 23 (c .before .if1 .left), le-leb _ 59 (c .if2 .left))
 
 pub time-exists-spec : {M : Type 1} → statement M
 time-exists-spec = tie.close (tie.spec returns returns-2 returns-3)

@@ -22,12 +22,6 @@ abbrev μ-loop : tie.MeasureT-loop
 loop-holds : tie.Need-loop-holds Inv-loop μ-loop
 loop-holds c = (omega arith, c .before .before .before .pre, sym (zero-add _))
 
-mul-end : tie.Need-mul-end Inv-loop μ-loop
-mul-end c = search needs
-
-shared-slice-read-end : tie.Need-shared-slice-read-end Inv-loop μ-loop
-shared-slice-read-end c = search needs
-
 sub-called : tie.Need-sub-called Inv-loop μ-loop
 sub-called c =
     let a = c .before .before .before .before .before .before .args in
@@ -52,9 +46,6 @@ part-called-end c =
     let r = row (length (a .text .now)) (l .start) (a .ends .now) (l .i) (loop-test .taken) (l .inv .1) in
     r .within
 
-called-requires : tie.Need-called-requires Inv-loop μ-loop
-called-requires c κs = search needs
-
 returns : tie.Need-returns Inv-loop μ-loop
 returns c =
     let a = c .before .before .before .before .before .before .before .before .before .args in
@@ -62,12 +53,6 @@ returns c =
     let loop-test = c .before .before .before .before .loop-test in
     let called = c .before .called in
     sym (l .inv .2 ∙ row-found (a .text .now) (l .start) (a .ends .now) (a .name .now) (l .i) (loop-test .taken) (sym (called .ensures) ∙ c .if1 .taken))
-
-add-i : tie.Need-add-i Inv-loop μ-loop
-add-i c = search needs
-
-loop-less : tie.Need-loop-less Inv-loop μ-loop
-loop-less c = search needs
 
 loop-again : tie.Need-loop-again Inv-loop μ-loop
 loop-again c =
@@ -87,18 +72,5 @@ returns-2 c =
 pub find-spec : {M : Type 1} → statement M
 find-spec =
     tie.close
-    (tie.spec
-    Inv-loop
-    μ-loop
-    loop-holds
-    mul-end
-    shared-slice-read-end
-    sub-called
-    part-called-start
-    part-called-end
-    called-requires
-    returns
-    add-i
-    loop-less
-    loop-again
-    returns-2)
+    (tie.spec Inv-loop μ-loop loop-holds (λ c. search needs) (λ c. search needs) sub-called part-called-start part-called-end (λ c κs. search needs) returns
+    (λ c. search needs) (λ c. search needs) loop-again returns-2)

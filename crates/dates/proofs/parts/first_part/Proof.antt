@@ -5,21 +5,6 @@ use Rattle.dates.proofs.PartLaws.{first-run, first-single}
 use Rattle.dates.proofs.parts.first_part.Statement.{statement}
 use Rattle.dates.proofs.parts.first_part.Tie as tie
 
-shared-slice-read-key-of : tie.Need-shared-slice-read-key-of
-shared-slice-read-key-of c = search needs
-
-key-of-requires : tie.Need-key-of-requires
-key-of-requires c κs = search needs
-
-is-run-requires : tie.Need-is-run-requires
-is-run-requires c κs = search needs
-
-add-run-end : tie.Need-add-run-end
-add-run-end c = search needs
-
-run-end-requires : tie.Need-run-end-requires
-run-end-requires c κs = search needs
-
 returns : tie.Need-returns
 returns c =
     let a = c .before .before .before .before .before .before .args in
@@ -28,9 +13,6 @@ returns c =
     let is-run = c .before .before .is-run in
     let if1 = c .before .if1 in
     first-run (a .classes .now) (a .text .now) (a .at) (a .end) (key-of .result) (p .0) (p .1) (sym (key-of .ensures)) (c .run-end .result) (sym (is-run .ensures) ∙ if1 .taken) (c .run-end .ensures)
-
-add-t11 : tie.Need-add-t11
-add-t11 c = search needs
 
 returns-2 : tie.Need-returns-2
 returns-2 c =
@@ -43,12 +25,4 @@ returns-2 c =
 pub first-part-spec : {M : Type 1} → statement M
 first-part-spec =
     tie.close
-    (tie.spec
-    shared-slice-read-key-of
-    key-of-requires
-    is-run-requires
-    add-run-end
-    run-end-requires
-    returns
-    add-t11
-    returns-2)
+    (tie.spec (λ c. search needs) (λ c κs. search needs) (λ c κs. search needs) (λ c. search needs) (λ c κs. search needs) returns (λ c. search needs) returns-2)

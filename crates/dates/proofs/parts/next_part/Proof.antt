@@ -9,26 +9,8 @@ use Rattle.dates.proofs.parts.next_part.Tie as tie
 found-symbol : (c : tie.After-class) → (let f = c .class .given .0 in let a = c .before .before .before .before .before .args in SymbolAt (a .classes .now) (a .text .now) (a .end) (f .0) (f .1 .0) (f .1 .1 .0))
 found-symbol c = let a = c .before .before .before .before .before .args in found (a .classes .now) (a .text .now) (a .end) (rw (c .class .given .1) at (c .before .before .next-by .ensures))
 
-first-part-requires : tie.Need-first-part-requires
-first-part-requires c κs = search needs
-
-returns : tie.Need-returns
-returns c = search needs
-
-next-by-requires : tie.Need-next-by-requires
-next-by-requires c κs = search needs
-
-enum-known-class : tie.Need-enum-known-class
-enum-known-class c = search needs
-
 first-part-requires-2 : tie.Need-first-part-requires-2
 first-part-requires-2 c κs = let x = found-symbol (c .before .before) in (x .starts, x .within)
-
-enum-told : tie.Need-enum-told
-enum-told c = search needs
-
-enum-told-2 : tie.Need-enum-told-2
-enum-told-2 c = search needs
 
 returns-2 : tie.Need-returns-2
 returns-2 c =
@@ -62,15 +44,5 @@ returns-5 c =
 pub next-part-spec : {M : Type 1} → statement M
 next-part-spec =
     tie.close
-    (tie.spec
-    first-part-requires
-    returns
-    next-by-requires
-    enum-known-class
-    first-part-requires-2
-    enum-told
-    enum-told-2
-    returns-2
-    returns-3
-    returns-4
-    returns-5)
+    (tie.spec (λ c κs. search needs) (λ c. search needs) (λ c κs. search needs) (λ c. search needs) first-part-requires-2 (λ c. search needs)
+    (λ c. search needs) returns-2 returns-3 returns-4 returns-5)

@@ -16,15 +16,6 @@ Inv-loop classes text at end key p₀ p =
 abbrev μ-loop : tie.MeasureT-loop
 μ-loop classes text at end key p₀ p = end - p
 
-loop-holds : tie.Need-loop-holds Inv-loop μ-loop
-loop-holds c = search needs
-
-shared-slice-read-key-of : tie.Need-shared-slice-read-key-of Inv-loop μ-loop
-shared-slice-read-key-of c = search needs
-
-key-of-requires : tie.Need-key-of-requires Inv-loop μ-loop
-key-of-requires c κs = search needs
-
 returns : tie.Need-returns Inv-loop μ-loop
 returns c =
     let a = c .before .before .before .before .before .before .args in
@@ -35,12 +26,6 @@ returns c =
     let s : span (a .classes .now) (a .key) (part (a .text .now) (l .p) (a .end)) ≡ 0 =
     span-other (a .classes .now) (a .key) (a .text .now) (l .p) (a .end) (loop-test .taken) (p .inside) (λ e. c .if1 .taken (key-of .ensures ∙ e)) in
     record { is = omega (arith, l .inv .2, s); from = l .inv .0; within = l .inv .1 }
-
-add-p : tie.Need-add-p Inv-loop μ-loop
-add-p c = search needs
-
-loop-less : tie.Need-loop-less Inv-loop μ-loop
-loop-less c = search needs
 
 loop-again : tie.Need-loop-again Inv-loop μ-loop
 loop-again c =
@@ -65,14 +50,5 @@ returns-2 c =
 pub run-end-spec : {M : Type 1} → statement M
 run-end-spec =
     tie.close
-    (tie.spec
-    Inv-loop
-    μ-loop
-    loop-holds
-    shared-slice-read-key-of
-    key-of-requires
-    returns
-    add-p
-    loop-less
-    loop-again
+    (tie.spec Inv-loop μ-loop (λ c. search needs) (λ c. search needs) (λ c κs. search needs) returns (λ c. search needs) (λ c. search needs) loop-again
     returns-2)
