@@ -52,919 +52,9 @@ abbrev walk-record-below : ℕ → In 3 walk-record-kinds.ps
 walk-record-below t =
     and 3 walk-record-kinds.ps (falls 3 walk-record-kinds.ps _<_ μ-walk-record t) walk-record.Pre
 
-abbrev walk-Inv-loop : walk-lts.InvT-loop
-walk-Inv-loop classes store text start around out₀ here₀ levels₀ coming₀ out here levels coming = Walking classes store text start around here₀ out₀ out here levels coming
-
-abbrev walk-μ-loop : walk-lts.MeasureT-loop
-walk-μ-loop classes store text start around out₀ here₀ levels₀ coming₀ out here levels coming = behind (length text) coming
-
-walk-next-by-requires : (t : ℕ) → walk-lts.Need-next-by-requires (
-  next-by-reads.Asked,
-  next-by-reads.Learnt,
-  joined-reads.Asked,
-  joined-reads.Learnt,
-  include-at-reads.Asked,
-  include-at-reads.Learnt,
-  is-colon-reads.Asked,
-  is-colon-reads.Learnt,
-  levels-after-reads.Asked,
-  levels-after-reads.Learnt,
-  write-on-reads.Asked,
-  write-on-reads.Learnt,
-  spot-of-reads.Asked,
-  spot-of-reads.Learnt,
-  opened-by-reads.Asked,
-  opened-by-reads.Learnt,
-  walk-record-below t,
-  walk-record.Post,
-  include-end-reads.Asked,
-  include-end-reads.Learnt,
-) (walk-at t) walk.Post walk-Inv-loop walk-μ-loop
-walk-next-by-requires t c κs = search needs
-
-walk-loop-holds : (t : ℕ) → walk-lts.Need-loop-holds (
-  next-by-reads.Asked,
-  next-by-reads.Learnt,
-  joined-reads.Asked,
-  joined-reads.Learnt,
-  include-at-reads.Asked,
-  include-at-reads.Learnt,
-  is-colon-reads.Asked,
-  is-colon-reads.Learnt,
-  levels-after-reads.Asked,
-  levels-after-reads.Learnt,
-  write-on-reads.Asked,
-  write-on-reads.Learnt,
-  spot-of-reads.Asked,
-  spot-of-reads.Learnt,
-  opened-by-reads.Asked,
-  opened-by-reads.Learnt,
-  walk-record-below t,
-  walk-record.Post,
-  include-end-reads.Asked,
-  include-end-reads.Learnt,
-) (walk-at t) walk.Post walk-Inv-loop walk-μ-loop
-walk-loop-holds t c =
-    let a = c .before .before .before .before .args in
-    let p = c .before .before .before .before .pre .1 in
-    walking-first (a .classes .now) (a .store .now) (a .text .now) (a .start) (a .around) (a .stage) (a .out .now) (record { many = 0; typed = 0 }) (p .short) (p .few) refl refl (c .next-by .ensures)
-
-walk-enum-known-coming : (t : ℕ) → walk-lts.Need-enum-known-coming (
-  next-by-reads.Asked,
-  next-by-reads.Learnt,
-  joined-reads.Asked,
-  joined-reads.Learnt,
-  include-at-reads.Asked,
-  include-at-reads.Learnt,
-  is-colon-reads.Asked,
-  is-colon-reads.Learnt,
-  levels-after-reads.Asked,
-  levels-after-reads.Learnt,
-  write-on-reads.Asked,
-  write-on-reads.Learnt,
-  spot-of-reads.Asked,
-  spot-of-reads.Learnt,
-  opened-by-reads.Asked,
-  opened-by-reads.Learnt,
-  walk-record-below t,
-  walk-record.Post,
-  include-end-reads.Asked,
-  include-end-reads.Learnt,
-) (walk-at t) walk.Post walk-Inv-loop walk-μ-loop
-walk-enum-known-coming t c = search needs
-
-walk-joined-requires : (t : ℕ) → walk-lts.Need-joined-requires (
-  next-by-reads.Asked,
-  next-by-reads.Learnt,
-  joined-reads.Asked,
-  joined-reads.Learnt,
-  include-at-reads.Asked,
-  include-at-reads.Learnt,
-  is-colon-reads.Asked,
-  is-colon-reads.Learnt,
-  levels-after-reads.Asked,
-  levels-after-reads.Learnt,
-  write-on-reads.Asked,
-  write-on-reads.Learnt,
-  spot-of-reads.Asked,
-  spot-of-reads.Learnt,
-  opened-by-reads.Asked,
-  opened-by-reads.Learnt,
-  walk-record-below t,
-  walk-record.Post,
-  include-end-reads.Asked,
-  include-end-reads.Learnt,
-) (walk-at t) walk.Post walk-Inv-loop walk-μ-loop
-walk-joined-requires t c κs = search needs
-
-walk-same-length : (t : ℕ) → walk-lts.Need-same-length (
-  next-by-reads.Asked,
-  next-by-reads.Learnt,
-  joined-reads.Asked,
-  joined-reads.Learnt,
-  include-at-reads.Asked,
-  include-at-reads.Learnt,
-  is-colon-reads.Asked,
-  is-colon-reads.Learnt,
-  levels-after-reads.Asked,
-  levels-after-reads.Learnt,
-  write-on-reads.Asked,
-  write-on-reads.Learnt,
-  spot-of-reads.Asked,
-  spot-of-reads.Learnt,
-  opened-by-reads.Asked,
-  opened-by-reads.Learnt,
-  walk-record-below t,
-  walk-record.Post,
-  include-end-reads.Asked,
-  include-end-reads.Learnt,
-) (walk-at t) walk.Post walk-Inv-loop walk-μ-loop
-walk-same-length t c = c .before .before .loop .inv .same-length
-
-walk-returns : (t : ℕ) → walk-lts.Need-returns (
-  next-by-reads.Asked,
-  next-by-reads.Learnt,
-  joined-reads.Asked,
-  joined-reads.Learnt,
-  include-at-reads.Asked,
-  include-at-reads.Learnt,
-  is-colon-reads.Asked,
-  is-colon-reads.Learnt,
-  levels-after-reads.Asked,
-  levels-after-reads.Learnt,
-  write-on-reads.Asked,
-  write-on-reads.Learnt,
-  spot-of-reads.Asked,
-  spot-of-reads.Learnt,
-  opened-by-reads.Asked,
-  opened-by-reads.Learnt,
-  walk-record-below t,
-  walk-record.Post,
-  include-end-reads.Asked,
-  include-end-reads.Learnt,
-) (walk-at t) walk.Post walk-Inv-loop walk-μ-loop
-walk-returns t c =
-    rw (c .joined .ensures) (walking-none _ _ _ _ _ _ _ (c .before .before .loop .inv) (none-comes (c .before .before .loop .coming) (c .before .match .keys2)))
-
-walk-include-at-requires : (t : ℕ) → walk-lts.Need-include-at-requires (
-  next-by-reads.Asked,
-  next-by-reads.Learnt,
-  joined-reads.Asked,
-  joined-reads.Learnt,
-  include-at-reads.Asked,
-  include-at-reads.Learnt,
-  is-colon-reads.Asked,
-  is-colon-reads.Learnt,
-  levels-after-reads.Asked,
-  levels-after-reads.Learnt,
-  write-on-reads.Asked,
-  write-on-reads.Learnt,
-  spot-of-reads.Asked,
-  spot-of-reads.Learnt,
-  opened-by-reads.Asked,
-  opened-by-reads.Learnt,
-  walk-record-below t,
-  walk-record.Post,
-  include-end-reads.Asked,
-  include-end-reads.Learnt,
-) (walk-at t) walk.Post walk-Inv-loop walk-μ-loop
-walk-include-at-requires t c κs = search needs
-
-walk-enum-told : (t : ℕ) → walk-lts.Need-enum-told (
-  next-by-reads.Asked,
-  next-by-reads.Learnt,
-  joined-reads.Asked,
-  joined-reads.Learnt,
-  include-at-reads.Asked,
-  include-at-reads.Learnt,
-  is-colon-reads.Asked,
-  is-colon-reads.Learnt,
-  levels-after-reads.Asked,
-  levels-after-reads.Learnt,
-  write-on-reads.Asked,
-  write-on-reads.Learnt,
-  spot-of-reads.Asked,
-  spot-of-reads.Learnt,
-  opened-by-reads.Asked,
-  opened-by-reads.Learnt,
-  walk-record-below t,
-  walk-record.Post,
-  include-end-reads.Asked,
-  include-end-reads.Learnt,
-) (walk-at t) walk.Post walk-Inv-loop walk-μ-loop
-walk-enum-told t c = search needs
-
-walk-next-by-requires-2 : (t : ℕ) → walk-lts.Need-next-by-requires-2 (
-  next-by-reads.Asked,
-  next-by-reads.Learnt,
-  joined-reads.Asked,
-  joined-reads.Learnt,
-  include-at-reads.Asked,
-  include-at-reads.Learnt,
-  is-colon-reads.Asked,
-  is-colon-reads.Learnt,
-  levels-after-reads.Asked,
-  levels-after-reads.Learnt,
-  write-on-reads.Asked,
-  write-on-reads.Learnt,
-  spot-of-reads.Asked,
-  spot-of-reads.Learnt,
-  opened-by-reads.Asked,
-  opened-by-reads.Learnt,
-  walk-record-below t,
-  walk-record.Post,
-  include-end-reads.Asked,
-  include-end-reads.Learnt,
-) (walk-at t) walk.Post walk-Inv-loop walk-μ-loop
-walk-next-by-requires-2 t c κs = search needs
-
-walk-is-colon-requires : (t : ℕ) → walk-lts.Need-is-colon-requires (
-  next-by-reads.Asked,
-  next-by-reads.Learnt,
-  joined-reads.Asked,
-  joined-reads.Learnt,
-  include-at-reads.Asked,
-  include-at-reads.Learnt,
-  is-colon-reads.Asked,
-  is-colon-reads.Learnt,
-  levels-after-reads.Asked,
-  levels-after-reads.Learnt,
-  write-on-reads.Asked,
-  write-on-reads.Learnt,
-  spot-of-reads.Asked,
-  spot-of-reads.Learnt,
-  opened-by-reads.Asked,
-  opened-by-reads.Learnt,
-  walk-record-below t,
-  walk-record.Post,
-  include-end-reads.Asked,
-  include-end-reads.Learnt,
-) (walk-at t) walk.Post walk-Inv-loop walk-μ-loop
-walk-is-colon-requires t c κs = search needs
-
-walk-levels-after-requires : (t : ℕ) → walk-lts.Need-levels-after-requires (
-  next-by-reads.Asked,
-  next-by-reads.Learnt,
-  joined-reads.Asked,
-  joined-reads.Learnt,
-  include-at-reads.Asked,
-  include-at-reads.Learnt,
-  is-colon-reads.Asked,
-  is-colon-reads.Learnt,
-  levels-after-reads.Asked,
-  levels-after-reads.Learnt,
-  write-on-reads.Asked,
-  write-on-reads.Learnt,
-  spot-of-reads.Asked,
-  spot-of-reads.Learnt,
-  opened-by-reads.Asked,
-  opened-by-reads.Learnt,
-  walk-record-below t,
-  walk-record.Post,
-  include-end-reads.Asked,
-  include-end-reads.Learnt,
-) (walk-at t) walk.Post walk-Inv-loop walk-μ-loop
-walk-levels-after-requires t c κs = low _ _ _ _ _ _ _ (c .before .before .before .before .before .before .before .before .loop .inv)
-
-walk-write-on-requires : (t : ℕ) → walk-lts.Need-write-on-requires (
-  next-by-reads.Asked,
-  next-by-reads.Learnt,
-  joined-reads.Asked,
-  joined-reads.Learnt,
-  include-at-reads.Asked,
-  include-at-reads.Learnt,
-  is-colon-reads.Asked,
-  is-colon-reads.Learnt,
-  levels-after-reads.Asked,
-  levels-after-reads.Learnt,
-  write-on-reads.Asked,
-  write-on-reads.Learnt,
-  spot-of-reads.Asked,
-  spot-of-reads.Learnt,
-  opened-by-reads.Asked,
-  opened-by-reads.Learnt,
-  walk-record-below t,
-  walk-record.Post,
-  include-end-reads.Asked,
-  include-end-reads.Learnt,
-) (walk-at t) walk.Post walk-Inv-loop walk-μ-loop
-walk-write-on-requires t c κs =
-    let l = c .before .before .before .before .before .before .before .before .before .before .loop .inv in
-    let p = c .before .before .before .before .before .before .before .before .before .before .before .before .before .before .before .pre .1 in
-    let x = comes _ _ _ _ _ _ _ l (c .before .before .before .before .before .before .before .before .coming .given .1) in
-    (x .starts, x .within, omega (arith, p .short), omega (arith, room _ _ _ _ _ _ _ l (p .counted), l .few))
-
-walk-loop-less : (t : ℕ) → walk-lts.Need-loop-less (
-  next-by-reads.Asked,
-  next-by-reads.Learnt,
-  joined-reads.Asked,
-  joined-reads.Learnt,
-  include-at-reads.Asked,
-  include-at-reads.Learnt,
-  is-colon-reads.Asked,
-  is-colon-reads.Learnt,
-  levels-after-reads.Asked,
-  levels-after-reads.Learnt,
-  write-on-reads.Asked,
-  write-on-reads.Learnt,
-  spot-of-reads.Asked,
-  spot-of-reads.Learnt,
-  opened-by-reads.Asked,
-  opened-by-reads.Learnt,
-  walk-record-below t,
-  walk-record.Post,
-  include-end-reads.Asked,
-  include-end-reads.Learnt,
-) (walk-at t) walk.Post walk-Inv-loop walk-μ-loop
-walk-loop-less t c =
-    let e = c .before .before .before .before .before .before .before .before .before .before .before .coming .given .1 in
-    behind-less (comes _ _ _ _ _ _ _ (c .before .before .before .before .before .before .before .before .before .before .before .before .before .loop .inv) e) e (c .before .before .before .before .before .before .next-by2 .ensures)
-
-walk-loop-again : (t : ℕ) → walk-lts.Need-loop-again (
-  next-by-reads.Asked,
-  next-by-reads.Learnt,
-  joined-reads.Asked,
-  joined-reads.Learnt,
-  include-at-reads.Asked,
-  include-at-reads.Learnt,
-  is-colon-reads.Asked,
-  is-colon-reads.Learnt,
-  levels-after-reads.Asked,
-  levels-after-reads.Learnt,
-  write-on-reads.Asked,
-  write-on-reads.Learnt,
-  spot-of-reads.Asked,
-  spot-of-reads.Learnt,
-  opened-by-reads.Asked,
-  opened-by-reads.Learnt,
-  walk-record-below t,
-  walk-record.Post,
-  include-end-reads.Asked,
-  include-end-reads.Learnt,
-) (walk-at t) walk.Post walk-Inv-loop walk-μ-loop
-walk-loop-again t c =
-    walking-symbol _ _ _ _ _ _ _ (c .before .before .before .before .before .before .before .before .before .before .before .before .before .loop .inv) (c .before .before .before .before .before .before .before .before .before .before .before .coming .given .1) (c .before .before .before .before .before .before .before .before .before .before .before .before .before .before .before .before .before .before .pre .1 .short) (rw (c .before .before .before .before .before .before .before .enum-told .given .1) at (c .before .before .before .before .before .before .before .before .before .include-at .ensures))
-    (c .before .before .before .before .before .before .next-by2 .ensures) (c .before .before .before .before .before .is-colon .ensures) (c .before .before .before .before .levels-after .ensures) (c .before .before .write-on .kept .1 .1 .1 .1 .1 .1 .1 .0) (c .before .before .write-on .ensures)
-
-walk-enum-known-behind : (t : ℕ) → walk-lts.Need-enum-known-behind (
-  next-by-reads.Asked,
-  next-by-reads.Learnt,
-  joined-reads.Asked,
-  joined-reads.Learnt,
-  include-at-reads.Asked,
-  include-at-reads.Learnt,
-  is-colon-reads.Asked,
-  is-colon-reads.Learnt,
-  levels-after-reads.Asked,
-  levels-after-reads.Learnt,
-  write-on-reads.Asked,
-  write-on-reads.Learnt,
-  spot-of-reads.Asked,
-  spot-of-reads.Learnt,
-  opened-by-reads.Asked,
-  opened-by-reads.Learnt,
-  walk-record-below t,
-  walk-record.Post,
-  include-end-reads.Asked,
-  include-end-reads.Learnt,
-) (walk-at t) walk.Post walk-Inv-loop walk-μ-loop
-walk-enum-known-behind t c = search needs
-
-walk-spot-of-requires : (t : ℕ) → walk-lts.Need-spot-of-requires (
-  next-by-reads.Asked,
-  next-by-reads.Learnt,
-  joined-reads.Asked,
-  joined-reads.Learnt,
-  include-at-reads.Asked,
-  include-at-reads.Learnt,
-  is-colon-reads.Asked,
-  is-colon-reads.Learnt,
-  levels-after-reads.Asked,
-  levels-after-reads.Learnt,
-  write-on-reads.Asked,
-  write-on-reads.Learnt,
-  spot-of-reads.Asked,
-  spot-of-reads.Learnt,
-  opened-by-reads.Asked,
-  opened-by-reads.Learnt,
-  walk-record-below t,
-  walk-record.Post,
-  include-end-reads.Asked,
-  include-end-reads.Learnt,
-) (walk-at t) walk.Post walk-Inv-loop walk-μ-loop
-walk-spot-of-requires t c κs = (c .before .before .before .before .before .before .before .before .before .before .before .before .pre .1 .low, low _ _ _ _ _ _ _ (c .before .before .before .before .before .before .before .loop .inv))
-
-walk-opened-by-requires : (t : ℕ) → walk-lts.Need-opened-by-requires (
-  next-by-reads.Asked,
-  next-by-reads.Learnt,
-  joined-reads.Asked,
-  joined-reads.Learnt,
-  include-at-reads.Asked,
-  include-at-reads.Learnt,
-  is-colon-reads.Asked,
-  is-colon-reads.Learnt,
-  levels-after-reads.Asked,
-  levels-after-reads.Learnt,
-  write-on-reads.Asked,
-  write-on-reads.Learnt,
-  spot-of-reads.Asked,
-  spot-of-reads.Learnt,
-  opened-by-reads.Asked,
-  opened-by-reads.Learnt,
-  walk-record-below t,
-  walk-record.Post,
-  include-end-reads.Asked,
-  include-end-reads.Learnt,
-) (walk-at t) walk.Post walk-Inv-loop walk-μ-loop
-walk-opened-by-requires t c κs = omega (arith, c .before .before .before .before .before .before .before .before .before .before .before .before .before .pre .1 .short)
-
-walk-enum-known-i : (t : ℕ) → walk-lts.Need-enum-known-i (
-  next-by-reads.Asked,
-  next-by-reads.Learnt,
-  joined-reads.Asked,
-  joined-reads.Learnt,
-  include-at-reads.Asked,
-  include-at-reads.Learnt,
-  is-colon-reads.Asked,
-  is-colon-reads.Learnt,
-  levels-after-reads.Asked,
-  levels-after-reads.Learnt,
-  write-on-reads.Asked,
-  write-on-reads.Learnt,
-  spot-of-reads.Asked,
-  spot-of-reads.Learnt,
-  opened-by-reads.Asked,
-  opened-by-reads.Learnt,
-  walk-record-below t,
-  walk-record.Post,
-  include-end-reads.Asked,
-  include-end-reads.Learnt,
-) (walk-at t) walk.Post walk-Inv-loop walk-μ-loop
-walk-enum-known-i t c = search needs
-
-walk-enum-told-2 : (t : ℕ) → walk-lts.Need-enum-told-2 (
-  next-by-reads.Asked,
-  next-by-reads.Learnt,
-  joined-reads.Asked,
-  joined-reads.Learnt,
-  include-at-reads.Asked,
-  include-at-reads.Learnt,
-  is-colon-reads.Asked,
-  is-colon-reads.Learnt,
-  levels-after-reads.Asked,
-  levels-after-reads.Learnt,
-  write-on-reads.Asked,
-  write-on-reads.Learnt,
-  spot-of-reads.Asked,
-  spot-of-reads.Learnt,
-  opened-by-reads.Asked,
-  opened-by-reads.Learnt,
-  walk-record-below t,
-  walk-record.Post,
-  include-end-reads.Asked,
-  include-end-reads.Learnt,
-) (walk-at t) walk.Post walk-Inv-loop walk-μ-loop
-walk-enum-told-2 t c = search needs
-
-walk-same-length-2 : (t : ℕ) → walk-lts.Need-same-length-2 (
-  next-by-reads.Asked,
-  next-by-reads.Learnt,
-  joined-reads.Asked,
-  joined-reads.Learnt,
-  include-at-reads.Asked,
-  include-at-reads.Learnt,
-  is-colon-reads.Asked,
-  is-colon-reads.Learnt,
-  levels-after-reads.Asked,
-  levels-after-reads.Learnt,
-  write-on-reads.Asked,
-  write-on-reads.Learnt,
-  spot-of-reads.Asked,
-  spot-of-reads.Learnt,
-  opened-by-reads.Asked,
-  opened-by-reads.Learnt,
-  walk-record-below t,
-  walk-record.Post,
-  include-end-reads.Asked,
-  include-end-reads.Learnt,
-) (walk-at t) walk.Post walk-Inv-loop walk-μ-loop
-walk-same-length-2 t c = c .before .before .before .before .before .before .before .before .before .before .before .loop .inv .same-length
-
-walk-returns-2 : (t : ℕ) → walk-lts.Need-returns-2 (
-  next-by-reads.Asked,
-  next-by-reads.Learnt,
-  joined-reads.Asked,
-  joined-reads.Learnt,
-  include-at-reads.Asked,
-  include-at-reads.Learnt,
-  is-colon-reads.Asked,
-  is-colon-reads.Learnt,
-  levels-after-reads.Asked,
-  levels-after-reads.Learnt,
-  write-on-reads.Asked,
-  write-on-reads.Learnt,
-  spot-of-reads.Asked,
-  spot-of-reads.Learnt,
-  opened-by-reads.Asked,
-  opened-by-reads.Learnt,
-  walk-record-below t,
-  walk-record.Post,
-  include-end-reads.Asked,
-  include-end-reads.Learnt,
-) (walk-at t) walk.Post walk-Inv-loop walk-μ-loop
-walk-returns-2 t c =
-    walking-nowhere _ _ _ _ _ _ _ (c .before .before .before .before .before .before .before .before .before .before .before .loop .inv) (c .before .before .before .before .before .before .before .before .before .coming .given .1) (rw (c .before .before .before .before .before .behind .given .1) at (c .before .before .before .before .before .before .before .include-at .ensures)) (c .before .before .before .spot-of .ensures .0)
-    (rw (c .enum-told2 .given .1) at (c .before .before .opened-by .ensures))
-
-walk-walk-record-requires : (t : ℕ) → walk-lts.Need-walk-record-requires (
-  next-by-reads.Asked,
-  next-by-reads.Learnt,
-  joined-reads.Asked,
-  joined-reads.Learnt,
-  include-at-reads.Asked,
-  include-at-reads.Learnt,
-  is-colon-reads.Asked,
-  is-colon-reads.Learnt,
-  levels-after-reads.Asked,
-  levels-after-reads.Learnt,
-  write-on-reads.Asked,
-  write-on-reads.Learnt,
-  spot-of-reads.Asked,
-  spot-of-reads.Learnt,
-  opened-by-reads.Asked,
-  opened-by-reads.Learnt,
-  walk-record-below t,
-  walk-record.Post,
-  include-end-reads.Asked,
-  include-end-reads.Learnt,
-) (walk-at t) walk.Post walk-Inv-loop walk-μ-loop
-walk-walk-record-requires t c κs =
-    let l = c .before .before .before .before .before .before .before .before .before .before .before .before .before .loop .inv in
-    let p = c .before .before .before .before .before .before .before .before .before .before .before .before .before .before .before .before .before .before .pre in (
-      omega (arith, p .0, p .1 .few, l .from, l .few),
-      record {
-        classes-are = p .1 .classes-are;
-        inside =
-            record-inside _ _ _ _ _ _ _ l (c .before .before .before .before .before .before .before .before .before .before .before .coming .given .1) (rw (c .before .before .before .before .before .before .before .behind .given .1) at (c .before .before .before .before .before .before .before .before .before .include-at .ensures)) (c .before .before .before .before .before .spot-of .ensures .0)
-            (rw (c .before .before .i .given .1) at (c .before .before .before .before .opened-by .ensures));
-        few = l .few;
-        counted = room _ _ _ _ _ _ _ l (p .1 .counted);
-      },
-    )
-
-walk-enum-known-walked : (t : ℕ) → walk-lts.Need-enum-known-walked (
-  next-by-reads.Asked,
-  next-by-reads.Learnt,
-  joined-reads.Asked,
-  joined-reads.Learnt,
-  include-at-reads.Asked,
-  include-at-reads.Learnt,
-  is-colon-reads.Asked,
-  is-colon-reads.Learnt,
-  levels-after-reads.Asked,
-  levels-after-reads.Learnt,
-  write-on-reads.Asked,
-  write-on-reads.Learnt,
-  spot-of-reads.Asked,
-  spot-of-reads.Learnt,
-  opened-by-reads.Asked,
-  opened-by-reads.Learnt,
-  walk-record-below t,
-  walk-record.Post,
-  include-end-reads.Asked,
-  include-end-reads.Learnt,
-) (walk-at t) walk.Post walk-Inv-loop walk-μ-loop
-walk-enum-known-walked t c = search needs
-
-walk-enum-told-3 : (t : ℕ) → walk-lts.Need-enum-told-3 (
-  next-by-reads.Asked,
-  next-by-reads.Learnt,
-  joined-reads.Asked,
-  joined-reads.Learnt,
-  include-at-reads.Asked,
-  include-at-reads.Learnt,
-  is-colon-reads.Asked,
-  is-colon-reads.Learnt,
-  levels-after-reads.Asked,
-  levels-after-reads.Learnt,
-  write-on-reads.Asked,
-  write-on-reads.Learnt,
-  spot-of-reads.Asked,
-  spot-of-reads.Learnt,
-  opened-by-reads.Asked,
-  opened-by-reads.Learnt,
-  walk-record-below t,
-  walk-record.Post,
-  include-end-reads.Asked,
-  include-end-reads.Learnt,
-) (walk-at t) walk.Post walk-Inv-loop walk-μ-loop
-walk-enum-told-3 t c = search needs
-
-walk-same-length-3 : (t : ℕ) → walk-lts.Need-same-length-3 (
-  next-by-reads.Asked,
-  next-by-reads.Learnt,
-  joined-reads.Asked,
-  joined-reads.Learnt,
-  include-at-reads.Asked,
-  include-at-reads.Learnt,
-  is-colon-reads.Asked,
-  is-colon-reads.Learnt,
-  levels-after-reads.Asked,
-  levels-after-reads.Learnt,
-  write-on-reads.Asked,
-  write-on-reads.Learnt,
-  spot-of-reads.Asked,
-  spot-of-reads.Learnt,
-  opened-by-reads.Asked,
-  opened-by-reads.Learnt,
-  walk-record-below t,
-  walk-record.Post,
-  include-end-reads.Asked,
-  include-end-reads.Learnt,
-) (walk-at t) walk.Post walk-Inv-loop walk-μ-loop
-walk-same-length-3 t c = c .before .before .before .before .walk-record .kept .1 .1 .1 .1 .1 .0 ∙ c .before .before .before .before .before .before .before .before .before .before .before .before .before .before .before .before .before .before .loop .inv .same-length
-
-walk-returns-3 : (t : ℕ) → walk-lts.Need-returns-3 (
-  next-by-reads.Asked,
-  next-by-reads.Learnt,
-  joined-reads.Asked,
-  joined-reads.Learnt,
-  include-at-reads.Asked,
-  include-at-reads.Learnt,
-  is-colon-reads.Asked,
-  is-colon-reads.Learnt,
-  levels-after-reads.Asked,
-  levels-after-reads.Learnt,
-  write-on-reads.Asked,
-  write-on-reads.Learnt,
-  spot-of-reads.Asked,
-  spot-of-reads.Learnt,
-  opened-by-reads.Asked,
-  opened-by-reads.Learnt,
-  walk-record-below t,
-  walk-record.Post,
-  include-end-reads.Asked,
-  include-end-reads.Learnt,
-) (walk-at t) walk.Post walk-Inv-loop walk-μ-loop
-walk-returns-3 t c =
-    rw (c .enum-told3 .given .1)
-    (walking-stopped _ _ _ _ _ _ _ (c .before .before .before .before .before .before .before .before .before .before .before .before .before .before .before .before .before .before .loop .inv) (c .before .before .before .before .before .before .before .before .before .before .before .before .before .before .before .before .coming .given .1) (rw (c .before .before .before .before .before .before .before .before .before .before .before .before .behind .given .1) at (c .before .before .before .before .before .before .before .before .before .before .before .before .before .before .include-at .ensures)) (c .before .before .before .before .before .before .before .before .before .before .spot-of .ensures .0)
-    (rw (c .before .before .before .before .before .before .before .i .given .1) at (c .before .before .before .before .before .before .before .before .before .opened-by .ensures)) (c .before .before .before .before .before .before .before .before .before .before .spot-of .ensures .1) (rw (c .enum-told3 .given .1) at (c .before .before .before .before .walk-record .ensures)))
-
-walk-include-end-requires : (t : ℕ) → walk-lts.Need-include-end-requires (
-  next-by-reads.Asked,
-  next-by-reads.Learnt,
-  joined-reads.Asked,
-  joined-reads.Learnt,
-  include-at-reads.Asked,
-  include-at-reads.Learnt,
-  is-colon-reads.Asked,
-  is-colon-reads.Learnt,
-  levels-after-reads.Asked,
-  levels-after-reads.Learnt,
-  write-on-reads.Asked,
-  write-on-reads.Learnt,
-  spot-of-reads.Asked,
-  spot-of-reads.Learnt,
-  opened-by-reads.Asked,
-  opened-by-reads.Learnt,
-  walk-record-below t,
-  walk-record.Post,
-  include-end-reads.Asked,
-  include-end-reads.Learnt,
-) (walk-at t) walk.Post walk-Inv-loop walk-μ-loop
-walk-include-end-requires t c κs = search needs
-
-walk-next-by-requires-3 : (t : ℕ) → walk-lts.Need-next-by-requires-3 (
-  next-by-reads.Asked,
-  next-by-reads.Learnt,
-  joined-reads.Asked,
-  joined-reads.Learnt,
-  include-at-reads.Asked,
-  include-at-reads.Learnt,
-  is-colon-reads.Asked,
-  is-colon-reads.Learnt,
-  levels-after-reads.Asked,
-  levels-after-reads.Learnt,
-  write-on-reads.Asked,
-  write-on-reads.Learnt,
-  spot-of-reads.Asked,
-  spot-of-reads.Learnt,
-  opened-by-reads.Asked,
-  opened-by-reads.Learnt,
-  walk-record-below t,
-  walk-record.Post,
-  include-end-reads.Asked,
-  include-end-reads.Learnt,
-) (walk-at t) walk.Post walk-Inv-loop walk-μ-loop
-walk-next-by-requires-3 t c κs = search needs
-
-walk-loop-less-2 : (t : ℕ) → walk-lts.Need-loop-less-2 (
-  next-by-reads.Asked,
-  next-by-reads.Learnt,
-  joined-reads.Asked,
-  joined-reads.Learnt,
-  include-at-reads.Asked,
-  include-at-reads.Learnt,
-  is-colon-reads.Asked,
-  is-colon-reads.Learnt,
-  levels-after-reads.Asked,
-  levels-after-reads.Learnt,
-  write-on-reads.Asked,
-  write-on-reads.Learnt,
-  spot-of-reads.Asked,
-  spot-of-reads.Learnt,
-  opened-by-reads.Asked,
-  opened-by-reads.Learnt,
-  walk-record-below t,
-  walk-record.Post,
-  include-end-reads.Asked,
-  include-end-reads.Learnt,
-) (walk-at t) walk.Post walk-Inv-loop walk-μ-loop
-walk-loop-less-2 t c =
-    let e = c .before .before .before .before .before .before .before .before .before .before .before .before .before .before .before .before .before .before .before .coming .given .1 in
-    behind-falls _ (comes _ _ _ _ _ _ _ (c .before .before .before .before .before .before .before .before .before .before .before .before .before .before .before .before .before .before .before .before .before .loop .inv) e) (c .before .include-end .ensures .1) e (c .next-by3 .ensures)
-
-walk-loop-again-2 : (t : ℕ) → walk-lts.Need-loop-again-2 (
-  next-by-reads.Asked,
-  next-by-reads.Learnt,
-  joined-reads.Asked,
-  joined-reads.Learnt,
-  include-at-reads.Asked,
-  include-at-reads.Learnt,
-  is-colon-reads.Asked,
-  is-colon-reads.Learnt,
-  levels-after-reads.Asked,
-  levels-after-reads.Learnt,
-  write-on-reads.Asked,
-  write-on-reads.Learnt,
-  spot-of-reads.Asked,
-  spot-of-reads.Learnt,
-  opened-by-reads.Asked,
-  opened-by-reads.Learnt,
-  walk-record-below t,
-  walk-record.Post,
-  include-end-reads.Asked,
-  include-end-reads.Learnt,
-) (walk-at t) walk.Post walk-Inv-loop walk-μ-loop
-walk-loop-again-2 t c =
-    walking-opened _ _ _ _ _ _ _ (c .before .before .before .before .before .before .before .before .before .before .before .before .before .before .before .before .before .before .before .before .before .loop .inv) (c .before .before .before .before .before .before .before .before .before .before .before .before .before .before .before .before .before .before .before .coming .given .1) (rw (c .before .before .before .before .before .before .before .before .before .before .before .before .before .before .before .behind .given .1) at (c .before .before .before .before .before .before .before .before .before .before .before .before .before .before .before .before .before .include-at .ensures)) (c .before .before .before .before .before .before .before .before .before .before .before .before .before .spot-of .ensures .0)
-    (rw (c .before .before .before .before .before .before .before .before .before .before .i .given .1) at (c .before .before .before .before .before .before .before .before .before .before .before .before .opened-by .ensures)) (c .before .before .before .before .before .before .before .before .before .before .before .before .before .spot-of .ensures .1) (rw (c .before .before .before .walked .given .1) at (c .before .before .before .before .before .before .before .walk-record .ensures))
-    (c .before .before .before .before .before .before .before .walk-record .kept .1 .1 .1 .1 .1 .0) (c .before .include-end .ensures) (c .next-by3 .ensures)
-
-walk-record-opening-of-requires : (t : ℕ) → walk-record-lts.Need-opening-of-requires (
-  opening-of-reads.Asked,
-  opening-of-reads.Learnt,
-  opened-reads.Asked,
-  opened-reads.Learnt,
-  walk-below t,
-  walk.Post,
-) (walk-record-at t) walk-record.Post
-walk-record-opening-of-requires t c κs = search needs
-
-walk-record-enum-known-number : (t : ℕ) → walk-record-lts.Need-enum-known-number (
-  opening-of-reads.Asked,
-  opening-of-reads.Learnt,
-  opened-reads.Asked,
-  opened-reads.Learnt,
-  walk-below t,
-  walk.Post,
-) (walk-record-at t) walk-record.Post
-walk-record-enum-known-number t c = search needs
-
-walk-record-enum-told : (t : ℕ) → walk-record-lts.Need-enum-told (
-  opening-of-reads.Asked,
-  opening-of-reads.Learnt,
-  opened-reads.Asked,
-  opened-reads.Learnt,
-  walk-below t,
-  walk.Post,
-) (walk-record-at t) walk-record.Post
-walk-record-enum-told t c = search needs
-
-walk-record-mul-at : (t : ℕ) → walk-record-lts.Need-mul-at (
-  opening-of-reads.Asked,
-  opening-of-reads.Learnt,
-  opened-reads.Asked,
-  opened-reads.Learnt,
-  walk-below t,
-  walk.Post,
-) (walk-record-at t) walk-record.Post
-walk-record-mul-at t c = search needs
-
-walk-record-add-list : (t : ℕ) → walk-record-lts.Need-add-list (
-  opening-of-reads.Asked,
-  opening-of-reads.Learnt,
-  opened-reads.Asked,
-  opened-reads.Learnt,
-  walk-below t,
-  walk.Post,
-) (walk-record-at t) walk-record.Post
-walk-record-add-list t c = search needs
-
-walk-record-add-list-2 : (t : ℕ) → walk-record-lts.Need-add-list-2 (
-  opening-of-reads.Asked,
-  opening-of-reads.Learnt,
-  opened-reads.Asked,
-  opened-reads.Learnt,
-  walk-below t,
-  walk.Post,
-) (walk-record-at t) walk-record.Post
-walk-record-add-list-2 t c = search needs
-
-walk-record-sub-list : (t : ℕ) → walk-record-lts.Need-sub-list (
-  opening-of-reads.Asked,
-  opening-of-reads.Learnt,
-  opened-reads.Asked,
-  opened-reads.Learnt,
-  walk-below t,
-  walk.Post,
-) (walk-record-at t) walk-record.Post
-walk-record-sub-list t c = search needs
-
-walk-record-part-list-start : (t : ℕ) → walk-record-lts.Need-part-list-start (
-  opening-of-reads.Asked,
-  opening-of-reads.Learnt,
-  opened-reads.Asked,
-  opened-reads.Learnt,
-  walk-below t,
-  walk.Post,
-) (walk-record-at t) walk-record.Post
-walk-record-part-list-start t c = search needs
-
-walk-record-part-list-end : (t : ℕ) → walk-record-lts.Need-part-list-end (
-  opening-of-reads.Asked,
-  opening-of-reads.Learnt,
-  opened-reads.Asked,
-  opened-reads.Learnt,
-  walk-below t,
-  walk.Post,
-) (walk-record-at t) walk-record.Post
-walk-record-part-list-end t c = search needs
-
-walk-record-opened-requires : (t : ℕ) → walk-record-lts.Need-opened-requires (
-  opening-of-reads.Asked,
-  opening-of-reads.Learnt,
-  opened-reads.Asked,
-  opened-reads.Learnt,
-  walk-below t,
-  walk.Post,
-) (walk-record-at t) walk-record.Post
-walk-record-opened-requires t c κs = (rw (c .before .enum-told .given .1) at (c .before .before .before .opening-of .ensures)) .few
-
-walk-record-walk-requires : (t : ℕ) → walk-record-lts.Need-walk-requires (
-  opening-of-reads.Asked,
-  opening-of-reads.Learnt,
-  opened-reads.Asked,
-  opened-reads.Learnt,
-  walk-below t,
-  walk.Post,
-) (walk-record-at t) walk-record.Post
-walk-record-walk-requires t c κs =
-    let p = c .before .before .before .before .before .before .before .before .pre in
-    let a = c .before .before .before .before .before .before .before .before .args in
-    let o : RecordOpens (a .store .now) (a .i) (a .spot .position) (a .spot .depth) (a .stage .openings) = rw (c .before .before .before .enum-told .given .1) at (c .before .before .before .before .before .opening-of .ensures) in
-    let e = c .before .opened .ensures in
-    rw e (
-      omega (arith, p .0, o .few),
-      record { classes-are = p .1 .classes-are; short = omega (arith, part-length (a .store .now) (a .i * storeRecordSize + storeNameSize) (a .i * storeRecordSize + storeRecordSize) (p .1 .inside)); low = o .low; few = omega (arith, o .few); counted = p .1 .counted },
-    )
-
-walk-record-returns : (t : ℕ) → walk-record-lts.Need-returns (
-  opening-of-reads.Asked,
-  opening-of-reads.Learnt,
-  opened-reads.Asked,
-  opened-reads.Learnt,
-  walk-below t,
-  walk.Post,
-) (walk-record-at t) walk-record.Post
-walk-record-returns t c = let a = c .before .before .before .before .before .before .args in record-faulty (a .store .now) (a .i) (a .spot .position) (a .spot .depth) (a .stage) (a .out .now) (rw (c .before .number .given .1) at (c .before .before .before .opening-of .ensures))
-
-walk-record-same-length : (t : ℕ) → walk-record-lts.Need-same-length (
-  opening-of-reads.Asked,
-  opening-of-reads.Learnt,
-  opened-reads.Asked,
-  opened-reads.Learnt,
-  walk-below t,
-  walk.Post,
-) (walk-record-at t) walk-record.Post
-walk-record-same-length t c = search needs
-
-walk-record-returns-2 : (t : ℕ) → walk-record-lts.Need-returns-2 (
-  opening-of-reads.Asked,
-  opening-of-reads.Learnt,
-  opened-reads.Asked,
-  opened-reads.Learnt,
-  walk-below t,
-  walk.Post,
-) (walk-record-at t) walk-record.Post
-walk-record-returns-2 t c =
-    let a = c .before .before .before .before .before .before .before .before .before .before .before .args in
-    record-walked (a .store .now) (a .i) (a .spot .position) (a .spot .depth) (a .stage) (a .out .now) (a .classes .now) (c .before .before .before .before .before .before .before .before .before .before .before .pre .1 .classes-are) (rw (c .before .before .before .before .before .before .enum-told .given .1) at (c .before .before .before .before .before .before .before .before .opening-of .ensures)) _ (c .before .before .walk .result)
-    (rw (c .before .before .before .before .opened .ensures) at (c .before .before .walk .ensures))
-
-pub +walk+walk-record-spec : {M : Type 1} → statement M
-+walk+walk-record-spec = close μ-walk μ-walk-record (λ t. walk-lts.spec (
+-- what is known of the callees
+abbrev walk-claims : ℕ → walk-lts.Claims
+walk-claims t = (
   next-by-reads.Asked,
   next-by-reads.Learnt,
   joined-reads.Asked,
@@ -986,6 +76,202 @@ pub +walk+walk-record-spec : {M : Type 1} → statement M
   include-end-reads.Asked,
   include-end-reads.Learnt,
 )
+
+abbrev walk-record-claims : ℕ → walk-record-lts.Claims
+walk-record-claims t = (
+  opening-of-reads.Asked,
+  opening-of-reads.Learnt,
+  opened-reads.Asked,
+  opened-reads.Learnt,
+  walk-below t,
+  walk.Post,
+)
+
+abbrev walk-Inv-loop : walk-lts.InvT-loop
+walk-Inv-loop classes store text start around out₀ here₀ levels₀ coming₀ out here levels coming = Walking classes store text start around here₀ out₀ out here levels coming
+
+abbrev walk-μ-loop : walk-lts.MeasureT-loop
+walk-μ-loop classes store text start around out₀ here₀ levels₀ coming₀ out here levels coming = behind (length text) coming
+
+walk-next-by-requires : (t : ℕ) → walk-lts.Need-next-by-requires (walk-claims t) (walk-at t) walk.Post walk-Inv-loop walk-μ-loop
+walk-next-by-requires t c κs = search needs
+
+walk-loop-holds : (t : ℕ) → walk-lts.Need-loop-holds (walk-claims t) (walk-at t) walk.Post walk-Inv-loop walk-μ-loop
+walk-loop-holds t c =
+    let a = c .before .before .before .before .args in
+    let p = c .before .before .before .before .pre .1 in
+    walking-first (a .classes .now) (a .store .now) (a .text .now) (a .start) (a .around) (a .stage) (a .out .now) (record { many = 0; typed = 0 }) (p .short) (p .few) refl refl (c .next-by .ensures)
+
+walk-enum-known-coming : (t : ℕ) → walk-lts.Need-enum-known-coming (walk-claims t) (walk-at t) walk.Post walk-Inv-loop walk-μ-loop
+walk-enum-known-coming t c = search needs
+
+walk-joined-requires : (t : ℕ) → walk-lts.Need-joined-requires (walk-claims t) (walk-at t) walk.Post walk-Inv-loop walk-μ-loop
+walk-joined-requires t c κs = search needs
+
+walk-same-length : (t : ℕ) → walk-lts.Need-same-length (walk-claims t) (walk-at t) walk.Post walk-Inv-loop walk-μ-loop
+walk-same-length t c = c .before .before .loop .inv .same-length
+
+walk-returns : (t : ℕ) → walk-lts.Need-returns (walk-claims t) (walk-at t) walk.Post walk-Inv-loop walk-μ-loop
+walk-returns t c =
+    rw (c .joined .ensures) (walking-none _ _ _ _ _ _ _ (c .before .before .loop .inv) (none-comes (c .before .before .loop .coming) (c .before .match .keys2)))
+
+walk-include-at-requires : (t : ℕ) → walk-lts.Need-include-at-requires (walk-claims t) (walk-at t) walk.Post walk-Inv-loop walk-μ-loop
+walk-include-at-requires t c κs = search needs
+
+walk-enum-told : (t : ℕ) → walk-lts.Need-enum-told (walk-claims t) (walk-at t) walk.Post walk-Inv-loop walk-μ-loop
+walk-enum-told t c = search needs
+
+walk-next-by-requires-2 : (t : ℕ) → walk-lts.Need-next-by-requires-2 (walk-claims t) (walk-at t) walk.Post walk-Inv-loop walk-μ-loop
+walk-next-by-requires-2 t c κs = search needs
+
+walk-is-colon-requires : (t : ℕ) → walk-lts.Need-is-colon-requires (walk-claims t) (walk-at t) walk.Post walk-Inv-loop walk-μ-loop
+walk-is-colon-requires t c κs = search needs
+
+walk-levels-after-requires : (t : ℕ) → walk-lts.Need-levels-after-requires (walk-claims t) (walk-at t) walk.Post walk-Inv-loop walk-μ-loop
+walk-levels-after-requires t c κs = low _ _ _ _ _ _ _ (c .before .before .before .before .before .before .before .before .loop .inv)
+
+walk-write-on-requires : (t : ℕ) → walk-lts.Need-write-on-requires (walk-claims t) (walk-at t) walk.Post walk-Inv-loop walk-μ-loop
+walk-write-on-requires t c κs =
+    let l = c .before .before .before .before .before .before .before .before .before .before .loop .inv in
+    let p = c .before .before .before .before .before .before .before .before .before .before .before .before .before .before .before .pre .1 in
+    let x = comes _ _ _ _ _ _ _ l (c .before .before .before .before .before .before .before .before .coming .given .1) in
+    (x .starts, x .within, omega (arith, p .short), omega (arith, room _ _ _ _ _ _ _ l (p .counted), l .few))
+
+walk-loop-less : (t : ℕ) → walk-lts.Need-loop-less (walk-claims t) (walk-at t) walk.Post walk-Inv-loop walk-μ-loop
+walk-loop-less t c =
+    let e = c .before .before .before .before .before .before .before .before .before .before .before .coming .given .1 in
+    behind-less (comes _ _ _ _ _ _ _ (c .before .before .before .before .before .before .before .before .before .before .before .before .before .loop .inv) e) e (c .before .before .before .before .before .before .next-by2 .ensures)
+
+walk-loop-again : (t : ℕ) → walk-lts.Need-loop-again (walk-claims t) (walk-at t) walk.Post walk-Inv-loop walk-μ-loop
+walk-loop-again t c =
+    walking-symbol _ _ _ _ _ _ _ (c .before .before .before .before .before .before .before .before .before .before .before .before .before .loop .inv) (c .before .before .before .before .before .before .before .before .before .before .before .coming .given .1) (c .before .before .before .before .before .before .before .before .before .before .before .before .before .before .before .before .before .before .pre .1 .short) (rw (c .before .before .before .before .before .before .before .enum-told .given .1) at (c .before .before .before .before .before .before .before .before .before .include-at .ensures))
+    (c .before .before .before .before .before .before .next-by2 .ensures) (c .before .before .before .before .before .is-colon .ensures) (c .before .before .before .before .levels-after .ensures) (c .before .before .write-on .kept .1 .1 .1 .1 .1 .1 .1 .0) (c .before .before .write-on .ensures)
+
+walk-enum-known-behind : (t : ℕ) → walk-lts.Need-enum-known-behind (walk-claims t) (walk-at t) walk.Post walk-Inv-loop walk-μ-loop
+walk-enum-known-behind t c = search needs
+
+walk-spot-of-requires : (t : ℕ) → walk-lts.Need-spot-of-requires (walk-claims t) (walk-at t) walk.Post walk-Inv-loop walk-μ-loop
+walk-spot-of-requires t c κs = (c .before .before .before .before .before .before .before .before .before .before .before .before .pre .1 .low, low _ _ _ _ _ _ _ (c .before .before .before .before .before .before .before .loop .inv))
+
+walk-opened-by-requires : (t : ℕ) → walk-lts.Need-opened-by-requires (walk-claims t) (walk-at t) walk.Post walk-Inv-loop walk-μ-loop
+walk-opened-by-requires t c κs = omega (arith, c .before .before .before .before .before .before .before .before .before .before .before .before .before .pre .1 .short)
+
+walk-enum-known-i : (t : ℕ) → walk-lts.Need-enum-known-i (walk-claims t) (walk-at t) walk.Post walk-Inv-loop walk-μ-loop
+walk-enum-known-i t c = search needs
+
+walk-enum-told-2 : (t : ℕ) → walk-lts.Need-enum-told-2 (walk-claims t) (walk-at t) walk.Post walk-Inv-loop walk-μ-loop
+walk-enum-told-2 t c = search needs
+
+walk-same-length-2 : (t : ℕ) → walk-lts.Need-same-length-2 (walk-claims t) (walk-at t) walk.Post walk-Inv-loop walk-μ-loop
+walk-same-length-2 t c = c .before .before .before .before .before .before .before .before .before .before .before .loop .inv .same-length
+
+walk-returns-2 : (t : ℕ) → walk-lts.Need-returns-2 (walk-claims t) (walk-at t) walk.Post walk-Inv-loop walk-μ-loop
+walk-returns-2 t c =
+    walking-nowhere _ _ _ _ _ _ _ (c .before .before .before .before .before .before .before .before .before .before .before .loop .inv) (c .before .before .before .before .before .before .before .before .before .coming .given .1) (rw (c .before .before .before .before .before .behind .given .1) at (c .before .before .before .before .before .before .before .include-at .ensures)) (c .before .before .before .spot-of .ensures .0)
+    (rw (c .enum-told2 .given .1) at (c .before .before .opened-by .ensures))
+
+walk-walk-record-requires : (t : ℕ) → walk-lts.Need-walk-record-requires (walk-claims t) (walk-at t) walk.Post walk-Inv-loop walk-μ-loop
+walk-walk-record-requires t c κs =
+    let l = c .before .before .before .before .before .before .before .before .before .before .before .before .before .loop .inv in
+    let p = c .before .before .before .before .before .before .before .before .before .before .before .before .before .before .before .before .before .before .pre in (
+      omega (arith, p .0, p .1 .few, l .from, l .few),
+      record {
+        classes-are = p .1 .classes-are;
+        inside =
+            record-inside _ _ _ _ _ _ _ l (c .before .before .before .before .before .before .before .before .before .before .before .coming .given .1) (rw (c .before .before .before .before .before .before .before .behind .given .1) at (c .before .before .before .before .before .before .before .before .before .include-at .ensures)) (c .before .before .before .before .before .spot-of .ensures .0)
+            (rw (c .before .before .i .given .1) at (c .before .before .before .before .opened-by .ensures));
+        few = l .few;
+        counted = room _ _ _ _ _ _ _ l (p .1 .counted);
+      },
+    )
+
+walk-enum-known-walked : (t : ℕ) → walk-lts.Need-enum-known-walked (walk-claims t) (walk-at t) walk.Post walk-Inv-loop walk-μ-loop
+walk-enum-known-walked t c = search needs
+
+walk-enum-told-3 : (t : ℕ) → walk-lts.Need-enum-told-3 (walk-claims t) (walk-at t) walk.Post walk-Inv-loop walk-μ-loop
+walk-enum-told-3 t c = search needs
+
+walk-same-length-3 : (t : ℕ) → walk-lts.Need-same-length-3 (walk-claims t) (walk-at t) walk.Post walk-Inv-loop walk-μ-loop
+walk-same-length-3 t c = c .before .before .before .before .walk-record .kept .1 .1 .1 .1 .1 .0 ∙ c .before .before .before .before .before .before .before .before .before .before .before .before .before .before .before .before .before .before .loop .inv .same-length
+
+walk-returns-3 : (t : ℕ) → walk-lts.Need-returns-3 (walk-claims t) (walk-at t) walk.Post walk-Inv-loop walk-μ-loop
+walk-returns-3 t c =
+    rw (c .enum-told3 .given .1)
+    (walking-stopped _ _ _ _ _ _ _ (c .before .before .before .before .before .before .before .before .before .before .before .before .before .before .before .before .before .before .loop .inv) (c .before .before .before .before .before .before .before .before .before .before .before .before .before .before .before .before .coming .given .1) (rw (c .before .before .before .before .before .before .before .before .before .before .before .before .behind .given .1) at (c .before .before .before .before .before .before .before .before .before .before .before .before .before .before .include-at .ensures)) (c .before .before .before .before .before .before .before .before .before .before .spot-of .ensures .0)
+    (rw (c .before .before .before .before .before .before .before .i .given .1) at (c .before .before .before .before .before .before .before .before .before .opened-by .ensures)) (c .before .before .before .before .before .before .before .before .before .before .spot-of .ensures .1) (rw (c .enum-told3 .given .1) at (c .before .before .before .before .walk-record .ensures)))
+
+walk-include-end-requires : (t : ℕ) → walk-lts.Need-include-end-requires (walk-claims t) (walk-at t) walk.Post walk-Inv-loop walk-μ-loop
+walk-include-end-requires t c κs = search needs
+
+walk-next-by-requires-3 : (t : ℕ) → walk-lts.Need-next-by-requires-3 (walk-claims t) (walk-at t) walk.Post walk-Inv-loop walk-μ-loop
+walk-next-by-requires-3 t c κs = search needs
+
+walk-loop-less-2 : (t : ℕ) → walk-lts.Need-loop-less-2 (walk-claims t) (walk-at t) walk.Post walk-Inv-loop walk-μ-loop
+walk-loop-less-2 t c =
+    let e = c .before .before .before .before .before .before .before .before .before .before .before .before .before .before .before .before .before .before .before .coming .given .1 in
+    behind-falls _ (comes _ _ _ _ _ _ _ (c .before .before .before .before .before .before .before .before .before .before .before .before .before .before .before .before .before .before .before .before .before .loop .inv) e) (c .before .include-end .ensures .1) e (c .next-by3 .ensures)
+
+walk-loop-again-2 : (t : ℕ) → walk-lts.Need-loop-again-2 (walk-claims t) (walk-at t) walk.Post walk-Inv-loop walk-μ-loop
+walk-loop-again-2 t c =
+    walking-opened _ _ _ _ _ _ _ (c .before .before .before .before .before .before .before .before .before .before .before .before .before .before .before .before .before .before .before .before .before .loop .inv) (c .before .before .before .before .before .before .before .before .before .before .before .before .before .before .before .before .before .before .before .coming .given .1) (rw (c .before .before .before .before .before .before .before .before .before .before .before .before .before .before .before .behind .given .1) at (c .before .before .before .before .before .before .before .before .before .before .before .before .before .before .before .before .before .include-at .ensures)) (c .before .before .before .before .before .before .before .before .before .before .before .before .before .spot-of .ensures .0)
+    (rw (c .before .before .before .before .before .before .before .before .before .before .i .given .1) at (c .before .before .before .before .before .before .before .before .before .before .before .before .opened-by .ensures)) (c .before .before .before .before .before .before .before .before .before .before .before .before .before .spot-of .ensures .1) (rw (c .before .before .before .walked .given .1) at (c .before .before .before .before .before .before .before .walk-record .ensures))
+    (c .before .before .before .before .before .before .before .walk-record .kept .1 .1 .1 .1 .1 .0) (c .before .include-end .ensures) (c .next-by3 .ensures)
+
+walk-record-opening-of-requires : (t : ℕ) → walk-record-lts.Need-opening-of-requires (walk-record-claims t) (walk-record-at t) walk-record.Post
+walk-record-opening-of-requires t c κs = search needs
+
+walk-record-enum-known-number : (t : ℕ) → walk-record-lts.Need-enum-known-number (walk-record-claims t) (walk-record-at t) walk-record.Post
+walk-record-enum-known-number t c = search needs
+
+walk-record-enum-told : (t : ℕ) → walk-record-lts.Need-enum-told (walk-record-claims t) (walk-record-at t) walk-record.Post
+walk-record-enum-told t c = search needs
+
+walk-record-mul-at : (t : ℕ) → walk-record-lts.Need-mul-at (walk-record-claims t) (walk-record-at t) walk-record.Post
+walk-record-mul-at t c = search needs
+
+walk-record-add-list : (t : ℕ) → walk-record-lts.Need-add-list (walk-record-claims t) (walk-record-at t) walk-record.Post
+walk-record-add-list t c = search needs
+
+walk-record-add-list-2 : (t : ℕ) → walk-record-lts.Need-add-list-2 (walk-record-claims t) (walk-record-at t) walk-record.Post
+walk-record-add-list-2 t c = search needs
+
+walk-record-sub-list : (t : ℕ) → walk-record-lts.Need-sub-list (walk-record-claims t) (walk-record-at t) walk-record.Post
+walk-record-sub-list t c = search needs
+
+walk-record-part-list-start : (t : ℕ) → walk-record-lts.Need-part-list-start (walk-record-claims t) (walk-record-at t) walk-record.Post
+walk-record-part-list-start t c = search needs
+
+walk-record-part-list-end : (t : ℕ) → walk-record-lts.Need-part-list-end (walk-record-claims t) (walk-record-at t) walk-record.Post
+walk-record-part-list-end t c = search needs
+
+walk-record-opened-requires : (t : ℕ) → walk-record-lts.Need-opened-requires (walk-record-claims t) (walk-record-at t) walk-record.Post
+walk-record-opened-requires t c κs = (rw (c .before .enum-told .given .1) at (c .before .before .before .opening-of .ensures)) .few
+
+walk-record-walk-requires : (t : ℕ) → walk-record-lts.Need-walk-requires (walk-record-claims t) (walk-record-at t) walk-record.Post
+walk-record-walk-requires t c κs =
+    let p = c .before .before .before .before .before .before .before .before .pre in
+    let a = c .before .before .before .before .before .before .before .before .args in
+    let o : RecordOpens (a .store .now) (a .i) (a .spot .position) (a .spot .depth) (a .stage .openings) = rw (c .before .before .before .enum-told .given .1) at (c .before .before .before .before .before .opening-of .ensures) in
+    let e = c .before .opened .ensures in
+    rw e (
+      omega (arith, p .0, o .few),
+      record { classes-are = p .1 .classes-are; short = omega (arith, part-length (a .store .now) (a .i * storeRecordSize + storeNameSize) (a .i * storeRecordSize + storeRecordSize) (p .1 .inside)); low = o .low; few = omega (arith, o .few); counted = p .1 .counted },
+    )
+
+walk-record-returns : (t : ℕ) → walk-record-lts.Need-returns (walk-record-claims t) (walk-record-at t) walk-record.Post
+walk-record-returns t c = let a = c .before .before .before .before .before .before .args in record-faulty (a .store .now) (a .i) (a .spot .position) (a .spot .depth) (a .stage) (a .out .now) (rw (c .before .number .given .1) at (c .before .before .before .opening-of .ensures))
+
+walk-record-same-length : (t : ℕ) → walk-record-lts.Need-same-length (walk-record-claims t) (walk-record-at t) walk-record.Post
+walk-record-same-length t c = search needs
+
+walk-record-returns-2 : (t : ℕ) → walk-record-lts.Need-returns-2 (walk-record-claims t) (walk-record-at t) walk-record.Post
+walk-record-returns-2 t c =
+    let a = c .before .before .before .before .before .before .before .before .before .before .before .args in
+    record-walked (a .store .now) (a .i) (a .spot .position) (a .spot .depth) (a .stage) (a .out .now) (a .classes .now) (c .before .before .before .before .before .before .before .before .before .before .before .pre .1 .classes-are) (rw (c .before .before .before .before .before .before .enum-told .given .1) at (c .before .before .before .before .before .before .before .before .opening-of .ensures)) _ (c .before .before .walk .result)
+    (rw (c .before .before .before .before .opened .ensures) at (c .before .before .walk .ensures))
+
+pub +walk+walk-record-spec : {M : Type 1} → statement M
++walk+walk-record-spec = close μ-walk μ-walk-record (λ t. walk-lts.spec (walk-claims t)
     (walk-at t)
     walk.Post
     walk-Inv-loop
@@ -1020,14 +306,7 @@ pub +walk+walk-record-spec : {M : Type 1} → statement M
     (walk-next-by-requires-3 t)
     (walk-loop-less-2 t)
     (walk-loop-again-2 t))
-    λ t. walk-record-lts.spec (
-      opening-of-reads.Asked,
-      opening-of-reads.Learnt,
-      opened-reads.Asked,
-      opened-reads.Learnt,
-      walk-below t,
-      walk.Post,
-    )
+    λ t. walk-record-lts.spec (walk-record-claims t)
     (walk-record-at t)
     walk-record.Post
     (walk-record-opening-of-requires t)
