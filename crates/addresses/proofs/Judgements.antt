@@ -79,22 +79,31 @@ pub record RightlyRead {N : Type 0} (edition : Edition N) (verdict : List (Symbo
   pub right : Right (Derived (edition .grammar) (edition .list)) levels levelLimit (symbolsIn edition message start end) (refused why rest)
   pub reads : RefusedIn edition verdict message start end (number why) (positionOf end rest)
 
-module _ {N : Type 0} (edition : Edition N) (least : ℕ) (answerOf : ℕ → List (Symbol Class) → Verdict Class (Row Class N)) (right : Decides (edition .grammar) (edition .list) least answerOf) (below : least ≤ levelLimit) (message : List ℕ) (start end : ℕ) (x : CleanBy (edition .classes) message start end) (none : (k : Row Class N) → IsListIn edition (symbolsIn edition message start end) k → ⊥) where
-  unlisted-by : (v : Verdict Class (Row Class N)) → answerOf levelLimit (symbolsIn edition message start end) ≡ v → RightlyRead edition (answerOf levelLimit) message start end
-  unlisted-by (accepted k) e =
-      let d = answer-derives (edition .grammar) (edition .list) least answerOf right levelLimit below {xs = symbolsIn edition message start end} e in
-      absurd (none k (record { derived = d .0; within = d .1 }))
-  unlisted-by (refused why rest) e =
-      record {
-        why = why;
-        rest = rest;
-        right = rw e at (right .right levelLimit below (symbolsIn edition message start end));
-        reads = λ A refuse derive. verdict-decides edition (answerOf levelLimit) message start end (x .short) (x .ordered) (x .inside) (x .faultless) refuse derive ∙ ap (byVerdict refuse derive end) e;
-      }
+-- the verdict on symbols that are no list: a refusal, as condition 3 has it
+pub record RightlyRefused {N : Type 0} (edition : Edition N) (verdict : List (Symbol Class) → Verdict Class (Row Class N)) (xs : List (Symbol Class)) : Type 0 where
+  pub why : Refusal
+  pub rest : List (Symbol Class)
+  pub right : Right (Derived (edition .grammar) (edition .list)) levels levelLimit xs (refused why rest)
+  pub verdict-is : verdict xs ≡ refused why rest
+
+module _ {N : Type 0} (edition : Edition N) (least : ℕ) (answerOf : ℕ → List (Symbol Class) → Verdict Class (Row Class N)) (right : Decides (edition .grammar) (edition .list) least answerOf) (below : least ≤ levelLimit) where
+  pub no-list-refused : (xs : List (Symbol Class)) → ((k : Row Class N) → IsListIn edition xs k → ⊥) → RightlyRefused edition (answerOf levelLimit) xs
+  no-list-refused xs none = by (answerOf levelLimit xs) refl
+    where
+      by : (v : Verdict Class (Row Class N)) → answerOf levelLimit xs ≡ v → RightlyRefused edition (answerOf levelLimit) xs
+      by (accepted k) e = let d = answer-derives (edition .grammar) (edition .list) least answerOf right levelLimit below {xs = xs} e in absurd (none k (record { derived = d .0; within = d .1 }))
+      by (refused why rest) e = record { why = why; rest = rest; right = rw e at (right .right levelLimit below xs); verdict-is = e }
 
   -- a clean body that is no list
-  pub unlisted-in : RightlyRead edition (answerOf levelLimit) message start end
-  unlisted-in = unlisted-by _ refl
+  pub unlisted-in : (message : List ℕ) (start end : ℕ) → CleanBy (edition .classes) message start end → ((k : Row Class N) → IsListIn edition (symbolsIn edition message start end) k → ⊥) → RightlyRead edition (answerOf levelLimit) message start end
+  unlisted-in message start end x none =
+      let r = no-list-refused (symbolsIn edition message start end) none in
+      record {
+        why = r .why;
+        rest = r .rest;
+        right = r .right;
+        reads = λ A refuse derive. verdict-decides edition (answerOf levelLimit) message start end (x .short) (x .ordered) (x .inside) (x .faultless) refuse derive ∙ ap (byVerdict refuse derive end) (r .verdict-is);
+      }
 
 -- ---- in RFC 733
 

@@ -16,19 +16,19 @@ use Rattle.scanner.specs.Believed.Categories.{categoryAt}
 use Rattle.scanner.specs.declared.Class.{Class}
 use Rattle.scanner.specs.declared.Category.{Category}
 use Rattle.scanner.proofs.BodyChecks.{Clean, when-clean, when-refused}
-use Rattle.grammar.specs.Believed.Language.{Refusal, Verdict, accepted, refused, number, positionOf}
+use Rattle.grammar.specs.Believed.Language.{Verdict, accepted, refused, number, positionOf}
 use Rattle.grammar.specs.Believed.Records.{count, records, tableBytes}
 use Rattle.grammar.specs.Believed.Rfc733.{Derivation}
 use Rattle.grammar.specs.Executable.Machine733.{answer}
-use Rattle.grammar.proofs.Rfc733.Condition3.{answer-right, answer-accepts, answer-derives}
+use Rattle.grammar.proofs.Rfc733.Condition3.{answer-accepts, answer-derives, decides}
 use Rattle.grammar.proofs.Any.Records.{length-records, parent-smaller}
 use Rattle.grammar.specs.Executable.Trees733.{Sym}
-use Rattle.addresses.specs.Believed.Editions.{bodySymbols}
+use Rattle.addresses.specs.Believed.Editions.{edition733, bodySymbols}
 use Rattle.addresses.specs.Believed.Outcome.{derived, outcome}
 use Rattle.addresses.specs.Believed.Outcome as addresses
 use Rattle.addresses.specs.Believed.Condition3.{IsList}
 use Rattle.addresses.proofs.BodyRecords.{in-body}
-use Rattle.addresses.proofs.Judgements.{ListBody, list-body, decided-read}
+use Rattle.addresses.proofs.Judgements.{ListBody, no-list-refused, list-body, decided-read}
 use Rattle.addresses.proofs.RecordsRead.{record-read}
 use Rattle.expected.specs.Believed.Things.{sumOf}
 use Rattle.expected.specs.Executable.Named.{named, expectedIn}
@@ -70,30 +70,24 @@ module _ (message : List ℕ) (start end place : ℕ) (path : List ℕ) where
   named-there : Clean message start end → expectedIn message start end ≡ sumOf (named levelLimit symbols)
   named-there x = when-clean message start end (λ n p. 0) _ x
 
-  -- a verdict that refuses is the one that condition 3 gives, and names are told there
-  refused-there : Clean message start end → {r : Touched} {after : List ℕ} → r ≡ whole .answer → after ≡ whole .path → (why : Refusal) (rest : List Sym) → answer levelLimit symbols ≡ refused why rest
-      → NamedThere symbols end r × (after ≡ path)
-  refused-there x e f why rest v =
-      let right = rw v at (answer-right levelLimit symbols) in
-      let (before, splits) = before-refused levelLimit symbols rest why right in
-      let q = read x v in (
+  -- symbols that are no list are refused as condition 3 has it, and names are told there
+  no-list : Clean message start end → {r : Touched} {after : List ℕ} → r ≡ whole .answer → after ≡ whole .path → ((k : Derivation) → IsList symbols k → ⊥) → NamedThere symbols end r × (after ≡ path)
+  no-list x e f n =
+      let u = no-list-refused edition733 0 answer decides (omega arith) symbols n in
+      let (before, splits) = before-refused levelLimit symbols (u .rest) (u .why) (u .right) in
+      let q = read x (u .verdict-is) in (
         record {
-          why = why;
+          why = u .why;
           before = before;
-          rest = rest;
-          right = right;
+          rest = u .rest;
+          right = u .right;
           splits = splits;
           named = named levelLimit symbols;
-          tells = ap told (e ∙ ap (λ (o : Outcome). o .answer) q ∙ ap (Expected (number why) (positionOf end rest)) (named-there x));
-          exactly = names-right levelLimit symbols why before rest right splits;
+          tells = ap told (e ∙ ap (λ (o : Outcome). o .answer) q ∙ ap (Expected (number (u .why)) (positionOf end (u .rest))) (named-there x));
+          exactly = names-right levelLimit symbols (u .why) before (u .rest) (u .right) splits;
         },
         f ∙ ap (λ (o : Outcome). o .path) q,
       )
-
-  no-list : Clean message start end → {r : Touched} {after : List ℕ} → r ≡ whole .answer → after ≡ whole .path → ((k : Derivation) → IsList symbols k → ⊥) → (v : Verdict Class Derivation) → answer levelLimit symbols ≡ v
-      → NamedThere symbols end r × (after ≡ path)
-  no-list x e f n (accepted k) v = let d = answer-derives levelLimit {xs = symbols} v in absurd (n k (record { derived = d .0; within = d .1 }))
-  no-list x e f n (refused why rest) v = refused-there x e f why rest v
 
   by-grammar : {r : Touched} {after : List ℕ} → r ≡ whole .answer → after ≡ whole .path → ByGrammar message start end place path r after
   by-grammar e f short ordered inside faultless =
@@ -102,7 +96,7 @@ module _ (message : List ℕ) (start end place : ℕ) (path : List ℕ) where
         list = λ k d.
             let q = read x (answer-accepts levelLimit (d .derived) (d .within)) in
             (ap told (e ∙ ap (λ (o : Outcome). o .answer) q), f ∙ ap (λ (o : Outcome). o .path) q);
-        no-list = λ n. no-list x e f n (answer levelLimit symbols) refl;
+        no-list = λ n. no-list x e f n;
       }
 
   -- the two promises of the entry point
