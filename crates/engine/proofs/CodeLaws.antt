@@ -13,11 +13,11 @@ use Rattle.grammar.specs.Executable.Trees733.{Lexeme, AddressList, Address, typ
 use Rattle.grammar.specs.Executable.Machine733.{Here, inList, inTyped, Level, top, inAngle, inGroup, Spot, State, close, levelsHere}
 use Rattle.grammar.proofs.Rfc733.TreeRecords.{nameStart, nameEnd}
 use Rattle.engine.specs.Ties.Stands.{placeOf, numberHere, parentHere, Entry, Stands}
-use Rattle.engine.specs.Ties.Turns.{OpenHere, LevelAt, SomeLevel, Closing, Closed, kindIf, endIf, loneKind, Ended, AtClose, GoesTo}
+use Rattle.engine.specs.Ties.Turns.{KindIs, OpenHere, LevelAt, SomeLevel, Closing, Closed, kindIf, endIf, loneKind, Ended, AtClose, GoesTo}
 use Rattle.engine.specs.declared.Engine.{Engine}
 use Rattle.engine.proofs.ArrayLaws.{named, pushed}
 use Rattle.engine.proofs.TurnLaws.{engineBy, RightMark, addressIf, mark-closing, mark-closed, ended-closing}
-use Rattle.engine.proofs.LevelLaws.{parent-none, parent-some, typed-kind-bounds, closed-list, closed-typed, typed-level}
+use Rattle.engine.proofs.LevelLaws.{parent-none, parent-some, typed-kind-bounds, kindOfHere, here-kind, closed-list, closed-typed, typed-level}
 
 -- ---- parents
 
@@ -69,9 +69,6 @@ closing-start {h = h} {a = a} c = record { here = h; address = a; same = refl; c
 closed-as : {lent table : List ℕ} {left : ℕ} {spot spot′ : Spot} → spot ≡ spot′ → Closed lent spot table left → Closed lent spot′ table left
 closed-as e c = rw e at c
 
-pub kind-at : {stack : List ℕ} (left : ℕ) {i number start kind first last : ℕ} → Entry stack i number start kind first last → i ≡ left - 1 → getD stack (placeOf (left - 1) 2) 0 ≡ kind
-kind-at {stack} left e q = ap (λ n. getD stack (placeOf n 2) 0) (sym q) ∙ e .kind-is
-
 -- a typed address is the innermost level
 pub record TypedTop (lent stack table : List ℕ) (end left : ℕ) (spot : Spot) : Type 0 where
   pub here : Here
@@ -83,28 +80,21 @@ pub record TypedTop (lent stack table : List ℕ) (end left : ℕ) (spot : Spot)
   pub closing : Closing lent stack table left end (inTyped here colon atom second) address
 
 module _ {lent stack table : List ℕ} {end left : ℕ} where
-  at-top : (g : Here) (b : Address) → left ≡ 0 → Closing lent stack table left end g b → Closed lent (close g b) table left
-  at-top (inList k r) b z c = closed-list lent stack table left end k r b c
-  at-top (inTyped g t x u) b z c = absurd (omega (arith, c .is-open .depth-is))
+  stays : (g : Here) (b : Address) → kindOfHere g < 5 → Closing lent stack table left end g b → Closed lent (close g b) table left
+  stays (inList k r) b z c = closed-list lent stack table left end k r b c
+  stays (inTyped g t x u) b z c = absurd (omega (arith, typed-kind-bounds (x .meaning) .0))
 
-  pub closing-none : (h : Here) (a : Address) → left ≡ 0 → ClosingOn lent stack end h a table left → Closed lent (close h a) table 0
-  closing-none h a z c = rw z at (closed-as (c .same) (at-top (c .here) (c .address) z (c .closing)))
+  pub closing-stays : (h : Here) (a : Address) {kind : ℕ} → KindIs stack left kind → kind < 5 → ClosingOn lent stack end h a table left → Closed lent (close h a) table left
+  closing-stays h a m z c = closed-as (c .same) (stays (c .here) (c .address) (omega (arith, m .is, here-kind stack left (c .here) (c .closing .is-open))) (c .closing))
 
-  at-level : (g : Here) (b : Address) → getD stack (placeOf (left - 1) 2) 0 < 5 → Closing lent stack table left end g b → Closed lent (close g b) table left
-  at-level (inList k r) b z c = closed-list lent stack table left end k r b c
-  at-level (inTyped g t x u) b z c = absurd (omega (arith, kind-at left (c .is-open .holds .0) (omega (arith, c .is-open .depth-is)), typed-kind-bounds (x .meaning) .0))
+  typed-top-by : (spot : Spot) (g : Here) (b : Address) → close g b ≡ spot → 5 ≤ kindOfHere g → Closing lent stack table left end g b → TypedTop lent stack table end left spot
+  typed-top-by spot (inList top r) b e k c = absurd (omega arith)
+  typed-top-by spot (inList (inAngle g o t) r) b e k c = absurd (omega arith)
+  typed-top-by spot (inList (inGroup g o t) r) b e k c = absurd (omega arith)
+  typed-top-by spot (inTyped g t x u) b e k c = record { here = g; colon = t; atom = x; second = u; address = b; same = e; closing = c }
 
-  pub closing-stays : (h : Here) (a : Address) → getD stack (placeOf (left - 1) 2) 0 < 5 → ClosingOn lent stack end h a table left → Closed lent (close h a) table left
-  closing-stays h a z c = closed-as (c .same) (at-level (c .here) (c .address) z (c .closing))
-
-  typed-top-by : (spot : Spot) (g : Here) (b : Address) → close g b ≡ spot → (left ≡ 0 → ⊥) → 5 ≤ getD stack (placeOf (left - 1) 2) 0 → Closing lent stack table left end g b → TypedTop lent stack table end left spot
-  typed-top-by spot (inList top r) b e z k c = absurd (z (c .is-open .depth-is))
-  typed-top-by spot (inList (inAngle g o t) r) b e z k c = absurd (omega (arith, kind-at left (c .is-open .holds .0) (omega (arith, c .is-open .depth-is))))
-  typed-top-by spot (inList (inGroup g o t) r) b e z k c = absurd (omega (arith, kind-at left (c .is-open .holds .0) (omega (arith, c .is-open .depth-is))))
-  typed-top-by spot (inTyped g t x u) b e z k c = record { here = g; colon = t; atom = x; second = u; address = b; same = e; closing = c }
-
-  pub typed-top : (h : Here) (a : Address) → (left ≡ 0 → ⊥) → 5 ≤ getD stack (placeOf (left - 1) 2) 0 → ClosingOn lent stack end h a table left → TypedTop lent stack table end left (close h a)
-  typed-top h a z k c = typed-top-by (close h a) (c .here) (c .address) (c .same) z k (c .closing)
+  pub typed-top : (h : Here) (a : Address) {kind : ℕ} → KindIs stack left kind → 5 ≤ kind → ClosingOn lent stack end h a table left → TypedTop lent stack table end left (close h a)
+  typed-top h a m k c = typed-top-by (close h a) (c .here) (c .address) (c .same) (omega (arith, m .is, here-kind stack left (c .here) (c .closing .is-open))) (c .closing)
 
   module _ (h : Here) (a : Address) (y : TypedTop lent stack table end left (close h a)) where
     depth-is : levelsHere (y .here) ≡ left - 1

@@ -7,7 +7,6 @@ use mathlib.Core.Option.{none, some}
 use native.Mathlib.Omega.{arith}
 use borrow.Author.Tests.{lt-ltb, le-ltb, leb-true, leb-false, eq-eqb, ne-eqb}
 use lib.Dec.{eqb, ltb}
-use lib.ListN.{getD}
 use Rattle.octets.specs.Believed.Numbers.{levelLimit}
 use Rattle.grammar.specs.Executable.Trees733.{Class, Atom, At, LessThan, GreaterThan, Comma, Semicolon, Colon, AddressList, Address, quoted}
 use Rattle.grammar.specs.Executable.Machine733.{Here, Level, top, inAngle, inGroup, State, list, phrase, close, entered, enter, withinLimit, levelsAt, finish, whole}
@@ -16,14 +15,14 @@ use Rattle.expected.specs.Believed.Things.{ifNamed, sumOf}
 use Rattle.expected.specs.Executable.Named.{goes, isSome, anywhere, takes, namedAt}
 use Rattle.expected.proofs.ClassAlone.{word-by-atom}
 use Rattle.engine.specs.Ties.Actions.{modeRoom, Act, refuses, begins, adds, passes, opens, opensNamed, turnsTyped, endsAtComma, closes, endsAndCloses, finishes, endsAndFinishes, actNumber, entry, rowOf, actionOf}
-use Rattle.engine.specs.Ties.Stands.{placeOf, modeOf, HoldsLevel, storedAddress, Stands}
-use Rattle.engine.specs.Ties.Turns.{isAngle, kindIf, levelIf, endIf, OpenHere, SomeHere, Finishing}
-use Rattle.engine.specs.Ties.Expecting.{SomeStands, UnderTypedIs, ClosesIs}
+use Rattle.engine.specs.Ties.Stands.{modeOf, HoldsLevel, storedAddress, Stands}
+use Rattle.engine.specs.Ties.Turns.{isAngle, kindIf, KindIs, levelIf, endIf, OpenHere, SomeHere, Finishing}
+use Rattle.engine.specs.Ties.Expecting.{SomeStands, UnderTypedIs}
 use Rattle.engine.specs.declared.Engine.{Engine}
-use Rattle.engine.proofs.LevelLaws.{close-holds, close-depth}
+use Rattle.engine.proofs.LevelLaws.{kindOfLevel, level-kind, close-holds, close-depth}
 use Rattle.engine.proofs.MachineLaws.{Does, does, EndsAndFinishes}
 use Rattle.engine.proofs.TurnLaws.{level-depth, begin-open, ended-open}
-use Rattle.engine.proofs.CodeLaws.{ClosingOn, closing-start, closing-none, closing-stays, typed-top, closing-more, kind-at}
+use Rattle.engine.proofs.CodeLaws.{ClosingOn, closing-start, closing-stays, typed-top, closing-more}
 use Rattle.engine.proofs.Dispatch.{entry-act, acts-as, ends-as, ends-last}
 
 -- ---- under the typed levels
@@ -37,14 +36,11 @@ module _ {stack : List ℕ} (h : Here) (a : Address) where
   pub under-start : {depth : ℕ} → OpenHere stack h depth → UnderOn stack h a depth
   under-start o = record { table = storedAddress [] h a; closing = closing-start (record { is-open = o; end-is = refl; stored = refl }) }
 
-  pub under-none : {left : ℕ} → left ≡ 0 → UnderOn stack h a left → 0 ≡ levelsAt (close h a .level)
-  under-none z u = closing-none h a z (u .closing) .depth-is
+  pub under-stays : {left kind : ℕ} → KindIs stack left kind → kind < 5 → UnderOn stack h a left → left ≡ levelsAt (close h a .level)
+  under-stays m k u = closing-stays h a m k (u .closing) .depth-is
 
-  pub under-stays : {left : ℕ} → getD stack (placeOf (left - 1) 2) 0 < 5 → UnderOn stack h a left → left ≡ levelsAt (close h a .level)
-  under-stays k u = closing-stays h a k (u .closing) .depth-is
-
-  pub under-more : {left : ℕ} → (left ≡ 0 → ⊥) → 5 ≤ getD stack (placeOf (left - 1) 2) 0 → UnderOn stack h a left → UnderOn stack h a (left - 1)
-  under-more z k u = record { table = _; closing = closing-more h a (typed-top h a z k (u .closing)) _ refl }
+  pub under-more : {left kind : ℕ} → KindIs stack left kind → 5 ≤ kind → UnderOn stack h a left → UnderOn stack h a (left - 1)
+  under-more m k u = record { table = _; closing = closing-more h a (typed-top h a m k (u .closing)) _ refl }
 
 -- they are no more than the limit
 pub under-low : {stack : List ℕ} {depth left : ℕ} → SomeHere stack depth → UnderTypedIs stack depth left → left ≤ levelLimit
@@ -52,19 +48,16 @@ under-low z u = omega (arith, u (z .here) (quoted anywhere) (z .is-open), close-
 
 -- ---- marks that close
 
-pub closes-none : (k : Level) (l : AddressList) (b : Bool) (depth : ℕ) → depth ≡ levelsAt k → depth ≡ 0 → false ≡ goes (endIf b k l anywhere)
-closes-none top l true depth d z = refl
-closes-none top l false depth d z = refl
-closes-none (inAngle h o v) l b depth d z = absurd (omega arith)
-closes-none (inGroup h o v) l b depth d z = absurd (omega arith)
+same-kind : (k : Level) (l : AddressList) (b : Bool) → eqb (kindOfLevel k) (kindIf b) ≡ goes (endIf b k l anywhere)
+same-kind top l true = refl
+same-kind top l false = refl
+same-kind (inAngle h o v) l true = refl
+same-kind (inAngle h o v) l false = refl
+same-kind (inGroup h o v) l true = refl
+same-kind (inGroup h o v) l false = refl
 
-pub closes-some : (stack : List ℕ) (k : Level) (l : AddressList) (b : Bool) (depth : ℕ) {kind : ℕ} → HoldsLevel stack k → depth ≡ levelsAt k → kind ≡ kindIf b → (depth ≡ 0 → ⊥)
-    → eqb (getD stack (placeOf (depth - 1) 2) 0) kind ≡ goes (endIf b k l anywhere)
-closes-some stack top l b depth x d q z = absurd (z d)
-closes-some stack (inAngle h o v) l true depth {kind} x d q z = eq-eqb _ kind (kind-at depth (x .0) (omega arith) ∙ sym q)
-closes-some stack (inAngle h o v) l false depth {kind} x d q z = ne-eqb _ kind (λ e. omega (arith, kind-at depth (x .0) (omega arith)))
-closes-some stack (inGroup h o v) l true depth {kind} x d q z = ne-eqb _ kind (λ e. omega (arith, kind-at depth (x .0) (omega arith)))
-closes-some stack (inGroup h o v) l false depth {kind} x d q z = eq-eqb _ kind (kind-at depth (x .0) (omega arith) ∙ sym q)
+closes-if : {stack : List ℕ} {depth kind n : ℕ} (k : Level) (l : AddressList) (b : Bool) → HoldsLevel stack k → depth ≡ levelsAt k → kind ≡ kindIf b → KindIs stack depth n → eqb n kind ≡ goes (endIf b k l anywhere)
+closes-if {stack} {depth} k l b x d q e = rw (e .is ∙ level-kind stack depth k x d, q) (same-kind k l b)
 
 -- ---- a symbol, by its act
 
@@ -95,21 +88,21 @@ module _ {stack : List ℕ} {e : Engine} {action : ℕ} (c : Class) (x : SomeSta
       let y : Stands (x .text) (x .lent) (phrase (b .here) (b .name)) e stack (x .table) = rw (b .at) at (x .stands) in
       opens-if (e .depth) (levelIf (isAngle c) (b .here) (some (b .name)) anywhere) (omega (arith, level-depth (b .here) (some (b .name)) anywhere (isAngle c), y .depth-is)) ∙ sym (ap goes (b .steps))
 
-  pub could-close : {kind : ℕ} {r : Bool} → action / modeRoom ≡ actNumber closes → kind ≡ kindIf (isAngle c) → ClosesIs stack (e .depth) kind r → r ≡ takes levelLimit (x .state) c
+  pub could-close : {kind n : ℕ} → action / modeRoom ≡ actNumber closes → kind ≡ kindIf (isAngle c) → KindIs stack (e .depth) n → eqb n kind ≡ takes levelLimit (x .state) c
   could-close q k f =
       let b = does-as closes q in
       let y : Stands (x .text) (x .lent) (list (b .level) (b .sofar)) e stack (x .table) = rw (b .at) at (x .stands) in
-      f (b .level) (b .sofar) (isAngle c) (y .holds) (y .depth-is) k ∙ sym (ap goes (b .steps))
+      closes-if (b .level) (b .sofar) (isAngle c) (y .holds) (y .depth-is) k f ∙ sym (ap goes (b .steps))
 
   pub closes-here : action / modeRoom ≡ actNumber endsAndCloses → SomeHere stack (e .depth)
   closes-here q = let b = does-as endsAndCloses q in record { here = b .here; is-open = ended-open (x .state) (b .here) (b .address) (x .stands) (b .ended) }
 
-  pub could-end-and-close : {kind left : ℕ} {r : Bool} → action / modeRoom ≡ actNumber endsAndCloses → kind ≡ kindIf (isAngle c) → UnderTypedIs stack (e .depth) left → ClosesIs stack left kind r → r ≡ takes levelLimit (x .state) c
+  pub could-end-and-close : {kind left n : ℕ} → action / modeRoom ≡ actNumber endsAndCloses → kind ≡ kindIf (isAngle c) → UnderTypedIs stack (e .depth) left → KindIs stack left n → eqb n kind ≡ takes levelLimit (x .state) c
   could-end-and-close q k u f =
       let b = does-as endsAndCloses q in
       let o = ended-open (x .state) (b .here) (b .address) (x .stands) (b .ended) in
       let spot = close (b .here) (b .address) in
-      f (spot .level) (spot .sofar) (isAngle c) (close-holds stack (b .here) (b .address) (o .holds)) (u (b .here) (b .address) o) k ∙ sym (ap goes (b .steps))
+      closes-if (spot .level) (spot .sofar) (isAngle c) (close-holds stack (b .here) (b .address) (o .holds)) (u (b .here) (b .address) o) k f ∙ sym (ap goes (b .steps))
 
   goes-on : (d : Act) → (actNumber d ≡ actNumber refuses → ⊥) → (actNumber d ≡ actNumber opens → ⊥) → (actNumber d ≡ actNumber opensNamed → ⊥) → (actNumber d ≡ actNumber closes → ⊥) → (actNumber d ≡ actNumber endsAndCloses → ⊥)
       → Does d (actionOf (modeOf (x .state)) c .next) levelLimit (x .state) c anywhere → takes levelLimit (x .state) c ≡ true

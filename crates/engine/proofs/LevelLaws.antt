@@ -1,5 +1,5 @@
 -- The open levels in the array, and the records that are written when they close. Assumes nothing.
-use Prim.Native.Nat.{ℕ, suc, _+_, _*_, _≤_, _<_}
+use Prim.Native.Nat.{ℕ, zero, suc, _+_, _-_, _*_, _≤_, _<_}
 use mathlib.Core.Path.{_≡_, refl, sym, ap, _∙_}
 use mathlib.Core.Bool.{Bool, true, false}
 use mathlib.Core.List.{List}
@@ -11,14 +11,14 @@ use Rattle.octets.specs.Believed.Choice.{pick}
 use Rattle.octets.specs.Believed.Letters.{sameLetters}
 use Rattle.octets.specs.Believed.Text.{bytes}
 use Rattle.grammar.specs.Believed.Records.{recordBy, recordBytes}
-use Rattle.grammar.specs.Believed.Rfc733.{kindNumber, typedKind, include, postal, otherTyped}
+use Rattle.grammar.specs.Believed.Rfc733.{kindNumber, typedKind, angleList, group, include, postal, otherTyped}
 use Rattle.grammar.specs.Executable.Trees733.{Lexeme, Place, Address, typed}
 use Rattle.grammar.specs.Executable.Machine733.{Here, inList, inTyped, Level, top, inAngle, inGroup, asList, close, levelsHere, levelsAt}
 use Rattle.grammar.proofs.Rfc733.TreeRecords.{listCount, addressCount, addressRecords, addressRecord}
 use Rattle.grammar.proofs.RecordLaws.{stored-behind, stored-around}
 use Rattle.engine.specs.Ties.Actions.{behindAddress}
 use Rattle.engine.specs.Ties.Stands.{modeOf, placeOf, numberHere, parentAt, parentHere, Entry, HoldsHere, HoldsLevel, storedHere, storedLevel}
-use Rattle.engine.specs.Ties.Turns.{OpenHere, LevelAt, Closing, Closed}
+use Rattle.engine.specs.Ties.Turns.{kindAt, KindIs, OpenHere, LevelAt, Closing, Closed}
 
 -- ---- parents
 
@@ -47,6 +47,43 @@ typed-kind-by false false = (omega arith, omega arith)
 
 pub typed-kind-bounds : (atom : List ℕ) → (4 < kindNumber (typedKind atom)) × (kindNumber (typedKind atom) < 8)
 typed-kind-bounds atom = typed-kind-by (sameLetters atom (bytes "Include")) (sameLetters atom (bytes "Postal"))
+
+-- the kind of the level around a list, 0 where there is none
+abbrev pub kindOfLevel : Level → ℕ
+kindOfLevel top = 0
+kindOfLevel (inAngle h o t) = kindNumber angleList
+kindOfLevel (inGroup h o t) = kindNumber group
+
+-- .. around an address
+abbrev pub kindOfHere : Here → ℕ
+kindOfHere (inList k r) = kindOfLevel k
+kindOfHere (inTyped h t a u) = kindNumber (typedKind (a .meaning))
+
+module _ (stack : List ℕ) (depth : ℕ) where
+  pub level-kind : (k : Level) → HoldsLevel stack k → depth ≡ levelsAt k → kindAt stack depth ≡ kindOfLevel k
+  level-kind top x d = ap (kindAt stack) d
+  level-kind (inAngle h o t) x d = ap (kindAt stack) d ∙ x .0 .kind-is
+  level-kind (inGroup h o t) x d = ap (kindAt stack) d ∙ x .0 .kind-is
+
+  pub here-kind : (h : Here) → OpenHere stack h depth → kindAt stack depth ≡ kindOfHere h
+  here-kind (inList k r) o = level-kind k (o .holds) (o .depth-is)
+  here-kind (inTyped h t a u) o = ap (kindAt stack) (o .depth-is) ∙ o .holds .0 .kind-is
+
+-- the kind that is told of so many levels
+pub kind-none : (stack : List ℕ) (depth : ℕ) → depth ≡ 0 → KindIs stack depth 0
+kind-none stack depth e = record { is = sym (ap (kindAt stack) e) }
+
+pub kind-some : (stack : List ℕ) (depth kind : ℕ) → (depth ≡ 0 → ⊥) → kind ≡ getD stack (placeOf (depth - 1) 2) 0 → KindIs stack depth kind
+kind-some stack zero kind f e = absurd (f refl)
+kind-some stack (suc depth) kind f e = record { is = e ∙ ap (λ n. getD stack (placeOf n 2) 0) (omega arith) }
+
+-- .. which are some where it is not 0
+pub kind-deep : {stack : List ℕ} {depth kind : ℕ} → KindIs stack depth kind → 0 < kind → 0 < depth
+kind-deep {stack} {depth} {kind} x h = by depth (x .is)
+  where
+    by : (n : ℕ) → kind ≡ kindAt stack n → 0 < n
+    by zero e = absurd (omega arith)
+    by (suc n) e = omega arith
 
 -- ---- closing
 

@@ -1,5 +1,5 @@
 -- One law for each thing that a turn does. Assumes nothing.
-use Prim.Native.Nat.{ℕ, suc, _+_, _*_, _≤_, _<_}
+use Prim.Native.Nat.{ℕ, suc, _+_, _-_, _*_, _≤_, _<_}
 use mathlib.Core.Path.{_≡_, refl, sym, ap, _∙_}
 use mathlib.Core.Bool.{Bool, true, false}
 use mathlib.Core.List.{List, [], _∷_, append-nil}
@@ -21,9 +21,9 @@ use Rattle.grammar.proofs.Rfc733.TreeRecords.{listCount, addressCount, addressR
 use Rattle.grammar.proofs.RecordLaws.{stored-around}
 use Rattle.engine.specs.Ties.Actions.{modeNumber, behindAddress, atWords}
 use Rattle.engine.specs.Ties.Stands.{modeOf, levelSize, placeOf, Ordered, numberHere, parentAt, parentHere, Entry, HoldsHere, HoldsLevel, storedHere, storedList, FirstAtom, NameIs, Stands}
-use Rattle.engine.specs.Ties.Turns.{kindIf, levelIf, endIf, loneKind, Ended, lone, boxed, OpenHere, LevelAt, Closing, Closed, Follows, GoesTo, StopsBy, Opening, AtClose, AtTyped}
+use Rattle.engine.specs.Ties.Turns.{kindIf, levelIf, endIf, loneKind, kindAt, KindIs, Ended, lone, boxed, OpenHere, LevelAt, Closing, Closed, Follows, GoesTo, StopsBy, Opening, AtClose, AtTyped}
 use Rattle.engine.specs.declared.Engine.{Engine}
-use Rattle.engine.proofs.LevelLaws.{close-free, close-holds, close-mode, close-depth}
+use Rattle.engine.proofs.LevelLaws.{kindOfLevel, level-kind, kind-deep, close-free, close-holds, close-mode, close-depth}
 use Rattle.engine.proofs.ArrayLaws.{holds-agrees, entry-as, named, named-under, named-entry, pushed, pushed-under, pushed-entry}
 use Rattle.engine.proofs.MachineLaws.{WordIs, atomIs, quotedIs, Keeps, toAt, toNextAt, toNode, toNextNode, toPlace}
 
@@ -272,9 +272,13 @@ addressIf false o t l u = trees.group o t l u
 abbrev unfitting : List ℕ → Bool → Level → AddressList → Lexeme → Type 0
 unfitting stack b k l t = StopsBy (endIf b k l t) noListGoesOn stack stack
 
-top-unfit : (stack : List ℕ) (b : Bool) (l : AddressList) (t : Lexeme) → unfitting stack b top l t
-top-unfit stack true l t = record { why = unfit; steps = refl; number-is = refl; kept = refl }
-top-unfit stack false l t = record { why = unfit; steps = refl; number-is = refl; kept = refl }
+wrong-mark : (stack : List ℕ) (b : Bool) (k : Level) (l : AddressList) (t : Lexeme) → (kindOfLevel k ≡ kindIf b → ⊥) → unfitting stack b k l t
+wrong-mark stack true top l t f = record { why = unfit; steps = refl; number-is = refl; kept = refl }
+wrong-mark stack false top l t f = record { why = unfit; steps = refl; number-is = refl; kept = refl }
+wrong-mark stack true (inAngle h o v) l t f = absurd (f refl)
+wrong-mark stack false (inAngle h o v) l t f = record { why = unfit; steps = refl; number-is = refl; kept = refl }
+wrong-mark stack true (inGroup h o v) l t f = record { why = unfit; steps = refl; number-is = refl; kept = refl }
+wrong-mark stack false (inGroup h o v) l t f = absurd (f refl)
 
 -- the level that the mark closes
 pub record RightMark (stack : List ℕ) (level : ℕ) (b : Bool) (k : Level) : Type 0 where
@@ -283,6 +287,10 @@ pub record RightMark (stack : List ℕ) (level : ℕ) (b : Bool) (k : Level) : T
   pub mark : Lexeme
   pub is : k ≡ levelIf b here name mark
   pub at : LevelAt stack level here (nameStart name mark) (kindIf b) (nameStart name mark) (nameEnd name mark)
+
+kind-told : (b : Bool) → 0 < kindIf b
+kind-told true = omega arith
+kind-told false = omega arith
 
 pub kind-below : (b : Bool) → kindIf b < 256
 kind-below true = omega arith
@@ -299,8 +307,13 @@ level-of b h o v level q d en x =
       below = d;
     }
 
-wrong-kind : (stack : List ℕ) {a b : ℕ} (level : ℕ) {i : ℕ} → getD stack (placeOf i 2) 0 ≡ a → i ≡ level → getD stack (placeOf level 2) 0 ≡ b → a ≡ b
-wrong-kind stack level p q r = sym p ∙ ap (λ z. getD stack (placeOf z 2) 0) q ∙ r
+right-mark : {stack : List ℕ} (b : Bool) (k : Level) (level : ℕ) → kindOfLevel k ≡ kindIf b → HoldsLevel stack k → level + 1 ≡ levelsAt k → level < levelLimit → RightMark stack level b k
+right-mark true top level e x q d = absurd (omega arith)
+right-mark false top level e x q d = absurd (omega arith)
+right-mark true (inAngle h o v) level e x q d = record { here = h; name = o; mark = v; is = refl; at = level-of true h o v level (omega arith) d (x .0) (x .1) }
+right-mark false (inAngle h o v) level e x q d = absurd (omega arith)
+right-mark true (inGroup h o v) level e x q d = absurd (omega arith)
+right-mark false (inGroup h o v) level e x q d = record { here = h; name = o; mark = v; is = refl; at = level-of false h o v level (omega arith) d (x .0) (x .1) }
 
 mark-steps : (t : Lexeme) (b : Bool) (h : Here) (o : Option Phrase) (v : Lexeme) (l : AddressList) → endIf b (levelIf b h o v) l t ≡ go (asList (close h (addressIf b o v l t)))
 mark-steps t true h o v l = refl
@@ -311,30 +324,18 @@ mark-count t true o v l = refl
 mark-count t false o v l = refl
 
 module _ {text lent stack table : List ℕ} {t : Lexeme} {depth free kind next end : ℕ} where
-  pub close-outermost : (b : Bool) (k : Level) (l : AddressList) → AtClose text lent k l t b depth free kind next end stack table → depth ≡ 0 → unfitting stack b k l t
-  close-outermost b top l x z = top-unfit stack b l t
-  close-outermost b (inAngle h o v) l x z = absurd (omega (arith, x .depth-is))
-  close-outermost b (inGroup h o v) l x z = absurd (omega (arith, x .depth-is))
+  close-kind : (b : Bool) (k : Level) (l : AddressList) → AtClose text lent k l t b depth free kind next end stack table → kindAt stack depth ≡ kindOfLevel k
+  close-kind b k l x = level-kind stack depth k (x .holds) (x .depth-is)
 
-  pub close-wrong : (b : Bool) (k : Level) (l : AddressList) → AtClose text lent k l t b depth free kind next end stack table → (level : ℕ) → level + 1 ≡ depth → (getD stack (placeOf level 2) 0 ≡ kind → ⊥) → unfitting stack b k l t
-  close-wrong b top l x level q f = top-unfit stack b l t
-  close-wrong false (inAngle h o v) l x level q f = record { why = unfit; steps = refl; number-is = refl; kept = refl }
-  close-wrong true (inAngle h o v) l x level q f = absurd (f (ap (λ z. getD stack (placeOf z 2) 0) (omega (arith, x .depth-is)) ∙ x .holds .0 .kind-is ∙ sym (x .kind-is)))
-  close-wrong true (inGroup h o v) l x level q f = record { why = unfit; steps = refl; number-is = refl; kept = refl }
-  close-wrong false (inGroup h o v) l x level q f = absurd (f (ap (λ z. getD stack (placeOf z 2) 0) (omega (arith, x .depth-is)) ∙ x .holds .0 .kind-is ∙ sym (x .kind-is)))
+  pub close-wrong : {n : ℕ} (b : Bool) (k : Level) (l : AddressList) → AtClose text lent k l t b depth free kind next end stack table → KindIs stack depth n → (n ≡ kind → ⊥) → unfitting stack b k l t
+  close-wrong b k l x m f = wrong-mark stack b k l t (λ e. f (m .is ∙ close-kind b k l x ∙ e ∙ sym (x .kind-is)))
 
-  pub close-right : (b : Bool) (k : Level) (l : AddressList) → AtClose text lent k l t b depth free kind next end stack table → (level : ℕ) → level + 1 ≡ depth → getD stack (placeOf level 2) 0 ≡ kind → RightMark stack level b k
-  close-right b top l x level q f = absurd (omega (arith, x .depth-is))
-  close-right true (inAngle h o v) l x level q f =
-      record { here = h; name = o; mark = v; is = refl; at = level-of true h o v level (omega (arith, x .depth-is)) (omega (arith, x .deep)) (x .holds .0) (x .holds .1) }
-  close-right false (inGroup h o v) l x level q f =
-      record { here = h; name = o; mark = v; is = refl; at = level-of false h o v level (omega (arith, x .depth-is)) (omega (arith, x .deep)) (x .holds .0) (x .holds .1) }
-  close-right false (inAngle h o v) l x level q f =
-      let z : _≡_ {A = ℕ} 2 3 = wrong-kind stack level (x .holds .0 .kind-is) (omega (arith, x .depth-is)) (f ∙ x .kind-is) in
-      absurd (omega arith)
-  close-right true (inGroup h o v) l x level q f =
-      let z : _≡_ {A = ℕ} 3 2 = wrong-kind stack level (x .holds .0 .kind-is) (omega (arith, x .depth-is)) (f ∙ x .kind-is) in
-      absurd (omega arith)
+  pub close-deep : {n : ℕ} (b : Bool) (k : Level) (l : AddressList) → AtClose text lent k l t b depth free kind next end stack table → KindIs stack depth n → n ≡ kind → 0 < depth
+  close-deep b k l x m e = kind-deep m (omega (arith, x .kind-is, kind-told b))
+
+  pub close-right : {n : ℕ} (b : Bool) (k : Level) (l : AddressList) → AtClose text lent k l t b depth free kind next end stack table → KindIs stack depth n → n ≡ kind → RightMark stack (depth - 1) b k
+  close-right b k l x m e =
+      right-mark b k (depth - 1) (sym (close-kind b k l x) ∙ sym (m .is) ∙ e ∙ x .kind-is) (x .holds) (omega (arith, x .depth-is, close-deep b k l x m e)) (omega (arith, x .deep, close-deep b k l x m e))
 
   -- its record is written
   pub mark-closing : (b : Bool) (h : Here) (o : Option Phrase) (v : Lexeme) (l : AddressList) → AtClose text lent (levelIf b h o v) l t b depth free kind next end stack table

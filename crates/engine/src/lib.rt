@@ -16,8 +16,8 @@ ghost use Rattle.expected.specs.Believed.Things.{sumOf};
 ghost use Rattle.expected.specs.Executable.Named.{named, expectedIn};
 ghost use Rattle.engine.specs.Ties.Actions.{actionTable, columns, modeCount};
 ghost use Rattle.engine.specs.Ties.Stands.{levelSize, stackSize, placeOf};
-ghost use Rattle.engine.specs.Ties.Turns.{isAngle, kindIf, loneKind, SomeHere, ParentIs, SomeLevel, PutLevelIs, SomeClosing, CloseTypedIs, SomeEnded, CompleteIs, Fits, OpenLevelIs, SomeAtClose, CloseLevelIs, SomeTyped, MakeTypedIs, PassIs, SomeEnding, EndsIs, SomeTurning, TurnIs, SomeFinishing, FinishIs};
-ghost use Rattle.engine.specs.Ties.Expecting.{RunIs, UnderTypedIs, ClosesIs, SomeStands, SomeCould, CouldIs, SomeCouldEnd, CouldEndIs, IfCouldIs, IfCouldEndIs, ExpectedIs};
+ghost use Rattle.engine.specs.Ties.Turns.{isAngle, kindIf, loneKind, KindIs, SomeHere, ParentIs, SomeLevel, PutLevelIs, SomeClosing, CloseTypedIs, SomeEnded, CompleteIs, Fits, OpenLevelIs, SomeAtClose, CloseLevelIs, SomeTyped, MakeTypedIs, PassIs, SomeEnding, EndsIs, SomeTurning, TurnIs, SomeFinishing, FinishIs};
+ghost use Rattle.engine.specs.Ties.Expecting.{RunIs, UnderTypedIs, SomeStands, SomeCould, CouldIs, SomeCouldEnd, CouldEndIs, IfCouldIs, IfCouldEndIs, ExpectedIs};
 use crate::actions::ACTIONS;
 use crate::actions::ADDS;
 use crate::actions::BEGINS;
@@ -155,6 +155,17 @@ fn number_of(stack: &[u32; STACK_SIZE], level: usize, which: usize) -> u32
     stack[level * LEVEL_SIZE + which]
 }
 
+// The kind of the innermost of so many levels; 0 where there is none.
+fn kind_at(stack: &[u32; STACK_SIZE], depth: usize) -> u32
+    requires { ⌜ depth ≤ levelLimit ⌝ }
+    ensures { λ r. ⌜ KindIs (now (stack .entry)) depth r ⌝ }
+{
+    if depth == 0 {
+        return 0;
+    }
+    number_of(stack, depth - 1, KIND)
+}
+
 // Put a number of a level into the array.
 fn put_number(stack: &mut [u32; STACK_SIZE], level: usize, which: usize, n: usize)
     requires { ⌜ (level < levelLimit) × (which < levelSize) × (n ≤ messageLimit) ⌝ }
@@ -201,15 +212,11 @@ fn close_typed(stack: &[u32; STACK_SIZE], table: &mut [u8], depth: usize, end: u
 {
     let mut left = depth;
     loop {
-        if left == 0 {
-            return 0;
-        }
-        let level = left - 1;
-        if number_of(stack, level, KIND) < FIRST_TYPED {
+        if kind_at(stack, left) < FIRST_TYPED {
             return left;
         }
-        put_level(stack, table, level, end);
-        left = level;
+        left = left - 1;
+        put_level(stack, table, left, end);
     }
 }
 
@@ -277,13 +284,10 @@ fn close_level(
     requires { ⌜ SomeAtClose depth free kind mode end (now stack) (now table) ⌝ }
     ensures { λ r. ⌜ CloseLevelIs (now (stack .entry)) (now (table .entry)) (now (table .exit)) depth free kind mode end r ⌝ }
 {
-    if depth == 0 {
+    if kind_at(stack, depth) != kind {
         return Turned::Stop(NO_LIST_GOES_ON);
     }
     let level = depth - 1;
-    if number_of(stack, level, KIND) != kind {
-        return Turned::Stop(NO_LIST_GOES_ON);
-    }
     put_level(stack, table, level, end);
     let left = close_typed(stack, table, level, end);
     Turned::On(Engine {
@@ -584,26 +588,11 @@ fn under_typed(stack: &[u32; STACK_SIZE], depth: usize) -> usize
 {
     let mut left = depth;
     loop {
-        if left == 0 {
-            return 0;
-        }
-        let level = left - 1;
-        if number_of(stack, level, KIND) < FIRST_TYPED {
+        if kind_at(stack, left) < FIRST_TYPED {
             return left;
         }
-        left = level;
+        left = left - 1;
     }
-}
-
-// Whether a mark of this kind closes the innermost of so many levels.
-fn closes_at(stack: &[u32; STACK_SIZE], depth: usize, kind: u32) -> bool
-    requires { ⌜ depth ≤ levelLimit ⌝ }
-    ensures { λ r. ⌜ ClosesIs (now (stack .entry)) depth kind r ⌝ }
-{
-    if depth == 0 {
-        return false;
-    }
-    number_of(stack, depth - 1, KIND) == kind
 }
 
 // Whether a symbol of a class could stand next, by its entry of the table.
@@ -623,10 +612,10 @@ fn could(stack: &[u32; STACK_SIZE], engine: Engine, action: u8, class: Class) ->
         return more_levels;
     }
     if act == CLOSES {
-        return closes_at(stack, engine.depth, enclosure(class));
+        return kind_at(stack, engine.depth) == enclosure(class);
     }
     if act == ENDS_AND_CLOSES {
-        return closes_at(stack, under_typed(stack, engine.depth), enclosure(class));
+        return kind_at(stack, under_typed(stack, engine.depth)) == enclosure(class);
     }
     true
 }

@@ -8,7 +8,8 @@ use Rattle.octets.specs.Believed.Numbers.{levelLimit}
 use Rattle.grammar.specs.Executable.Trees733.{Address}
 use Rattle.grammar.specs.Executable.Machine733.{Here}
 use Rattle.engine.specs.Ties.Turns.{Closing}
-use Rattle.engine.proofs.CodeLaws.{ClosingOn, closing-start, closing-none, closing-stays, typed-top, some-level, top-level, closing-more}
+use Rattle.engine.proofs.CodeLaws.{ClosingOn, closing-start, closing-stays, typed-top, some-level, top-level, closing-more}
+use Rattle.engine.proofs.LevelLaws.{kind-deep}
 use borrow.Author.Needs.{needs}
 use Rattle.engine.proofs.close_typed.Statement.{statement}
 use Rattle.engine.proofs.close_typed.Tie as tie
@@ -23,40 +24,34 @@ abbrev μ-loop : tie.MeasureT-loop
 loop-holds : tie.Need-loop-holds Inv-loop μ-loop
 loop-holds c = (c .before .pre .closing .is-open .deep, refl, λ lent h a x. closing-start x)
 
+kind-at-requires : tie.Need-kind-at-requires Inv-loop μ-loop
+kind-at-requires c κs = search needs
+
 same-length : tie.Need-same-length Inv-loop μ-loop
 same-length c = search needs
 
 returns : tie.Need-returns Inv-loop μ-loop
-returns c = λ lent h a x. closing-none h a (omega arith) (c .before .loop .inv .2 lent h a x)
+returns c = λ lent h a x. closing-stays h a (c .before .kind-at .ensures) (omega arith) (c .before .before .loop .inv .2 lent h a x)
 
-sub-level : tie.Need-sub-level Inv-loop μ-loop
-sub-level c = search needs
-
-number-of-requires : tie.Need-number-of-requires Inv-loop μ-loop
-number-of-requires c κs = search needs
-
-same-length-2 : tie.Need-same-length-2 Inv-loop μ-loop
-same-length-2 c = search needs
-
-returns-2 : tie.Need-returns-2 Inv-loop μ-loop
-returns-2 c = λ lent h a x. closing-stays h a (omega (arith, c .before .number-of .ensures)) (c .before .before .before .loop .inv .2 lent h a x)
+sub-left : tie.Need-sub-left Inv-loop μ-loop
+sub-left c = omega (arith, kind-deep (c .before .kind-at .ensures) (omega arith))
 
 put-level-requires : tie.Need-put-level-requires Inv-loop μ-loop
 put-level-requires c κs =
-    let p = c .before .before .before .before .before .before .pre in
-    let n = c .before .before .number-of .ensures in
-    some-level (p .here) (p .address) (typed-top (p .here) (p .address) (λ e. omega arith) (omega (arith, n)) (c .before .before .before .before .loop .inv .2 (p .lent) (p .here) (p .address) (p .closing)))
+    let p = c .before .before .before .before .before .pre in
+    let n = c .before .before .kind-at .ensures in
+    some-level (p .here) (p .address) (typed-top (p .here) (p .address) n (omega arith) (c .before .before .before .loop .inv .2 (p .lent) (p .here) (p .address) (p .closing)))
 
 loop-less : tie.Need-loop-less Inv-loop μ-loop
-loop-less c = search needs
+loop-less c = omega (arith, kind-deep (c .before .before .before .before .before .kind-at .ensures) (omega arith))
 
 loop-again : tie.Need-loop-again Inv-loop μ-loop
 loop-again c =
-    let n = c .before .before .before .before .before .number-of .ensures in (
+    let n = c .before .before .before .before .before .kind-at .ensures in (
       omega arith,
       search needs,
       λ lent h a x.
-          let y = typed-top h a (λ e. omega arith) (omega (arith, n)) (c .before .before .before .before .before .before .before .loop .inv .2 lent h a x) in
+          let y = typed-top h a n (omega arith) (c .before .before .before .before .before .before .loop .inv .2 lent h a x) in
           closing-more h a y _ (c .before .before .put-level .ensures (y .here) _ _ _ _ (top-level h a y)),
     )
 
@@ -67,12 +62,10 @@ close-typed-spec =
     Inv-loop
     μ-loop
     loop-holds
+    kind-at-requires
     same-length
     returns
-    sub-level
-    number-of-requires
-    same-length-2
-    returns-2
+    sub-left
     put-level-requires
     loop-less
     loop-again)

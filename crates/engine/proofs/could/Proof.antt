@@ -14,26 +14,26 @@ returns-2 c = λ x i. could-open (c .before .before .before .args .class) x i (o
 returns-3 : tie.Need-returns-3
 returns-3 c = λ x i. could-open-named (c .before .before .before .before .args .class) x i (omega arith)
 
+kind-at-requires : tie.Need-kind-at-requires
+kind-at-requires c κs = search needs
+
 enclosure-requires : tie.Need-enclosure-requires
 enclosure-requires c κs = search needs
 
-closes-at-requires : tie.Need-closes-at-requires
-closes-at-requires c κs = search needs
-
 returns-4 : tie.Need-returns-4
-returns-4 c = λ x i. could-close (c .before .before .before .before .before .before .before .args .class) x i (omega arith) (c .before .enclosure .ensures) (c .closes-at .ensures)
+returns-4 c = λ x i. could-close (c .before .before .before .before .before .before .before .args .class) x i (omega arith) (c .enclosure .ensures) (c .before .kind-at .ensures)
 
 under-typed-requires : tie.Need-under-typed-requires
 under-typed-requires c κs = let p = c .before .before .before .before .before .before in closes-here (p .args .class) (p .pre .at) (p .pre .action-is) (omega arith)
 
+kind-at-requires-2 : tie.Need-kind-at-requires-2
+kind-at-requires-2 c κs = let p = c .before .before .before .before .before .before .before in under-low (closes-here (p .args .class) (p .pre .at) (p .pre .action-is) (omega arith)) (c .under-typed .ensures)
+
 enclosure-requires-2 : tie.Need-enclosure-requires-2
 enclosure-requires-2 c κs = search needs
 
-closes-at-requires-2 : tie.Need-closes-at-requires-2
-closes-at-requires-2 c κs = let p = c .before .before .before .before .before .before .before .before in under-low (closes-here (p .args .class) (p .pre .at) (p .pre .action-is) (omega arith)) (c .before .under-typed .ensures)
-
 returns-5 : tie.Need-returns-5
-returns-5 c = λ x i. could-end-and-close (c .before .before .before .before .before .before .before .before .before .args .class) x i (omega arith) (c .before .enclosure2 .ensures) (c .before .before .under-typed .ensures) (c .closes-at2 .ensures)
+returns-5 c = λ x i. could-end-and-close (c .before .before .before .before .before .before .before .before .before .args .class) x i (omega arith) (c .enclosure2 .ensures) (c .before .before .under-typed .ensures) (c .before .kind-at2 .ensures)
 
 returns-6 : tie.Need-returns-6
 returns-6 c = λ x i. could-else (c .before .before .before .before .before .before .args .class) x i (λ e. omega arith) (λ e. omega arith) (λ e. omega arith) (λ e. omega arith) (λ e. omega arith)
@@ -45,11 +45,11 @@ could-spec =
     returns
     returns-2
     returns-3
+    kind-at-requires
     enclosure-requires
-    closes-at-requires
     returns-4
     under-typed-requires
+    kind-at-requires-2
     enclosure-requires-2
-    closes-at-requires-2
     returns-5
     returns-6)

@@ -6,15 +6,15 @@ use mathlib.Core.List.{List}
 use Rattle.octets.specs.Believed.Numbers.{levelLimit}
 use Rattle.scanner.specs.declared.Class.{Class}
 use Rattle.grammar.specs.Executable.Machines.{ended, standsBy}
-use Rattle.grammar.specs.Executable.Trees733.{AddressList, Address}
-use Rattle.grammar.specs.Executable.Machine733.{Here, Level, State, close, levelsAt, step, finish, run, start, answer}
+use Rattle.grammar.specs.Executable.Trees733.{Address}
+use Rattle.grammar.specs.Executable.Machine733.{Here, State, close, levelsAt, step, finish, run, start, answer}
 use Rattle.addresses.specs.Ties.Steps.{symbolsFrom}
 use Rattle.addresses.specs.Ties.Whole.{IsRefused}
 use Rattle.expected.specs.Believed.Things.{ifNamed, sumOf}
-use Rattle.expected.specs.Executable.Named.{goes, isSome, anywhere, takes, namedAt}
+use Rattle.expected.specs.Executable.Named.{isSome, takes, namedAt}
 use Rattle.engine.specs.Ties.Actions.{entry, rowOf, actionOf}
-use Rattle.engine.specs.Ties.Stands.{modeOf, HoldsLevel, Stands}
-use Rattle.engine.specs.Ties.Turns.{kindIf, endIf, OpenHere}
+use Rattle.engine.specs.Ties.Stands.{modeOf, Stands}
+use Rattle.engine.specs.Ties.Turns.{OpenHere}
 use Rattle.engine.specs.declared.Engine.{Engine}
 use Rattle.engine.specs.declared.Stopped.{Stopped}
 use Rattle.engine.specs.declared.Stopped.the-variants.{AtEnd, AtSymbol}
@@ -53,10 +53,6 @@ pub record SomeStands (stack : List ℕ) (e : Engine) : Type 0 where
 -- the levels that stay open where an address ends
 abbrev pub UnderTypedIs : List ℕ → ℕ → ℕ → Type 0
 UnderTypedIs stack depth r = (h : Here) (a : Address) → OpenHere stack h depth → r ≡ levelsAt (close h a .level)
-
--- a mark closes the innermost level
-abbrev pub ClosesIs : List ℕ → ℕ → ℕ → Bool → Type 0
-ClosesIs stack depth kind r = (k : Level) (l : AddressList) (angle : Bool) → HoldsLevel stack k → depth ≡ levelsAt k → kind ≡ kindIf angle → r ≡ goes (endIf angle k l anywhere)
 
 -- a symbol of a class
 pub record SomeCould (stack : List ℕ) (e : Engine) (action : ℕ) (c : Class) : Type 0 where

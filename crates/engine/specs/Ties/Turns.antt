@@ -1,12 +1,12 @@
 -- What the functions of the reader answer. Nothing here needs to be believed.
 -- A function asks that there is a state of the machine for which its arguments stand (`Some..`), and answers for every such state.
-use Prim.Native.Nat.{ℕ, _+_, _*_, _/_, _≤_, _<_}
+use Prim.Native.Nat.{ℕ, zero, suc, _+_, _*_, _/_, _≤_, _<_}
 use mathlib.Core.Path.{_≡_}
 use mathlib.Core.Bool.{Bool, true, false}
 use mathlib.Core.List.{List, [], _∷_}
 use mathlib.Core.Option.{Option, none, some}
 use lib.Dec.{eqb}
-use lib.ListN.{length}
+use lib.ListN.{length, getD}
 use lib.Seq.{sets}
 use Rattle.octets.specs.Believed.Numbers.{messageLimit, levelLimit, addressRecordSize, endsTooSoon}
 use Rattle.octets.specs.Believed.Choice.{pick}
@@ -22,7 +22,7 @@ use Rattle.grammar.specs.Executable.Trees733 as trees
 use Rattle.grammar.specs.Executable.Machine733.{Here, inList, Level, inAngle, inGroup, State, list, phrase, node, want, Spot, close, enter, endAngle, endGroup, levelsHere, levelsAt, stepOn, finish}
 use Rattle.grammar.proofs.Rfc733.TreeRecords.{listCount, listRecords, addressEnd, nameStart, nameEnd}
 use Rattle.engine.specs.Ties.Actions.{modeNumber, behindAddress, wanting, atQuoted, refuses, opens, turnsTyped, actNumber, modeRoom, entry, rowOf, actionOf}
-use Rattle.engine.specs.Ties.Stands.{modeOf, stackSize, numberHere, parentAt, parentHere, Entry, HoldsHere, HoldsLevel, storedHere, storedList, storedAddress, Stands}
+use Rattle.engine.specs.Ties.Stands.{modeOf, stackSize, placeOf, numberHere, parentAt, parentHere, Entry, HoldsHere, HoldsLevel, storedHere, storedList, storedAddress, Stands}
 use Rattle.engine.specs.declared.Engine.{Engine}
 use Rattle.grammar.specs.declared.Whole.{Whole}
 use Rattle.grammar.specs.declared.Whole.the-variants.{Listed, Refused}
@@ -58,6 +58,14 @@ pub data Ended : State → Here → Address → Type 0 where
   boxed : {h : Here} {p : Phrase} {m : Nodes} → Ended (node h p m) h (trees.mailbox p m)
 
 -- ---- levels
+
+-- the kind of the innermost of so many levels, 0 where there is none
+abbrev pub kindAt : List ℕ → ℕ → ℕ
+kindAt stack zero = 0
+kindAt stack (suc level) = getD stack (placeOf level 2) 0
+
+pub record KindIs (stack : List ℕ) (depth kind : ℕ) : Type 0 where
+  pub is : kind ≡ kindAt stack depth
 
 -- the levels around an address, as the array holds them
 pub record OpenHere (stack : List ℕ) (h : Here) (depth : ℕ) : Type 0 where
