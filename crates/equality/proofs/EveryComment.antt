@@ -44,7 +44,7 @@ module _ (fold : InFold) (b : ℕ) (cs : List ℕ) (p p′ : ℕ) (folded : Bool
   on state = scanFrom classTable (charactersFrom characters.none cs (p′ + 1)) state
 
   module _ {base s : ℕ} {alone here : State} where
-    ends-rest : (alone′ here′ : State) → Within base s alone′ here′ → move alone (characterKind classTable b folded) b p ≡ go [] alone′ → move here (characterKind classTable b folded) b p′ ≡ go [] here′
+    ends-rest : (alone′ here′ : State) → Within base s alone′ here′ → move alone (characterKind classTable b folded) b p folded ≡ go [] alone′ → move here (characterKind classTable b folded) b p′ folded ≡ go [] here′
         → Ends characters.none cs (p + 1) (p′ + 1) alone′ here′ → Ends fold (b ∷ cs) p p′ alone here
     unfolding scanFrom
     ends-rest alone′ here′ w e f (faulty n q g) = faulty n q (rw whole (ap (λ m. then m on) f ∙ g))
@@ -52,7 +52,7 @@ module _ (fold : InFold) (b : ℕ) (cs : List ℕ) (p p′ : ℕ) (folded : Bool
         closing (b ∷ inside) behind (ap (λ l. b ∷ l) g)
         (rw (is inside behind p g) (ap (closesBy (charactersFrom characters.none inside (p + 1))) e ∙ closes-within w (charactersFrom characters.none inside (p + 1)) ∙ l))
 
-    ends-by : Does base s (move alone (characterKind classTable b folded) b p) (move here (characterKind classTable b folded) b p′)
+    ends-by : Does base s (move alone (characterKind classTable b folded) b p folded) (move here (characterKind classTable b folded) b p′ folded)
         → ((alone′ here′ : State) → Within base s alone′ here′ → Ends characters.none cs (p + 1) (p′ + 1) alone′ here′) → Ends fold (b ∷ cs) p p′ alone here
     unfolding scanFrom charactersFrom
     ends-by (faults n q q′ e f) rest = faulty n q′ (rw whole (ap (λ m. then m on) f))
@@ -127,7 +127,7 @@ fault-followed (x ∷ xs) r = fault-followed xs r
 fault-behind : (xs ys : List Character) (state state′ : State) → stateAfter xs state ≡ some state′ → faultOf (scanFrom classTable (xs ++ ys) state) ≡ faultOf (scanFrom classTable ys state′)
 unfolding scanFrom
 fault-behind [] ys state state′ e = let f : state ≡ state′ = cc in ap (λ t. faultOf (scanFrom classTable ys t)) f
-fault-behind (character b p folded ∷ xs) ys state state′ e = by (move state (characterKind classTable b folded) b p) e (λ t i. fault-behind xs ys t state′ i)
+fault-behind (character b p folded ∷ xs) ys state state′ e = by (move state (characterKind classTable b folded) b p folded) e (λ t i. fault-behind xs ys t state′ i)
   where
     by : (m : Move) → elim (stateOf m) [ none ↦ none | some t ↦ stateAfter xs t ] ≡ some state′ → ((t : State) → stateAfter xs t ≡ some state′ → faultOf (scanFrom classTable (xs ++ ys) t) ≡ faultOf (scanFrom classTable ys state′))
         → faultOf (then m (λ t. scanFrom classTable (xs ++ ys) t)) ≡ faultOf (scanFrom classTable ys state′)

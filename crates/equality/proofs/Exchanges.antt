@@ -34,7 +34,7 @@ same-front : (xs ys zs : List Character) (state : State) → ((state′ : State)
 unfolding scanFrom
 same-front [] ys zs state h = h state refl
 same-front (character b p folded ∷ xs) ys zs state h =
-    same-move (move state (characterKind classTable b folded) b p) (λ s. scanFrom classTable (xs ++ ys) s) (λ s. scanFrom classTable (xs ++ zs) s)
+    same-move (move state (characterKind classTable b folded) b p folded) (λ s. scanFrom classTable (xs ++ ys) s) (λ s. scanFrom classTable (xs ++ zs) s)
     (λ s e. same-front xs ys zs s (λ s′ e′. h s′ (ap (λ (o : Option State). elim o [ none ↦ none | some t ↦ stateAfter xs t ]) e ∙ e′)))
 
 -- ---- a comment taken apart

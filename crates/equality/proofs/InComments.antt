@@ -51,6 +51,6 @@ module _ {base s : ℕ} where
   does-taken (taken g) e q r p p′ h = goes-on (inComment e q) (inComment r s) (comment e q r h) (g (inComment e q) p) (g (inComment r s) p′)
   does-taken (byte.faulty n g) e q r p p′ h = faults n p p′ (g (inComment e q) p) (g (inComment r s) p′)
 
-  pub does : {alone here : State} → Within base s alone here → (b p p′ : ℕ) (folded : Bool) → Does base s (move alone (characterKind classTable b folded) b p) (move here (characterKind classTable b folded) b p′)
+  pub does : {alone here : State} → Within base s alone here → (b p p′ : ℕ) (folded : Bool) → Does base s (move alone (characterKind classTable b folded) b p folded) (move here (characterKind classTable b folded) b p′ folded)
   does (comment e q r h) b p p′ folded = does-comment (comment-by (character-view b folded)) e q r p p′ h
   does (taking e q r h) b p p′ folded = does-taken (behind-by (character-view b folded)) e q r p p′ h

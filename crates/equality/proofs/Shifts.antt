@@ -6,7 +6,7 @@ use mathlib.Core.List.{List, [], _∷_, _++_}
 use Rattle.octets.specs.Believed.Classes.{classTable}
 use Rattle.octets.specs.Believed.Numbers.{quotedNotClosed, commentNotClosed}
 use Rattle.scanner.specs.Believed.Characters.{Character, character, foldAt, InFold, none, lineFeed, white, charactersFrom}
-use Rattle.scanner.specs.Believed.Scanning.{Scanned, ended, next, faultAt, State, outside, inAtom, inQuoted, takingInQuoted, inComment, takingInComment, Move, go, halt, atom, moveOutside, endingWith, moveInAtom, moveInQuoted, closed, moveInComment, take, move, atEnd, followedBy, then, scanFrom}
+use Rattle.scanner.specs.Believed.Scanning.{Scanned, ended, next, faultAt, State, outside, inAtom, inQuoted, takingInQuoted, inComment, takingInComment, Move, go, halt, atom, moveOutside, endingWith, moveInAtom, moveInQuoted, closed, moveInComment, take, takenData, move, atEnd, followedBy, then, scanFrom}
 use Rattle.scanner.proofs.CharacterLaws.{plain-here}
 use Rattle.grammar.specs.Executable.Trees733.{Sym}
 use Rattle.plain.proofs.ByteKinds.{KindView}
@@ -106,13 +106,13 @@ alike-behind : {k : _} → Behind k → {s s′ : State} → AlikeStates s s′ 
 alike-behind (taken f) {s} {s′} h p q = by-both (f s p) (f s′ q) (both-go no-symbol h)
 alike-behind (byte.faulty n f) {s} {s′} h p q = by-both (f s p) (f s′ q) (both-halt n p q no-symbol)
 
-alike-move : {k : _} → KindView k → {s s′ : State} → AlikeStates s s′ → (b p q : ℕ) → AlikeMoves (move s k b p) (move s′ k b q)
-alike-move v outsides b p q = alike-outside (outside-by v) b p q
-alike-move v (atoms a e a′ e′ t) b p q = alike-in-atom v (atom-by v) a e a′ e′ t b p q
-alike-move v (quoteds a a′ t) b p q = alike-in-quoted (quoted-by v) a a′ t b p q
-alike-move v (taking-quoteds a a′ t) b p q = alike-behind (behind-by v) (quoteds a a′ (t ++ (b ∷ []))) p q
-alike-move v (comments d a a′) b p q = alike-in-comment (comment-by v) d a a′ p q
-alike-move v (taking-comments d a a′) b p q = alike-behind (behind-by v) (comments d a a′) p q
+alike-move : {k : _} → KindView k → {s s′ : State} → AlikeStates s s′ → (b p q : ℕ) (folded : Bool) → AlikeMoves (move s k b p folded) (move s′ k b q folded)
+alike-move v outsides b p q folded = alike-outside (outside-by v) b p q
+alike-move v (atoms a e a′ e′ t) b p q folded = alike-in-atom v (atom-by v) a e a′ e′ t b p q
+alike-move v (quoteds a a′ t) b p q folded = alike-in-quoted (quoted-by v) a a′ t b p q
+alike-move v (taking-quoteds a a′ t) b p q folded = alike-behind (behind-by v) (quoteds a a′ (t ++ takenData b folded)) p q
+alike-move v (comments d a a′) b p q folded = alike-in-comment (comment-by v) d a a′ p q
+alike-move v (taking-comments d a a′) b p q folded = alike-behind (behind-by v) (comments d a a′) p q
 
 -- ---- the scan
 
@@ -137,7 +137,7 @@ pub alike-from : {xs ys : List Character} → AlikeCharacters xs ys → (s s′ 
 unfolding scanFrom
 alike-from none-left s s′ h = alike-end h
 alike-from (one-more b p q folded {xs} {ys} a) s s′ h =
-    alike-then (λ z. scanFrom classTable xs z) (λ z. scanFrom classTable ys z) (alike-move (character-view b folded) h b p q) (λ z z′ i. alike-from a z z′ i)
+    alike-then (λ z. scanFrom classTable xs z) (λ z. scanFrom classTable ys z) (alike-move (character-view b folded) h b p q folded) (λ z z′ i. alike-from a z z′ i)
 
 pub same-symbols : (xs : List Sym) → AlikeSymbols xs xs
 same-symbols [] = no-symbol

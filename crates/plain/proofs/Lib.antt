@@ -8,7 +8,6 @@ pub mod ScannedWords
 pub mod Walks
 pub mod RoundTrips
 pub mod Examples
-pub mod QuotedData
 pub mod WalkSteps
 pub mod PlainLaws
 pub mod CanWrite

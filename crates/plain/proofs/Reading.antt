@@ -17,10 +17,10 @@ use Rattle.octets.proofs.ChoiceLaws.{both-false}
 use Rattle.scanner.specs.Believed.Symbols.{Symbol}
 use Rattle.scanner.specs.Believed.Kinds.{kindOfClass, kindOf}
 use Rattle.scanner.specs.Believed.Characters.{foldAt, none, charactersFrom}
-use Rattle.scanner.specs.Believed.Scanning.{Scanned, ended, next, State, outside, inAtom, inQuoted, takingInQuoted, atomClass, move, then, scanFrom, symbolsOf}
+use Rattle.scanner.specs.Believed.Scanning.{Scanned, ended, next, State, outside, inAtom, inQuoted, takingInQuoted, atomClass, takenData, move, then, scanFrom, symbolsOf}
 use Rattle.scanner.specs.Believed.Scanning as scanning
 use Rattle.scanner.specs.Believed.Answers.{unlessFault, faultOf}
-use Rattle.scanner.proofs.MoveLaws.{tag, quoted-data, taken}
+use Rattle.scanner.proofs.MoveLaws.{tag, quoted-data, taken, taken-alone}
 use Rattle.grammar.specs.Executable.Trees733.{Class, Atom, Quoted, LessThan, GreaterThan, Semicolon, Colon}
 use Rattle.plain.specs.Believed.Meaning.{Word, atom, quotedString, Words, noWord, andWord, Addresses, noAddress, andAddress}
 use Rattle.plain.specs.Believed.PlainText.{needsBackslash, backslashText, dataText, quotedText, wordText, spaceBehind, phraseText, nodesText, firstAtomGroup, groupGap, commaBehind, addressesText, addressText}
@@ -55,12 +55,12 @@ pub record Reads (t : List ℕ) (ms : List Mark) : Type 0 where
 -- ---- one byte
 
 stepped : (b : ℕ) (r : List ℕ) (p : ℕ) (state : State) → foldAt (b ∷ r) 0 ≡ false
-    → scanAs (b ∷ r) p state ≡ then (move state (kindOf classTable b) b p) (λ state′. scanAs r (p + 1) state′)
+    → scanAs (b ∷ r) p state ≡ then (move state (kindOf classTable b) b p false) (λ state′. scanAs r (p + 1) state′)
 unfolding charactersFrom scanFrom
 stepped b r p state e = rw (e, charactersFrom)
 
 as-kind : (b : ℕ) (r : List ℕ) (p : ℕ) (state : State) (k : _) → foldAt (b ∷ r) 0 ≡ false → kindOf classTable b ≡ k
-    → scanAs (b ∷ r) p state ≡ then (move state k b p) (λ state′. scanAs r (p + 1) state′)
+    → scanAs (b ∷ r) p state ≡ then (move state k b p false) (λ state′. scanAs r (p + 1) state′)
 as-kind b r p state k e h = stepped b r p state e ∙ rw h
 
 reads-nothing : Reads [] []
@@ -125,7 +125,7 @@ no-fold : (b : ℕ) (r : List ℕ) → eqb b 13 ≡ false → foldAt (b ∷ r) 0
 no-fold b r e = rw e
 
 ends-move : {k : _} (v : KindView k) (s e : ℕ) (t : List ℕ) (b p : ℕ) (f : State → Scanned) → T (ender v)
-    → then (move (inAtom s e t) k b p) f ≡ next (scanning.atom s e t) (then (move outside k b p) f)
+    → then (move (inAtom s e t) k b p false) f ≡ next (scanning.atom s e t) (then (move outside k b p false) f)
 ends-move isWhite s e t b p f h = refl
 ends-move isControl s e t b p f h = absurd h
 ends-move isReturn s e t b p f h = absurd h
@@ -192,12 +192,12 @@ data-no-fold b bs r = rw (data-first bs r) (both-false (eqb b 13))
 data-step : (x : Bool) (b : ℕ) (bs r : List ℕ) (p s : ℕ) (t : List ℕ) → T (pick x (hasKey takenKeys (tag (kindOf classTable b))) (hasKey dataKeys (tag (kindOf classTable b))))
     → (q : ℕ) × (scanAs (backslashText x (b ∷ dataText bs (34 ∷ r))) p (inQuoted s t) ≡ scanAs (dataText bs (34 ∷ r)) q (inQuoted s (t ++ (b ∷ []))))
 data-step false b bs r p s t h =
-    (p + 1, stepped b (dataText bs (34 ∷ r)) p (inQuoted s t) (data-no-fold b bs r) ∙ rw (quoted-data (kindOf classTable b) s t b p (hit dataKeys _ h)))
+    (p + 1, stepped b (dataText bs (34 ∷ r)) p (inQuoted s t) (data-no-fold b bs r) ∙ rw (quoted-data (kindOf classTable b) s t b p false (hit dataKeys _ h)))
 data-step true b bs r p s t h = (
   p + 1 + 1,
   as-kind 92 (b ∷ dataText bs (34 ∷ r)) p (inQuoted s t) (kindOfClass backslash) refl (unfold kindOf classTable classOf in refl)
       ∙ stepped b (dataText bs (34 ∷ r)) (p + 1) (takingInQuoted s t) (data-no-fold b bs r)
-      ∙ rw (taken (kindOf classTable b) (inQuoted s (t ++ (b ∷ []))) (p + 1) (hit takenKeys _ h)),
+      ∙ rw (taken (kindOf classTable b) (inQuoted s (t ++ takenData b false)) (p + 1) (hit takenKeys _ h), taken-alone b),
 )
 
 data-runs : (bs : List ℕ) {r : List ℕ} {ms : List Mark} → Each IsDatum bs → Reads r ms → (p s : ℕ) (t : List ℕ)

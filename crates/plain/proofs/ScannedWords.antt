@@ -19,7 +19,7 @@ use Rattle.octets.proofs.ChoiceLaws.{both-parts, either-parts}
 use Rattle.scanner.specs.Believed.Kinds.{kindOfClass, kindOf, characterKind}
 use Rattle.scanner.specs.Believed.Characters.{Character, character, foldAt, InFold, lineFeed, charactersFrom, charactersAt}
 use Rattle.scanner.specs.Believed.Characters as characters
-use Rattle.scanner.specs.Believed.Scanning.{Scanned, next, faultAt, State, outside, inAtom, inQuoted, takingInQuoted, inLiteral, takingInLiteral, inComment, takingInComment, Move, go, halt, atomClass, moveOutside, endingWith, moveInAtom, moveInQuoted, closed, moveInComment, take, move, atEnd, followedBy, then, scanFrom, scan, symbolsOf}
+use Rattle.scanner.specs.Believed.Scanning.{Scanned, next, faultAt, State, outside, inAtom, inQuoted, takingInQuoted, inLiteral, takingInLiteral, inComment, takingInComment, Move, go, halt, atomClass, moveOutside, endingWith, moveInAtom, moveInQuoted, closed, moveInComment, take, takenData, move, atEnd, followedBy, then, scanFrom, scan, symbolsOf}
 use Rattle.scanner.specs.Believed.Scanning as scanning
 use Rattle.scanner.proofs.MoveLaws.{tag}
 use Rattle.grammar.specs.Executable.Trees733.{Class, Atom, Quoted, At, LessThan, GreaterThan, Comma, Semicolon, Colon, Stray, Dot, Literal, Sym, of, atomWord, quotedWord, Phrase, one, more, Nodes, first, Place, comma, AddressList, idle, full}
@@ -117,9 +117,17 @@ GoodMove (halt xs n p) = WritableSymbols xs
 abbrev GoodScan : Scanned → Type 0
 GoodScan s = WritableSymbols (symbolsOf s)
 
+each-both : (P : ℕ → Type 0) (t u : List ℕ) → Each P t → Each P u → Each P (t ++ u)
+each-both P [] u e h = h
+each-both P (c ∷ t) u e h = (e .0, each-both P t u (e .1) h)
+
 each-and : (P : ℕ → Type 0) (t : List ℕ) (b : ℕ) → Each P t → P b → Each P (t ++ (b ∷ []))
-each-and P [] b e h = (h, tt)
-each-and P (c ∷ t) b e h = (e .0, each-and P t b (e .1) h)
+each-and P t b e h = each-both P t (b ∷ []) e (h, tt)
+
+-- what a backslash takes is data
+taken-data : (b : ℕ) (folded : Bool) → IsDatum b → Each IsDatum (takenData b folded)
+unfolding takenData
+taken-data b folded h = (h, tt)
 
 begun-and : (t : List ℕ) (b : ℕ) → Begun t → IsPlain b → Begun (t ++ (b ∷ []))
 begun-and [] b e h = absurd e
@@ -232,16 +240,16 @@ good-in-comment isBackslash d s p = (tt, tt)
 good-in-comment isQuote d s p = (tt, tt)
 good-in-comment isAbove d s p = tt
 
-good-move : (state : State) {k : _} (b p : ℕ) → Known b k → GoodState state → GoodMove (move state k b p)
-good-move outside b p w h = good-outside (w .view) b p (w .plain)
-good-move (inAtom s e t) {k} b p w h =
+good-move : (state : State) {k : _} (b p : ℕ) (folded : Bool) → Known b k → GoodState state → GoodMove (move state k b p folded)
+good-move outside b p folded w h = good-outside (w .view) b p (w .plain)
+good-move (inAtom s e t) {k} b p folded w h =
     good-in-atom (w .view) s e t b p (w .plain) h (good-ending (scanning.atom s e t) (moveOutside k b p) (good-atom t h) (good-outside (w .view) b p (w .plain)))
-good-move (inQuoted s t) b p w h = good-in-quoted (w .view) s t b p (w .data-is) h
-good-move (takingInQuoted s t) b p w h = good-taken (w .view) (inQuoted s (t ++ (b ∷ []))) p (λ z. each-and IsDatum t b h (w .data-is z))
-good-move (inLiteral s) b p w h = absurd h
-good-move (takingInLiteral s) b p w h = absurd h
-good-move (inComment d s) b p w h = good-in-comment (w .view) d s p
-good-move (takingInComment d s) b p w h = good-taken (w .view) (inComment d s) p (λ z. tt)
+good-move (inQuoted s t) b p folded w h = good-in-quoted (w .view) s t b p (w .data-is) h
+good-move (takingInQuoted s t) b p folded w h = good-taken (w .view) (inQuoted s (t ++ takenData b folded)) p (λ z. each-both IsDatum t (takenData b folded) h (taken-data b folded (w .data-is z)))
+good-move (inLiteral s) b p folded w h = absurd h
+good-move (takingInLiteral s) b p folded w h = absurd h
+good-move (inComment d s) b p folded w h = good-in-comment (w .view) d s p
+good-move (takingInComment d s) b p folded w h = good-taken (w .view) (inComment d s) p (λ z. tt)
 
 good-followed : (xs : List Sym) (r : Scanned) → WritableSymbols xs → GoodScan r → GoodScan (followedBy xs r)
 unfolding symbolsOf
@@ -268,7 +276,7 @@ good-from : (cs : List Character) (state : State) → KnownAll cs → GoodState 
 unfolding scanFrom
 good-from [] state q h = good-end state h
 good-from (character b p folded ∷ cs) state q h =
-    good-then (move state (characterKind classTable b folded) b p) (λ state′. scanFrom classTable cs state′) (good-move state b p (q .0) h) (λ state′ h′. good-from cs state′ (q .1) h′)
+    good-then (move state (characterKind classTable b folded) b p folded) (λ state′. scanFrom classTable cs state′) (good-move state b p folded (q .0) h) (λ state′ h′. good-from cs state′ (q .1) h′)
 
 -- the symbols of a text from a position on
 pub writable-symbols : (text : List ℕ) (at : ℕ) → WritableSymbols (symbolsOf (scan text at))

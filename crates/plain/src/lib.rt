@@ -7,25 +7,22 @@ ghost use mathlib.Core.List.{_∷_, _++_};
 ghost use Prim.Native.Nat.{_+_, _*_, _-_, _≤_, _<_};
 ghost use lib.ListN.{length};
 ghost use lib.Seq.{sets};
-ghost use Rattle.octets.specs.Believed.Choice.{pick};
 ghost use Rattle.octets.specs.Believed.Fitting.{fittingAnswer, fittingText};
 ghost use Rattle.octets.specs.Believed.Text.{part};
 ghost use Rattle.octets.specs.Ties.Writing.{countLimit, Wrote};
-ghost use Rattle.scanner.specs.Believed.Characters.{foldAt};
 ghost use Rattle.scanner.specs.Ties.Meanings.{dataAt, meaningAt};
 ghost use Rattle.plain.specs.Believed.PlainText.{needsBackslash, backslashText, dataText, quotedText};
 ghost use Rattle.plain.specs.Ties.Walking.{gapText, symbolText, writtenText};
 ghost use Rattle.addresses.specs.Believed.Outcome.{AnsweredBy};
 ghost use Rattle.plain.specs.Believed.Condition2.{Condition2};
 ghost use Rattle.plain.specs.Believed.Written.{plainOutcome};
-ghost use Rattle.plain.specs.Ties.Writing.{textLimit, roleOf, isColon, canWrite, symbolIf};
+ghost use Rattle.plain.specs.Ties.Writing.{textLimit, isColon, canWrite, symbolIf};
 use octets::answers::Answer;
-use octets::classes::BACKSLASH;
 use octets::classes::CLASSES;
-use octets::classes::QUOTE;
 use places::Gap;
 use places::Place;
 use scanner::Class;
+use scanner::Datum;
 use scanner::Next;
 
 pub mod places;
@@ -34,13 +31,6 @@ pub mod places;
 const TEXT_LIMIT: usize = 1073741824;
 
 const WRITTEN_LIMIT: usize = 4611686018427387904;
-
-// What a character is in a quoted-string.
-enum Role {
-    Datum,
-    Takes,
-    Closes,
-}
 
 // One byte.
 fn put(out: &mut [u8], n: usize, b: u8) -> usize
@@ -108,53 +98,6 @@ fn put_part(text: &[u8], start: usize, end: usize, out: &mut [u8], n: usize) -> 
     m
 }
 
-// Where the first character at or after a position stands: behind the CRLF of a fold, if one starts there.
-fn past_fold(text: &[u8], at: usize) -> usize
-    requires { ⌜ at < length (now text) ⌝ }
-    ensures { λ r. ⌜ (r ≡ pick (foldAt (now (text .entry)) at) (at + 2) at) × (at ≤ r) × (r < length (now (text .entry))) ⌝ }
-{
-    if text.len() - at < 3 {
-        return at;
-    }
-    if text[at] != b'\r' {
-        return at;
-    }
-    if text[at + 1] != b'\n' {
-        return at;
-    }
-    let white = text[at + 2];
-    if white == b' ' {
-        return at + 2;
-    }
-    if white == b'\t' {
-        return at + 2;
-    }
-    at
-}
-
-// What a byte is in a quoted-string: folded, the white space of a fold; taking, behind a backslash.
-fn role_of(classes: &[u8; 256], b: u8, folded: bool, taking: bool) -> Role
-    ensures { λ r. ⌜ r ≡ roleOf (now (classes .entry)) b folded taking ⌝ }
-{
-    if taking {
-        return Role::Datum;
-    }
-    if folded {
-        return Role::Datum;
-    }
-    if b == b'\r' {
-        return Role::Datum;
-    }
-    let class = octets::classes::class_in(classes, b);
-    if class == QUOTE {
-        return Role::Closes;
-    }
-    if class == BACKSLASH {
-        return Role::Takes;
-    }
-    Role::Datum
-}
-
 // The data of a quoted-string from a position inside it on.
 fn put_data(classes: &[u8; 256], text: &[u8], at: usize, out: &mut [u8], n: usize) -> usize
     requires { ⌜ (at ≤ length (now text)) × (n + 2 * (length (now text) - at) ≤ countLimit) ⌝ }
@@ -162,24 +105,13 @@ fn put_data(classes: &[u8; 256], text: &[u8], at: usize, out: &mut [u8], n: usiz
 {
     let mut p = at;
     let mut m = n;
-    let mut taking = false;
-    while p < text.len() {
-        let here = past_fold(text, p);
-        let b = text[here];
-        match role_of(classes, b, p < here, taking) {
-            Role::Closes => return m,
-            Role::Takes => {
-                taking = true;
-                p = here + 1;
-            }
-            Role::Datum => {
-                m = put_datum(out, m, b);
-                taking = false;
-                p = here + 1;
-            }
-        }
+    loop {
+        let Datum::Byte(b, behind) = scanner::next_datum(classes, text, p) else {
+            return m;
+        };
+        m = put_datum(out, m, b);
+        p = behind;
     }
-    m
 }
 
 // A quoted-string whose opening quote stands at start.

@@ -1,5 +1,6 @@
 -- What a byte is: by the symbol in which it lies, and between symbols by what scanning passes. Assumes nothing.
 use mathlib.Core.Path.{_≡_, refl, sym, _∙_}
+use mathlib.Core.Bool.{Bool, false}
 use mathlib.Core.List.{List, [], _∷_}
 use Prim.Native.Nat.{ℕ, _+_, _-_, _≤_, _<_}
 use native.Mathlib.Numerals.{add-one}
@@ -83,25 +84,25 @@ by-place classes text Literal start end = refl
 abbrev pub NoGap : Kind → Type 0
 NoGap kind = OneOf (1 ∷ 2 ∷ 3 ∷ 5 ∷ 6 ∷ 7 ∷ 8 ∷ 9 ∷ 10 ∷ 11 ∷ []) (tag kind)
 
-leads-nowhere : (kind : Kind) (b p : ℕ) (rest : State → Category) → NoGap kind → (takenIn outside kind ≡ category.Nothing) × (behind (move outside kind b p) rest ≡ category.Nothing)
-leads-nowhere White b p rest o = absurd (miss (1 ∷ 2 ∷ 3 ∷ 5 ∷ 6 ∷ 7 ∷ 8 ∷ 9 ∷ 10 ∷ 11 ∷ []) 0 tt o)
-leads-nowhere Control b p rest o = (refl, refl)
-leads-nowhere Return b p rest o = (refl, refl)
-leads-nowhere Plain b p rest o = (refl, refl)
-leads-nowhere Open b p rest o = absurd (miss (1 ∷ 2 ∷ 3 ∷ 5 ∷ 6 ∷ 7 ∷ 8 ∷ 9 ∷ 10 ∷ 11 ∷ []) 4 tt o)
-leads-nowhere Close b p rest o = (refl, refl)
-leads-nowhere Quote b p rest o = (refl, refl)
-leads-nowhere Backslash b p rest o = (refl, refl)
-leads-nowhere (Mark class) b p rest o = (refl, refl)
-leads-nowhere Above b p rest o = (refl, refl)
-leads-nowhere OpenBracket b p rest o = (refl, refl)
-leads-nowhere CloseBracket b p rest o = (refl, refl)
+leads-nowhere : (kind : Kind) (b p : ℕ) (folded : Bool) (rest : State → Category) → NoGap kind → (takenIn outside kind ≡ category.Nothing) × (behind (move outside kind b p folded) rest ≡ category.Nothing)
+leads-nowhere White b p folded rest o = absurd (miss (1 ∷ 2 ∷ 3 ∷ 5 ∷ 6 ∷ 7 ∷ 8 ∷ 9 ∷ 10 ∷ 11 ∷ []) 0 tt o)
+leads-nowhere Control b p folded rest o = (refl, refl)
+leads-nowhere Return b p folded rest o = (refl, refl)
+leads-nowhere Plain b p folded rest o = (refl, refl)
+leads-nowhere Open b p folded rest o = absurd (miss (1 ∷ 2 ∷ 3 ∷ 5 ∷ 6 ∷ 7 ∷ 8 ∷ 9 ∷ 10 ∷ 11 ∷ []) 4 tt o)
+leads-nowhere Close b p folded rest o = (refl, refl)
+leads-nowhere Quote b p folded rest o = (refl, refl)
+leads-nowhere Backslash b p folded rest o = (refl, refl)
+leads-nowhere (Mark class) b p folded rest o = (refl, refl)
+leads-nowhere Above b p folded rest o = (refl, refl)
+leads-nowhere OpenBracket b p folded rest o = (refl, refl)
+leads-nowhere CloseBracket b p folded rest o = (refl, refl)
 
 -- ---- one character on
 
 -- to a place behind it, its move leads on ..
-pub moves-on : {classes text : List ℕ} {at : ℕ} {kind : Kind} {p q : ℕ} → FirstCharacter classes text at kind p q → (state : State) (place : ℕ) → q ≤ place
-    → between classes place (charactersAt text at) state ≡ behind (move state kind (getD text p 0) p) (λ state′. between classes place (charactersAt text q) state′)
+pub moves-on : {classes text : List ℕ} {at : ℕ} {kind : Kind} {p q : ℕ} → (x : FirstCharacter classes text at kind p q) (state : State) (place : ℕ) → q ≤ place
+    → between classes place (charactersAt text at) state ≡ behind (move state kind (getD text p 0) p (x .folded)) (λ state′. between classes place (charactersAt text q) state′)
 unfolding between
 moves-on {p = p} x state place h = rw (x .characters, between, lt-ltb p place (omega (arith, x .behind)), ← (x .kind-is))
 
@@ -134,65 +135,65 @@ module _ {classes text : List ℕ} {place at p : ℕ} {gap : Gap} (w : Walked cl
   walk-tells x h e = e (w .outermost) ∙ sym (w .same ∙ tells x (stateOf gap (w .outermost)) place h)
 
   pub walk-ends : {kind : Kind} {here q : ℕ} → FirstCharacter classes text p kind here q → q ≤ place → PassedIs gap kind Over → category.Nothing ≡ between classes place (charactersAt text at) outside
-  walk-ends {here = here} x h e = sym (w .same ∙ moves-on x (stateOf gap (w .outermost)) place h ∙ e (w .outermost) (getD text here 0) here _)
+  walk-ends {here = here} x h e = sym (w .same ∙ moves-on x (stateOf gap (w .outermost)) place h ∙ e (w .outermost) (getD text here 0) here (x .folded) _)
 
   pub walk-on : {kind : Kind} {here q : ℕ} {next : Gap} → FirstCharacter classes text p kind here q → q ≤ place → PassedIs gap kind (To next) → Walked classes text place at q next
   walk-on {here = here} x h e =
-      let l = e (w .outermost) (getD text here 0) here in
+      let l = e (w .outermost) (getD text here 0) here (x .folded) in
       record { outermost = l .outermost; same = w .same ∙ moves-on x (stateOf gap (w .outermost)) place h ∙ l .same _ }
 
 -- ---- where each character leads
 
 -- outside: white space, a comment, or no longer between symbols
 pub white-passed : PassedIs Outside White (To Outside)
-white-passed start b p = record { outermost = start; same = λ rest. refl }
+white-passed start b p folded = record { outermost = start; same = λ rest. refl }
 
 pub open-passed : PassedIs Outside Open (To (Comment 0))
-open-passed start b p = record { outermost = p; same = λ rest. refl }
+open-passed start b p folded = record { outermost = p; same = λ rest. refl }
 
 pub none-passed : (kind : Kind) → NoGap kind → PassedIs Outside kind Over
-none-passed kind o start b p rest = leads-nowhere kind b p rest o .1
+none-passed kind o start b p folded rest = leads-nowhere kind b p folded rest o .1
 
 -- in a comment
 pub deeper : (depth : ℕ) → PassedIs (Comment depth) Open (To (Comment (depth + 1)))
-deeper depth start b p = record { outermost = start; same = λ rest. rw add-one }
+deeper depth start b p folded = record { outermost = start; same = λ rest. rw add-one }
 
 pub closes-all : (depth : ℕ) → depth ≡ 0 → PassedIs (Comment depth) Close (To Outside)
-closes-all depth e start b p = record { outermost = start; same = λ rest. rw e }
+closes-all depth e start b p folded = record { outermost = start; same = λ rest. rw e }
 
 pub closes-one : (depth : ℕ) → (depth ≡ 0 → ⊥) → PassedIs (Comment depth) Close (To (Comment (depth - 1)))
-closes-one depth n start b p = record { outermost = start; same = λ rest. rw (closed-inner depth start n) }
+closes-one depth n start b p folded = record { outermost = start; same = λ rest. rw (closed-inner depth start n) }
 
 pub takes-next : (depth : ℕ) → PassedIs (Comment depth) Backslash (To (Taking depth))
-takes-next depth start b p = record { outermost = start; same = λ rest. refl }
+takes-next depth start b p folded = record { outermost = start; same = λ rest. refl }
 
 pub text-passed : (depth : ℕ) (kind : Kind) → Text kind → PassedIs (Comment depth) kind (To (Comment depth))
-text-passed depth kind o start b p = record { outermost = start; same = λ rest. rw (comment-text kind depth start b p o) }
+text-passed depth kind o start b p folded = record { outermost = start; same = λ rest. rw (comment-text kind depth start b p folded o) }
 
 pub taken-passed : (depth : ℕ) (kind : Kind) → Taken kind → PassedIs (Taking depth) kind (To (Comment depth))
-taken-passed depth kind o start b p = record { outermost = start; same = λ rest. rw (taken kind (inComment depth start) p o) }
+taken-passed depth kind o start b p folded = record { outermost = start; same = λ rest. rw (taken kind (inComment depth start) p o) }
 
 pub above-passed : (depth : ℕ) → PassedIs (Taking depth) Above Over
-above-passed depth start b p rest = refl
+above-passed depth start b p folded rest = refl
 
 -- a CR or a byte above 127 is a fault there
 pub fault-passed : (depth : ℕ) (kind : Kind) → OneOf (2 ∷ 9 ∷ []) (tag kind) → PassedIs (Comment depth) kind Over
-fault-passed depth White o start b p rest = absurd (miss (2 ∷ 9 ∷ []) 0 tt o)
-fault-passed depth Control o start b p rest = absurd (miss (2 ∷ 9 ∷ []) 1 tt o)
-fault-passed depth Return o start b p rest = refl
-fault-passed depth Plain o start b p rest = absurd (miss (2 ∷ 9 ∷ []) 3 tt o)
-fault-passed depth Open o start b p rest = absurd (miss (2 ∷ 9 ∷ []) 4 tt o)
-fault-passed depth Close o start b p rest = absurd (miss (2 ∷ 9 ∷ []) 5 tt o)
-fault-passed depth Quote o start b p rest = absurd (miss (2 ∷ 9 ∷ []) 6 tt o)
-fault-passed depth Backslash o start b p rest = absurd (miss (2 ∷ 9 ∷ []) 7 tt o)
-fault-passed depth (Mark class) o start b p rest = absurd (miss (2 ∷ 9 ∷ []) 8 tt o)
-fault-passed depth Above o start b p rest = refl
-fault-passed depth OpenBracket o start b p rest = absurd (miss (2 ∷ 9 ∷ []) 10 tt o)
-fault-passed depth CloseBracket o start b p rest = absurd (miss (2 ∷ 9 ∷ []) 11 tt o)
+fault-passed depth White o start b p folded rest = absurd (miss (2 ∷ 9 ∷ []) 0 tt o)
+fault-passed depth Control o start b p folded rest = absurd (miss (2 ∷ 9 ∷ []) 1 tt o)
+fault-passed depth Return o start b p folded rest = refl
+fault-passed depth Plain o start b p folded rest = absurd (miss (2 ∷ 9 ∷ []) 3 tt o)
+fault-passed depth Open o start b p folded rest = absurd (miss (2 ∷ 9 ∷ []) 4 tt o)
+fault-passed depth Close o start b p folded rest = absurd (miss (2 ∷ 9 ∷ []) 5 tt o)
+fault-passed depth Quote o start b p folded rest = absurd (miss (2 ∷ 9 ∷ []) 6 tt o)
+fault-passed depth Backslash o start b p folded rest = absurd (miss (2 ∷ 9 ∷ []) 7 tt o)
+fault-passed depth (Mark class) o start b p folded rest = absurd (miss (2 ∷ 9 ∷ []) 8 tt o)
+fault-passed depth Above o start b p folded rest = refl
+fault-passed depth OpenBracket o start b p folded rest = absurd (miss (2 ∷ 9 ∷ []) 10 tt o)
+fault-passed depth CloseBracket o start b p folded rest = absurd (miss (2 ∷ 9 ∷ []) 11 tt o)
 
 -- what it is outside, where it is no white space and opens no comment
 pub none-told : (kind : Kind) → NoGap kind → GapCategoryIs Outside kind category.Nothing
-none-told kind o start = sym (leads-nowhere kind 0 0 (λ state. category.Nothing) o .0)
+none-told kind o start = sym (leads-nowhere kind 0 0 false (λ state. category.Nothing) o .0)
 
 -- .. and in a comment
 pub comment-told : (gap : Gap) (kind : Kind) → OneOf (1 ∷ 2 ∷ []) (tagOf gap-declared.the-type gap) → GapCategoryIs gap kind category.Comment

@@ -112,21 +112,21 @@ module _ (classes text : List ℕ) (place : ℕ) where
   ToldFrom at state = Told (between classes place (charactersAt text at) state)
 
   -- outside, such a character is white space or opens a comment
-  outside-stays : {at p : ℕ} {kind : Kind} (b : ℕ) → OutsideIs classes text at kind p → at ≤ place → None at outside → Told (takenIn outside kind) × Stays (move outside kind b p)
-  outside-stays {p = p} b white-space h n = (tt, stays Outside 0 refl)
-  outside-stays {p = p} b opens-comment h n = (tt, stays (Comment 0) p refl)
-  outside-stays b (begins e s) h n = let l = rw (s .same) at n in absurd (omega arith)
-  outside-stays b (faulty e) h n = absurd (rw e at n)
+  outside-stays : {at p : ℕ} {kind : Kind} (b : ℕ) (folded : Bool) → OutsideIs classes text at kind p → at ≤ place → None at outside → Told (takenIn outside kind) × Stays (move outside kind b p folded)
+  outside-stays {p = p} b folded white-space h n = (tt, stays Outside 0 refl)
+  outside-stays {p = p} b folded opens-comment h n = (tt, stays (Comment 0) p refl)
+  outside-stays b folded (begins e s) h n = let l = rw (s .same) at n in absurd (omega arith)
+  outside-stays b folded (faulty e) h n = absurd (rw e at n)
 
   -- .. and in a comment it is comment
-  each-stays : (gap : Gap) (start : ℕ) {at p q : ℕ} {kind : Kind} → FirstCharacter classes text at kind p q → at ≤ place → None at (stateOf gap start)
-      → Told (takenIn (stateOf gap start) kind) × Stays (move (stateOf gap start) kind (getD text p 0) p)
-  each-stays Outside start x h n = outside-stays _ (outside-is classes text x) h n
+  each-stays : (gap : Gap) (start : ℕ) {at p q : ℕ} {kind : Kind} (x : FirstCharacter classes text at kind p q) → at ≤ place → None at (stateOf gap start)
+      → Told (takenIn (stateOf gap start) kind) × Stays (move (stateOf gap start) kind (getD text p 0) p (x .folded))
+  each-stays Outside start x h n = outside-stays _ (x .folded) (outside-is classes text x) h n
   each-stays (Comment depth) start {p = p} {kind = kind} x h n = (tt, in-comment kind depth start p)
   each-stays (Taking depth) start {p = p} {kind = kind} x h n = (tt, taking kind depth start p)
 
   -- one character on
-  goes-on : {at p q : ℕ} {kind : Kind} (state : State) → FirstCharacter classes text at kind p q → q ≤ place → None at state → Stays (move state kind (getD text p 0) p)
+  goes-on : {at p q : ℕ} {kind : Kind} (state : State) (x : FirstCharacter classes text at kind p q) → q ≤ place → None at state → Stays (move state kind (getD text p 0) p (x .folded))
       → ((gap : Gap) (start : ℕ) → None q (stateOf gap start) → ToldFrom q (stateOf gap start)) → ToldFrom at state
   goes-on state x h n (stays gap start e) f = rw (moves-on x state place h, e, stays-on) (f gap start (rw (moves x state _ e) at n))
   goes-on state x h n (halts number r e) f = absurd (rw (moves x state _ e) at n)

@@ -8,7 +8,7 @@ use Rattle.octets.specs.Believed.Letters.{lower, same}
 use Rattle.octets.specs.Believed.Text.{bytes}
 use Rattle.scanner.specs.Believed.Kinds.{kindOf}
 use Rattle.scanner.specs.Believed.Characters.{charactersFrom}
-use Rattle.scanner.specs.Believed.Scanning.{Scanned, ended, next, faultAt, symbol, scanFrom, scan}
+use Rattle.scanner.specs.Believed.Scanning.{Scanned, ended, next, faultAt, symbol, takenData, scanFrom, scan}
 use Rattle.scanner.specs.declared.Class.the-variants.{Atom, Quoted, At, LessThan, GreaterThan, Comma, Semicolon, Colon, Stray}
 
 -- a text and what it scans to
@@ -131,7 +131,7 @@ table =
     ∷ deep-comment ∷ []
 
 pub right : Right table
-unfolding row crlf nested sysmail folded-atoms folded-quoted folded-taken folded-comment half-fold marks at-cases open-quoted open-comment open-inner taking-at-end return-quoted return-taken above above-taken above-comment delete line-feed controls-quoted controls-comment quote-in-comment comment-in-quoted deep-comment table scanFrom charactersFrom kindOf classOf classTable lower same
+unfolding row crlf nested sysmail folded-atoms folded-quoted folded-taken folded-comment half-fold marks at-cases open-quoted open-comment open-inner taking-at-end return-quoted return-taken above above-taken above-comment delete line-feed controls-quoted controls-comment quote-in-comment comment-in-quoted deep-comment table scanFrom takenData charactersFrom kindOf classOf classTable lower same
 right =
     and refl (and refl (and refl (and refl (and refl (and refl (and refl (and refl (and refl (and refl (and refl (and refl (and refl
     (and refl (and refl (and refl (and refl (and refl (and refl (and refl (and refl (and refl (and refl (and refl (and refl none))))))))))))))))))))))))

@@ -118,15 +118,15 @@ taking Above state p = refl
 taking OpenBracket state p = tt
 taking CloseBracket state p = tt
 
-each-move : (state : State) (kind : Kind) (b p : ℕ) → MoveNumbered (move state kind b p)
-each-move outside kind b p = in-outside kind b p
-each-move (inAtom start end t) kind b p = in-atom kind start end t b p
-each-move (inQuoted start t) kind b p = in-quoted kind start t b p
-each-move (takingInQuoted start t) kind b p = taking kind _ p
-each-move (inLiteral start) kind b p = in-literal kind start p
-each-move (takingInLiteral start) kind b p = taking kind _ p
-each-move (inComment depth start) kind b p = in-comment kind depth start p
-each-move (takingInComment depth start) kind b p = taking kind _ p
+each-move : (state : State) (kind : Kind) (b p : ℕ) (folded : Bool) → MoveNumbered (move state kind b p folded)
+each-move outside kind b p folded = in-outside kind b p
+each-move (inAtom start end t) kind b p folded = in-atom kind start end t b p
+each-move (inQuoted start t) kind b p folded = in-quoted kind start t b p
+each-move (takingInQuoted start t) kind b p folded = taking kind _ p
+each-move (inLiteral start) kind b p folded = in-literal kind start p
+each-move (takingInLiteral start) kind b p folded = taking kind _ p
+each-move (inComment depth start) kind b p folded = in-comment kind depth start p
+each-move (takingInComment depth start) kind b p folded = taking kind _ p
 
 at-end : (state : State) → Numbered (atEnd state)
 at-end outside = tt
@@ -151,4 +151,4 @@ pub numbered : (classes : List ℕ) (characters : List Character) (state : State
 unfolding scanFrom
 numbered classes [] state = at-end state
 numbered classes (character b p folded ∷ rest) state =
-    moved (move state (characterKind classes b folded) b p) (λ state′. scanFrom classes rest state′) (each-move state (characterKind classes b folded) b p) (λ state′. numbered classes rest state′)
+    moved (move state (characterKind classes b folded) b p folded) (λ state′. scanFrom classes rest state′) (each-move state (characterKind classes b folded) b p folded) (λ state′. numbered classes rest state′)

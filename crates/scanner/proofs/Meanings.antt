@@ -1,50 +1,147 @@
 -- Laws of the meaning of a symbol by its place. Assumes nothing.
-use mathlib.Core.Path.{_≡_, refl, _∙_}
-use mathlib.Core.List.{List, [], _∷_}
-use Prim.Native.Nat.{ℕ}
-use lib.ListN.{getD}
-use types.Run.{miss}
-use Rattle.scanner.specs.Believed.Characters.{Character, charactersAt}
+use mathlib.Core.Path.{_≡_, refl, ap, _∙_}
+use mathlib.Core.Bool.{Bool}
+use mathlib.Core.List.{List, [], _∷_, _++_}
+use Prim.Native.Nat.{ℕ, _+_, _-_, _≤_, _<_}
+use native.Mathlib.Omega.{arith}
+use lib.ListN.{length, getD}
+use types.Run.{OneOf, miss}
+use Rattle.scanner.specs.Believed.Characters.{Character, character, charactersAt}
+use Rattle.scanner.specs.Believed.Scanning.{takenData}
 use Rattle.scanner.specs.Ties.Steps.{FirstCharacter}
+use Rattle.scanner.specs.Ties.Meanings.{inside, taking, over, Walk, dataOf, walked, dataFrom, dataAt, firstOr, datumFrom, datumAt}
+use Rattle.scanner.specs.declared.Datum.{Datum}
+use Rattle.scanner.specs.declared.Datum.the-variants.{Byte, Over}
 use Rattle.scanner.specs.declared.Kind.{Kind}
 use Rattle.scanner.specs.declared.Kind.the-variants.{White, Control, Return, Plain, Open, Close, Quote, Backslash, Mark, Above, OpenBracket, CloseBracket}
-use Rattle.scanner.proofs.MoveLaws.{Data}
-use Rattle.scanner.specs.Ties.Meanings.{inside, taking, Walk, datum, walked, dataFrom, dataAt}
+use Rattle.scanner.proofs.CharacterLaws.{View, one, view}
+use Rattle.scanner.proofs.CharacterLaws as characters
+use Rattle.scanner.proofs.MoveLaws.{tag}
 
 -- ---- one step of the walk
 
-data-is : (classes : List ℕ) (kind : Kind) (b : ℕ) (rest : List Character) → Data kind → datum inside kind b (dataFrom classes (walked inside kind) rest) ≡ b ∷ dataFrom classes inside rest
-data-is classes White b rest o = refl
-data-is classes Control b rest o = refl
-data-is classes Return b rest o = absurd (miss (0 ∷ 1 ∷ 3 ∷ 4 ∷ 5 ∷ 8 ∷ 10 ∷ 11 ∷ []) 2 tt o)
-data-is classes Plain b rest o = refl
-data-is classes Open b rest o = refl
-data-is classes Close b rest o = refl
-data-is classes Quote b rest o = absurd (miss (0 ∷ 1 ∷ 3 ∷ 4 ∷ 5 ∷ 8 ∷ 10 ∷ 11 ∷ []) 6 tt o)
-data-is classes Backslash b rest o = absurd (miss (0 ∷ 1 ∷ 3 ∷ 4 ∷ 5 ∷ 8 ∷ 10 ∷ 11 ∷ []) 7 tt o)
-data-is classes (Mark class) b rest o = refl
-data-is classes Above b rest o = absurd (miss (0 ∷ 1 ∷ 3 ∷ 4 ∷ 5 ∷ 8 ∷ 10 ∷ 11 ∷ []) 9 tt o)
-data-is classes OpenBracket b rest o = refl
-data-is classes CloseBracket b rest o = refl
+-- a character of this kind is data as it is
+abbrev pub AsData : Kind → Type 0
+AsData kind = (b : ℕ) (folded : Bool) → (dataOf inside kind b folded ≡ b ∷ []) × (walked inside kind ≡ inside)
 
-module _ {classes text : List ℕ} {at p q : ℕ} where
-  step : {kind : Kind} (walk : Walk) → FirstCharacter classes text at kind p q
-      → dataFrom classes walk (charactersAt text at) ≡ datum walk kind (getD text p 0) (dataFrom classes (walked walk kind) (charactersAt text q))
+-- any but the closing quote and a backslash
+pub as-data : (kind : Kind) → OneOf (0 ∷ 1 ∷ 2 ∷ 3 ∷ 4 ∷ 5 ∷ 8 ∷ 9 ∷ 10 ∷ 11 ∷ []) (tag kind) → AsData kind
+as-data White o b folded = (refl, refl)
+as-data Control o b folded = (refl, refl)
+as-data Return o b folded = (refl, refl)
+as-data Plain o b folded = (refl, refl)
+as-data Open o b folded = (refl, refl)
+as-data Close o b folded = (refl, refl)
+as-data Quote o b folded = absurd (miss (0 ∷ 1 ∷ 2 ∷ 3 ∷ 4 ∷ 5 ∷ 8 ∷ 9 ∷ 10 ∷ 11 ∷ []) 6 tt o)
+as-data Backslash o b folded = absurd (miss (0 ∷ 1 ∷ 2 ∷ 3 ∷ 4 ∷ 5 ∷ 8 ∷ 9 ∷ 10 ∷ 11 ∷ []) 7 tt o)
+as-data (Mark class) o b folded = (refl, refl)
+as-data Above o b folded = (refl, refl)
+as-data OpenBracket o b folded = (refl, refl)
+as-data CloseBracket o b folded = (refl, refl)
+
+-- behind the closing quote there are none
+data-over : (classes : List ℕ) (cs : List Character) → dataFrom classes over cs ≡ []
+unfolding dataFrom
+data-over classes [] = refl
+data-over classes (character b p folded ∷ rest) = data-over classes rest
+
+datum-over : (classes : List ℕ) (cs : List Character) → datumFrom classes over cs ≡ Over
+unfolding datumFrom
+datum-over classes [] = refl
+datum-over classes (character b p folded ∷ rest) = datum-over classes rest
+
+module _ {classes text : List ℕ} {at p q : ℕ} {kind : Kind} (x : FirstCharacter classes text at kind p q) where
+  step : (walk : Walk) → dataFrom classes walk (charactersAt text at) ≡ dataOf walk kind (getD text p 0) (x .folded) ++ dataFrom classes (walked walk kind) (charactersAt text q)
   unfolding dataFrom
-  step walk x = rw (x .characters, ← (x .kind-is))
+  step walk = rw (x .characters, ← (x .kind-is))
+
+  datum-step : (walk : Walk) → datumFrom classes walk (charactersAt text at) ≡ firstOr (dataOf walk kind (getD text p 0) (x .folded)) (p + 1) (datumFrom classes (walked walk kind) (charactersAt text q))
+  unfolding datumFrom
+  datum-step walk = rw (x .characters, ← (x .kind-is))
 
   -- data as they are
-  pub data-on : {kind : Kind} → FirstCharacter classes text at kind p q → Data kind → dataAt classes text at ≡ getD text p 0 ∷ dataAt classes text q
-  data-on {kind} x o = step inside x ∙ data-is classes kind (getD text p 0) (charactersAt text q) o
+  pub data-on : AsData kind → dataAt classes text at ≡ getD text p 0 ∷ dataAt classes text q
+  data-on d = let (e, w) = d (getD text p 0) (x .folded) in step inside ∙ rw (e, w)
 
+  pub datum-on : AsData kind → datumAt classes text at ≡ Byte (getD text p 0) q
+  datum-on d =
+      let n : p + 1 - 0 ≡ q = omega (arith, x .behind) in
+      datum-step inside ∙ rw (d (getD text p 0) (x .folded) .0) (ap (λ (i : ℕ). Byte (getD text p 0) i) n)
+
+  -- the character behind a backslash: what it takes
+  pub data-taken : dataFrom classes taking (charactersAt text at) ≡ takenData (getD text p 0) (x .folded) ++ dataAt classes text q
+  data-taken = step taking
+
+  pub datum-taken : datumFrom classes taking (charactersAt text at) ≡ Byte (getD text p 0) q
+  unfolding takenData
+  datum-taken = let n : p + 1 - 0 ≡ q = omega (arith, x .behind) in datum-step taking ∙ ap (λ (i : ℕ). Byte (getD text p 0) i) n
+
+module _ {classes text : List ℕ} {at p q : ℕ} where
   -- a backslash
   pub data-backslash : FirstCharacter classes text at Backslash p q → dataAt classes text at ≡ dataFrom classes taking (charactersAt text q)
-  data-backslash x = step inside x
+  data-backslash x = step x inside
 
-  -- the character that it takes
-  pub data-taken : {kind : Kind} → FirstCharacter classes text at kind p q → dataFrom classes taking (charactersAt text at) ≡ getD text p 0 ∷ dataAt classes text q
-  data-taken x = step taking x
+  pub datum-backslash : FirstCharacter classes text at Backslash p q → datumAt classes text at ≡ datumFrom classes taking (charactersAt text q)
+  datum-backslash x = datum-step x inside
 
   -- the closing quote
   pub data-quote : FirstCharacter classes text at Quote p q → dataAt classes text at ≡ []
-  data-quote x = step inside x
+  data-quote x = step x inside ∙ data-over classes (charactersAt text q)
+
+  pub datum-quote : FirstCharacter classes text at Quote p q → datumAt classes text at ≡ Over
+  datum-quote x = datum-step x inside ∙ datum-over classes (charactersAt text q)
+
+-- the text ends
+pub datum-end : (classes text : List ℕ) (walk : Walk) (at : ℕ) → charactersAt text at ≡ [] → datumFrom classes walk (charactersAt text at) ≡ Over
+unfolding datumFrom
+datum-end classes text walk at e = rw e
+
+data-end : (classes text : List ℕ) (walk : Walk) (at : ℕ) → charactersAt text at ≡ [] → dataFrom classes walk (charactersAt text at) ≡ []
+unfolding dataFrom
+data-end classes text walk at e = rw e
+
+-- ---- the next byte of data
+
+-- it comes first, and the others from behind it on
+pub record DatumFirst (classes text : List ℕ) (at b q : ℕ) : Type 0 where
+  pub first : dataAt classes text at ≡ b ∷ dataAt classes text q
+  pub from : at < q
+  pub within : q ≤ length text
+
+abbrev pub DatumIs : List ℕ → List ℕ → ℕ → Datum → Type 0
+DatumIs classes text at (Byte b q) = DatumFirst classes text at b q
+DatumIs classes text at Over = dataAt classes text at ≡ []
+
+module _ (classes text : List ℕ) where
+  module _ {at p q : ℕ} where
+    as-is : {kind : Kind} → FirstCharacter classes text at kind p q → AsData kind → DatumIs classes text at (datumAt classes text at)
+    as-is x d = rw (datum-on x d) record { first = data-on x d; from = omega (arith, x .from, x .behind); within = x .within }
+
+    -- what a backslash takes
+    takes : FirstCharacter classes text at Backslash p q → View classes text q → DatumIs classes text at (datumAt classes text at)
+    unfolding takenData
+    takes x (characters.over e) = rw (datum-backslash x, datum-end classes text taking q e) (data-backslash x ∙ data-end classes text taking q e)
+    takes x (one y) =
+        rw (datum-backslash x, datum-taken y)
+        record { first = data-backslash x ∙ data-taken y; from = omega (arith, x .from, x .behind, y .from, y .behind); within = y .within }
+
+    by-kind : (kind : Kind) → FirstCharacter classes text at kind p q → DatumIs classes text at (datumAt classes text at)
+    by-kind White x = as-is x (λ b f. (refl, refl))
+    by-kind Control x = as-is x (λ b f. (refl, refl))
+    by-kind Return x = as-is x (λ b f. (refl, refl))
+    by-kind Plain x = as-is x (λ b f. (refl, refl))
+    by-kind Open x = as-is x (λ b f. (refl, refl))
+    by-kind Close x = as-is x (λ b f. (refl, refl))
+    by-kind Quote x = rw (datum-quote x) (data-quote x)
+    by-kind Backslash x = takes x (view classes text q)
+    by-kind (Mark class) x = as-is x (λ b f. (refl, refl))
+    by-kind Above x = as-is x (λ b f. (refl, refl))
+    by-kind OpenBracket x = as-is x (λ b f. (refl, refl))
+    by-kind CloseBracket x = as-is x (λ b f. (refl, refl))
+
+  by-view : (at : ℕ) → View classes text at → DatumIs classes text at (datumAt classes text at)
+  by-view at (characters.over e) = rw (datum-end classes text inside at e) (data-end classes text inside at e)
+  by-view at (one {kind} x) = by-kind kind x
+
+  pub datum-is : (at : ℕ) → DatumIs classes text at (datumAt classes text at)
+  datum-is at = by-view at (view classes text at)

@@ -1,5 +1,6 @@
 -- What one character does in each state. Assumes nothing.
 use mathlib.Core.Path.{_≡_, refl, sym, ap, _∙_}
+use mathlib.Core.Bool.{Bool, false}
 use mathlib.Core.List.{List, [], _∷_, _++_}
 use Prim.Native.Nat.{ℕ, zero, suc, _+_, _-_, _≤_, _<_}
 use native.Mathlib.Numerals.{add-one}
@@ -13,7 +14,7 @@ use Rattle.octets.specs.Believed.Text.{part}
 use Rattle.octets.proofs.Parts.{part-none}
 use Rattle.scanner.specs.Believed.Symbols.{Symbol}
 use Rattle.scanner.specs.Believed.Characters.{Character, character, charactersAt}
-use Rattle.scanner.specs.Believed.Scanning.{Scanned, next, faultAt, State, outside, inAtom, inQuoted, takingInQuoted, inLiteral, takingInLiteral, inComment, takingInComment, Move, go, halt, symbol, atom, single, move, moveInAtom, closed, atEnd, then, scanFrom, scanBy}
+use Rattle.scanner.specs.Believed.Scanning.{Scanned, next, faultAt, State, outside, inAtom, inQuoted, takingInQuoted, inLiteral, takingInLiteral, inComment, takingInComment, Move, go, halt, symbol, atom, single, takenData, move, moveInAtom, closed, atEnd, then, scanFrom, scanBy}
 use Rattle.scanner.specs.Believed.Scanning as scanning
 use Rattle.scanner.specs.Ties.Steps.{FirstCharacter, AtomEnds}
 use Rattle.scanner.specs.declared.Class.{Class}
@@ -32,7 +33,7 @@ unfolding scanFrom
 at-end classes text at state e = rw e
 
 -- a character makes its move
-pub moves : {classes text : List ℕ} {at : ℕ} {kind : Kind} {p q : ℕ} → FirstCharacter classes text at kind p q → (state : State) (m : Move) → move state kind (getD text p 0) p ≡ m
+pub moves : {classes text : List ℕ} {at : ℕ} {kind : Kind} {p q : ℕ} → (x : FirstCharacter classes text at kind p q) (state : State) (m : Move) → move state kind (getD text p 0) p (x .folded) ≡ m
     → scanFrom classes (charactersAt text at) state ≡ then m (λ state′. scanFrom classes (charactersAt text q) state′)
 unfolding scanFrom
 moves x state m e = rw (x .characters, ← (x .kind-is), e)
@@ -55,41 +56,41 @@ Text kind = OneOf (0 ∷ 1 ∷ 3 ∷ 6 ∷ 8 ∷ 10 ∷ 11 ∷ []) (tag kind)
 abbrev pub Taken : Kind → Type 0
 Taken kind = OneOf (0 ∷ 1 ∷ 2 ∷ 3 ∷ 4 ∷ 5 ∷ 6 ∷ 7 ∷ 8 ∷ 10 ∷ 11 ∷ []) (tag kind)
 
-ends-atom : (classes : List ℕ) (kind : Kind) (b p start end : ℕ) (t : List ℕ) (rest : State → Scanned) → NotPlain kind
-    → then (move (inAtom start end t) kind b p) rest ≡ next (atom start end t) (then (move outside kind b p) rest)
-ends-atom classes White b p start end t rest o = refl
-ends-atom classes Control b p start end t rest o = refl
-ends-atom classes Return b p start end t rest o = refl
-ends-atom classes Plain b p start end t rest o = absurd (miss (0 ∷ 1 ∷ 2 ∷ 4 ∷ 5 ∷ 6 ∷ 7 ∷ 8 ∷ 9 ∷ 10 ∷ 11 ∷ []) 3 tt o)
-ends-atom classes Open b p start end t rest o = refl
-ends-atom classes Close b p start end t rest o = refl
-ends-atom classes Quote b p start end t rest o = refl
-ends-atom classes Backslash b p start end t rest o = refl
-ends-atom classes (Mark class) b p start end t rest o = refl
-ends-atom classes Above b p start end t rest o = refl
-ends-atom classes OpenBracket b p start end t rest o = refl
-ends-atom classes CloseBracket b p start end t rest o = refl
+ends-atom : (classes : List ℕ) (kind : Kind) (b p : ℕ) (folded : Bool) (start end : ℕ) (t : List ℕ) (rest : State → Scanned) → NotPlain kind
+    → then (move (inAtom start end t) kind b p folded) rest ≡ next (atom start end t) (then (move outside kind b p folded) rest)
+ends-atom classes White b p folded start end t rest o = refl
+ends-atom classes Control b p folded start end t rest o = refl
+ends-atom classes Return b p folded start end t rest o = refl
+ends-atom classes Plain b p folded start end t rest o = absurd (miss (0 ∷ 1 ∷ 2 ∷ 4 ∷ 5 ∷ 6 ∷ 7 ∷ 8 ∷ 9 ∷ 10 ∷ 11 ∷ []) 3 tt o)
+ends-atom classes Open b p folded start end t rest o = refl
+ends-atom classes Close b p folded start end t rest o = refl
+ends-atom classes Quote b p folded start end t rest o = refl
+ends-atom classes Backslash b p folded start end t rest o = refl
+ends-atom classes (Mark class) b p folded start end t rest o = refl
+ends-atom classes Above b p folded start end t rest o = refl
+ends-atom classes OpenBracket b p folded start end t rest o = refl
+ends-atom classes CloseBracket b p folded start end t rest o = refl
 
 -- an atom ends before any other byte, which then does what it does outside
 pub atom-ends : {classes text : List ℕ} {at p q : ℕ} {kind : Kind} (start : ℕ) (t : List ℕ) → FirstCharacter classes text at kind p q → NotPlain kind
     → scanFrom classes (charactersAt text at) (inAtom start at t) ≡ next (atom start at t) (scanBy classes text at)
 atom-ends {classes} {text} {at} {p} {q} {kind} start t x o =
-    moves x (inAtom start at t) _ refl ∙ ends-atom classes kind (getD text p 0) p start at t (λ s. scanFrom classes (charactersAt text q) s) o
+    moves x (inAtom start at t) _ refl ∙ ends-atom classes kind (getD text p 0) p (x .folded) start at t (λ s. scanFrom classes (charactersAt text q) s) o
     ∙ ap (next (atom start at t)) (sym (moves x outside _ refl))
 
-pub quoted-data : (kind : Kind) (start : ℕ) (t : List ℕ) (b p : ℕ) → Data kind → move (inQuoted start t) kind b p ≡ go [] (inQuoted start (t ++ (b ∷ [])))
-quoted-data White start t b p o = refl
-quoted-data Control start t b p o = refl
-quoted-data Return start t b p o = absurd (miss (0 ∷ 1 ∷ 3 ∷ 4 ∷ 5 ∷ 8 ∷ 10 ∷ 11 ∷ []) 2 tt o)
-quoted-data Plain start t b p o = refl
-quoted-data Open start t b p o = refl
-quoted-data Close start t b p o = refl
-quoted-data Quote start t b p o = absurd (miss (0 ∷ 1 ∷ 3 ∷ 4 ∷ 5 ∷ 8 ∷ 10 ∷ 11 ∷ []) 6 tt o)
-quoted-data Backslash start t b p o = absurd (miss (0 ∷ 1 ∷ 3 ∷ 4 ∷ 5 ∷ 8 ∷ 10 ∷ 11 ∷ []) 7 tt o)
-quoted-data (Mark class) start t b p o = refl
-quoted-data Above start t b p o = absurd (miss (0 ∷ 1 ∷ 3 ∷ 4 ∷ 5 ∷ 8 ∷ 10 ∷ 11 ∷ []) 9 tt o)
-quoted-data OpenBracket start t b p o = refl
-quoted-data CloseBracket start t b p o = refl
+pub quoted-data : (kind : Kind) (start : ℕ) (t : List ℕ) (b p : ℕ) (folded : Bool) → Data kind → move (inQuoted start t) kind b p folded ≡ go [] (inQuoted start (t ++ (b ∷ [])))
+quoted-data White start t b p folded o = refl
+quoted-data Control start t b p folded o = refl
+quoted-data Return start t b p folded o = absurd (miss (0 ∷ 1 ∷ 3 ∷ 4 ∷ 5 ∷ 8 ∷ 10 ∷ 11 ∷ []) 2 tt o)
+quoted-data Plain start t b p folded o = refl
+quoted-data Open start t b p folded o = refl
+quoted-data Close start t b p folded o = refl
+quoted-data Quote start t b p folded o = absurd (miss (0 ∷ 1 ∷ 3 ∷ 4 ∷ 5 ∷ 8 ∷ 10 ∷ 11 ∷ []) 6 tt o)
+quoted-data Backslash start t b p folded o = absurd (miss (0 ∷ 1 ∷ 3 ∷ 4 ∷ 5 ∷ 8 ∷ 10 ∷ 11 ∷ []) 7 tt o)
+quoted-data (Mark class) start t b p folded o = refl
+quoted-data Above start t b p folded o = absurd (miss (0 ∷ 1 ∷ 3 ∷ 4 ∷ 5 ∷ 8 ∷ 10 ∷ 11 ∷ []) 9 tt o)
+quoted-data OpenBracket start t b p folded o = refl
+quoted-data CloseBracket start t b p folded o = refl
 
 pub taken : (kind : Kind) (state : State) (p : ℕ) → Taken kind → scanning.take kind state p ≡ go [] state
 taken White state p o = refl
@@ -105,49 +106,54 @@ taken Above state p o = absurd (miss (0 ∷ 1 ∷ 2 ∷ 3 ∷ 4 ∷ 5 ∷ 6 ∷ 
 taken OpenBracket state p o = refl
 taken CloseBracket state p o = refl
 
-pub comment-text : (kind : Kind) (depth start b p : ℕ) → Text kind → move (inComment depth start) kind b p ≡ go [] (inComment depth start)
-comment-text White depth start b p o = refl
-comment-text Control depth start b p o = refl
-comment-text Return depth start b p o = absurd (miss (0 ∷ 1 ∷ 3 ∷ 6 ∷ 8 ∷ 10 ∷ 11 ∷ []) 2 tt o)
-comment-text Plain depth start b p o = refl
-comment-text Open depth start b p o = absurd (miss (0 ∷ 1 ∷ 3 ∷ 6 ∷ 8 ∷ 10 ∷ 11 ∷ []) 4 tt o)
-comment-text Close depth start b p o = absurd (miss (0 ∷ 1 ∷ 3 ∷ 6 ∷ 8 ∷ 10 ∷ 11 ∷ []) 5 tt o)
-comment-text Quote depth start b p o = refl
-comment-text Backslash depth start b p o = absurd (miss (0 ∷ 1 ∷ 3 ∷ 6 ∷ 8 ∷ 10 ∷ 11 ∷ []) 7 tt o)
-comment-text (Mark class) depth start b p o = refl
-comment-text Above depth start b p o = absurd (miss (0 ∷ 1 ∷ 3 ∷ 6 ∷ 8 ∷ 10 ∷ 11 ∷ []) 9 tt o)
-comment-text OpenBracket depth start b p o = refl
-comment-text CloseBracket depth start b p o = refl
+-- behind no fold, a backslash takes the byte alone
+pub taken-alone : (b : ℕ) → takenData b false ≡ b ∷ []
+unfolding takenData
+taken-alone b = refl
+
+pub comment-text : (kind : Kind) (depth start b p : ℕ) (folded : Bool) → Text kind → move (inComment depth start) kind b p folded ≡ go [] (inComment depth start)
+comment-text White depth start b p folded o = refl
+comment-text Control depth start b p folded o = refl
+comment-text Return depth start b p folded o = absurd (miss (0 ∷ 1 ∷ 3 ∷ 6 ∷ 8 ∷ 10 ∷ 11 ∷ []) 2 tt o)
+comment-text Plain depth start b p folded o = refl
+comment-text Open depth start b p folded o = absurd (miss (0 ∷ 1 ∷ 3 ∷ 6 ∷ 8 ∷ 10 ∷ 11 ∷ []) 4 tt o)
+comment-text Close depth start b p folded o = absurd (miss (0 ∷ 1 ∷ 3 ∷ 6 ∷ 8 ∷ 10 ∷ 11 ∷ []) 5 tt o)
+comment-text Quote depth start b p folded o = refl
+comment-text Backslash depth start b p folded o = absurd (miss (0 ∷ 1 ∷ 3 ∷ 6 ∷ 8 ∷ 10 ∷ 11 ∷ []) 7 tt o)
+comment-text (Mark class) depth start b p folded o = refl
+comment-text Above depth start b p folded o = absurd (miss (0 ∷ 1 ∷ 3 ∷ 6 ∷ 8 ∷ 10 ∷ 11 ∷ []) 9 tt o)
+comment-text OpenBracket depth start b p folded o = refl
+comment-text CloseBracket depth start b p folded o = refl
 
 -- a lone ")" or backslash
-stray : (kind : Kind) (b p : ℕ) → OneOf (5 ∷ 7 ∷ 11 ∷ []) (tag kind) → move outside kind b p ≡ go (single Stray b p ∷ []) outside
-stray White b p o = absurd (miss (5 ∷ 7 ∷ 11 ∷ []) 0 tt o)
-stray Control b p o = absurd (miss (5 ∷ 7 ∷ 11 ∷ []) 1 tt o)
-stray Return b p o = absurd (miss (5 ∷ 7 ∷ 11 ∷ []) 2 tt o)
-stray Plain b p o = absurd (miss (5 ∷ 7 ∷ 11 ∷ []) 3 tt o)
-stray Open b p o = absurd (miss (5 ∷ 7 ∷ 11 ∷ []) 4 tt o)
-stray Close b p o = refl
-stray Quote b p o = absurd (miss (5 ∷ 7 ∷ 11 ∷ []) 6 tt o)
-stray Backslash b p o = refl
-stray (Mark class) b p o = absurd (miss (5 ∷ 7 ∷ 11 ∷ []) 8 tt o)
-stray Above b p o = absurd (miss (5 ∷ 7 ∷ 11 ∷ []) 9 tt o)
-stray OpenBracket b p o = absurd (miss (5 ∷ 7 ∷ 11 ∷ []) 10 tt o)
-stray CloseBracket b p o = refl
+stray : (kind : Kind) (b p : ℕ) (folded : Bool) → OneOf (5 ∷ 7 ∷ 11 ∷ []) (tag kind) → move outside kind b p folded ≡ go (single Stray b p ∷ []) outside
+stray White b p folded o = absurd (miss (5 ∷ 7 ∷ 11 ∷ []) 0 tt o)
+stray Control b p folded o = absurd (miss (5 ∷ 7 ∷ 11 ∷ []) 1 tt o)
+stray Return b p folded o = absurd (miss (5 ∷ 7 ∷ 11 ∷ []) 2 tt o)
+stray Plain b p folded o = absurd (miss (5 ∷ 7 ∷ 11 ∷ []) 3 tt o)
+stray Open b p folded o = absurd (miss (5 ∷ 7 ∷ 11 ∷ []) 4 tt o)
+stray Close b p folded o = refl
+stray Quote b p folded o = absurd (miss (5 ∷ 7 ∷ 11 ∷ []) 6 tt o)
+stray Backslash b p folded o = refl
+stray (Mark class) b p folded o = absurd (miss (5 ∷ 7 ∷ 11 ∷ []) 8 tt o)
+stray Above b p folded o = absurd (miss (5 ∷ 7 ∷ 11 ∷ []) 9 tt o)
+stray OpenBracket b p folded o = absurd (miss (5 ∷ 7 ∷ 11 ∷ []) 10 tt o)
+stray CloseBracket b p folded o = refl
 
 -- a control byte outside
-stray-control : (kind : Kind) (b p : ℕ) → OneOf (1 ∷ 2 ∷ []) (tag kind) → move outside kind b p ≡ halt [] strayControl p
-stray-control White b p o = absurd (miss (1 ∷ 2 ∷ []) 0 tt o)
-stray-control Control b p o = refl
-stray-control Return b p o = refl
-stray-control Plain b p o = absurd (miss (1 ∷ 2 ∷ []) 3 tt o)
-stray-control Open b p o = absurd (miss (1 ∷ 2 ∷ []) 4 tt o)
-stray-control Close b p o = absurd (miss (1 ∷ 2 ∷ []) 5 tt o)
-stray-control Quote b p o = absurd (miss (1 ∷ 2 ∷ []) 6 tt o)
-stray-control Backslash b p o = absurd (miss (1 ∷ 2 ∷ []) 7 tt o)
-stray-control (Mark class) b p o = absurd (miss (1 ∷ 2 ∷ []) 8 tt o)
-stray-control Above b p o = absurd (miss (1 ∷ 2 ∷ []) 9 tt o)
-stray-control OpenBracket b p o = absurd (miss (1 ∷ 2 ∷ []) 10 tt o)
-stray-control CloseBracket b p o = absurd (miss (1 ∷ 2 ∷ []) 11 tt o)
+stray-control : (kind : Kind) (b p : ℕ) (folded : Bool) → OneOf (1 ∷ 2 ∷ []) (tag kind) → move outside kind b p folded ≡ halt [] strayControl p
+stray-control White b p folded o = absurd (miss (1 ∷ 2 ∷ []) 0 tt o)
+stray-control Control b p folded o = refl
+stray-control Return b p folded o = refl
+stray-control Plain b p folded o = absurd (miss (1 ∷ 2 ∷ []) 3 tt o)
+stray-control Open b p folded o = absurd (miss (1 ∷ 2 ∷ []) 4 tt o)
+stray-control Close b p folded o = absurd (miss (1 ∷ 2 ∷ []) 5 tt o)
+stray-control Quote b p folded o = absurd (miss (1 ∷ 2 ∷ []) 6 tt o)
+stray-control Backslash b p folded o = absurd (miss (1 ∷ 2 ∷ []) 7 tt o)
+stray-control (Mark class) b p folded o = absurd (miss (1 ∷ 2 ∷ []) 8 tt o)
+stray-control Above b p folded o = absurd (miss (1 ∷ 2 ∷ []) 9 tt o)
+stray-control OpenBracket b p folded o = absurd (miss (1 ∷ 2 ∷ []) 10 tt o)
+stray-control CloseBracket b p folded o = absurd (miss (1 ∷ 2 ∷ []) 11 tt o)
 
 -- ---- an atom and its bytes
 
@@ -195,24 +201,24 @@ pub record Quoting (classes text : List ℕ) (start at p : ℕ) : Type 0 where
   pub same : scanFrom classes (charactersAt text at) (inQuoted start []) ≡ scanFrom classes (charactersAt text p) (inQuoted start meaning)
 
 module _ {classes text : List ℕ} {start at p : ℕ} (w : Quoting classes text start at p) where
-  pub quoted-moves : {q r : ℕ} {kind : Kind} → FirstCharacter classes text p kind q r → (m : Move) → move (inQuoted start (w .meaning)) kind (getD text q 0) q ≡ m
+  pub quoted-moves : {q r : ℕ} {kind : Kind} (x : FirstCharacter classes text p kind q r) (m : Move) → move (inQuoted start (w .meaning)) kind (getD text q 0) q (x .folded) ≡ m
       → scanFrom classes (charactersAt text at) (inQuoted start []) ≡ then m (λ state. scanFrom classes (charactersAt text r) state)
   quoted-moves x m e = w .same ∙ moves x (inQuoted start (w .meaning)) m e
 
   -- data as they are
   unfoldable pub quoted-on : {q r : ℕ} {kind : Kind} → FirstCharacter classes text p kind q r → Data kind → Quoting classes text start at r
   quoted-on {q} {kind = kind} x o =
-      record { meaning = w .meaning ++ (getD text q 0 ∷ []); same = quoted-moves x (go [] (inQuoted start (w .meaning ++ (getD text q 0 ∷ [])))) (quoted-data kind start (w .meaning) (getD text q 0) q o) }
+      record { meaning = w .meaning ++ (getD text q 0 ∷ []); same = quoted-moves x (go [] (inQuoted start (w .meaning ++ (getD text q 0 ∷ [])))) (quoted-data kind start (w .meaning) (getD text q 0) q (x .folded) o) }
 
   -- a backslash, and what comes of the character behind it
-  pub quoted-taking : {q r s u : ℕ} {kind : Kind} → FirstCharacter classes text p Backslash q r → FirstCharacter classes text r kind s u → (m : Move)
-      → scanning.take kind (inQuoted start (w .meaning ++ (getD text s 0 ∷ []))) s ≡ m
+  pub quoted-taking : {q r s u : ℕ} {kind : Kind} → FirstCharacter classes text p Backslash q r → (y : FirstCharacter classes text r kind s u) (m : Move)
+      → scanning.take kind (inQuoted start (w .meaning ++ takenData (getD text s 0) (y .folded))) s ≡ m
       → scanFrom classes (charactersAt text at) (inQuoted start []) ≡ then m (λ state. scanFrom classes (charactersAt text u) state)
   quoted-taking x y m e = quoted-moves x (go [] (takingInQuoted start (w .meaning))) refl ∙ moves y (takingInQuoted start (w .meaning)) m e
 
   unfoldable pub quoted-taken : {q r s u : ℕ} {kind : Kind} → FirstCharacter classes text p Backslash q r → FirstCharacter classes text r kind s u → Taken kind → Quoting classes text start at u
   quoted-taken {s = s} {kind = kind} x y o =
-      let t : List ℕ = w .meaning ++ (getD text s 0 ∷ []) in
+      let t : List ℕ = w .meaning ++ takenData (getD text s 0) (y .folded) in
       record { meaning = t; same = quoted-taking x y (go [] (inQuoted start t)) (taken kind (inQuoted start t) s o) }
 
 -- ---- a domain literal
@@ -221,31 +227,31 @@ module _ {classes text : List ℕ} {start at p : ℕ} (w : Quoting classes text 
 abbrev pub LiteralText : Kind → Type 0
 LiteralText kind = OneOf (0 ∷ 1 ∷ 3 ∷ 4 ∷ 5 ∷ 6 ∷ 8 ∷ []) (tag kind)
 
-pub literal-text : (kind : Kind) (start b p : ℕ) → LiteralText kind → move (inLiteral start) kind b p ≡ go [] (inLiteral start)
-literal-text White start b p o = refl
-literal-text Control start b p o = refl
-literal-text Return start b p o = absurd (miss (0 ∷ 1 ∷ 3 ∷ 4 ∷ 5 ∷ 6 ∷ 8 ∷ []) 2 tt o)
-literal-text Plain start b p o = refl
-literal-text Open start b p o = refl
-literal-text Close start b p o = refl
-literal-text Quote start b p o = refl
-literal-text Backslash start b p o = absurd (miss (0 ∷ 1 ∷ 3 ∷ 4 ∷ 5 ∷ 6 ∷ 8 ∷ []) 7 tt o)
-literal-text (Mark class) start b p o = refl
-literal-text Above start b p o = absurd (miss (0 ∷ 1 ∷ 3 ∷ 4 ∷ 5 ∷ 6 ∷ 8 ∷ []) 9 tt o)
-literal-text OpenBracket start b p o = absurd (miss (0 ∷ 1 ∷ 3 ∷ 4 ∷ 5 ∷ 6 ∷ 8 ∷ []) 10 tt o)
-literal-text CloseBracket start b p o = absurd (miss (0 ∷ 1 ∷ 3 ∷ 4 ∷ 5 ∷ 6 ∷ 8 ∷ []) 11 tt o)
+pub literal-text : (kind : Kind) (start b p : ℕ) (folded : Bool) → LiteralText kind → move (inLiteral start) kind b p folded ≡ go [] (inLiteral start)
+literal-text White start b p folded o = refl
+literal-text Control start b p folded o = refl
+literal-text Return start b p folded o = absurd (miss (0 ∷ 1 ∷ 3 ∷ 4 ∷ 5 ∷ 6 ∷ 8 ∷ []) 2 tt o)
+literal-text Plain start b p folded o = refl
+literal-text Open start b p folded o = refl
+literal-text Close start b p folded o = refl
+literal-text Quote start b p folded o = refl
+literal-text Backslash start b p folded o = absurd (miss (0 ∷ 1 ∷ 3 ∷ 4 ∷ 5 ∷ 6 ∷ 8 ∷ []) 7 tt o)
+literal-text (Mark class) start b p folded o = refl
+literal-text Above start b p folded o = absurd (miss (0 ∷ 1 ∷ 3 ∷ 4 ∷ 5 ∷ 6 ∷ 8 ∷ []) 9 tt o)
+literal-text OpenBracket start b p folded o = absurd (miss (0 ∷ 1 ∷ 3 ∷ 4 ∷ 5 ∷ 6 ∷ 8 ∷ []) 10 tt o)
+literal-text CloseBracket start b p folded o = absurd (miss (0 ∷ 1 ∷ 3 ∷ 4 ∷ 5 ∷ 6 ∷ 8 ∷ []) 11 tt o)
 
 -- from its "[" scanning has come to a position inside it
 pub record InLiteral (classes text : List ℕ) (start at p : ℕ) : Type 0 where
   pub same : scanFrom classes (charactersAt text at) (inLiteral start) ≡ scanFrom classes (charactersAt text p) (inLiteral start)
 
 module _ {classes text : List ℕ} {start at p : ℕ} (w : InLiteral classes text start at p) where
-  pub literal-moves : {q r : ℕ} {kind : Kind} → FirstCharacter classes text p kind q r → (m : Move) → move (inLiteral start) kind (getD text q 0) q ≡ m
+  pub literal-moves : {q r : ℕ} {kind : Kind} (x : FirstCharacter classes text p kind q r) (m : Move) → move (inLiteral start) kind (getD text q 0) q (x .folded) ≡ m
       → scanFrom classes (charactersAt text at) (inLiteral start) ≡ then m (λ state. scanFrom classes (charactersAt text r) state)
   literal-moves x m e = w .same ∙ moves x (inLiteral start) m e
 
   pub literal-on : {q r : ℕ} {kind : Kind} → FirstCharacter classes text p kind q r → LiteralText kind → InLiteral classes text start at r
-  literal-on {q} {kind = kind} x o = record { same = literal-moves x (go [] (inLiteral start)) (literal-text kind start (getD text q 0) q o) }
+  literal-on {q} {kind = kind} x o = record { same = literal-moves x (go [] (inLiteral start)) (literal-text kind start (getD text q 0) q (x .folded) o) }
 
   pub literal-taking : {q r s u : ℕ} {kind : Kind} → FirstCharacter classes text p Backslash q r → FirstCharacter classes text r kind s u → (m : Move)
       → scanning.take kind (inLiteral start) s ≡ m
@@ -266,13 +272,13 @@ closed-inner zero start n = absurd (n refl)
 closed-inner (suc depth) start n = let e : depth ≡ suc depth - 1 = omega arith in ap (λ (d : ℕ). inComment d start) e
 
 module _ {classes text : List ℕ} {start at depth p : ℕ} (w : Commenting classes text start at depth p) where
-  pub comment-moves : {q r : ℕ} {kind : Kind} → FirstCharacter classes text p kind q r → (m : Move) → move (inComment depth start) kind (getD text q 0) q ≡ m
+  pub comment-moves : {q r : ℕ} {kind : Kind} (x : FirstCharacter classes text p kind q r) (m : Move) → move (inComment depth start) kind (getD text q 0) q (x .folded) ≡ m
       → scanFrom classes (charactersAt text at) (inComment 0 start) ≡ then m (λ state. scanFrom classes (charactersAt text r) state)
   comment-moves x m e = w .same ∙ moves x (inComment depth start) m e
 
   -- text as it is
   pub comment-on : {q r : ℕ} {kind : Kind} → FirstCharacter classes text p kind q r → Text kind → Commenting classes text start at depth r
-  comment-on {q} {kind = kind} x o = record { same = comment-moves x (go [] (inComment depth start)) (comment-text kind depth start (getD text q 0) q o) }
+  comment-on {q} {kind = kind} x o = record { same = comment-moves x (go [] (inComment depth start)) (comment-text kind depth start (getD text q 0) q (x .folded) o) }
 
   -- a comment in it opens
   pub comment-opens : {q r : ℕ} → FirstCharacter classes text p Open q r → Commenting classes text start at (depth + 1) r
@@ -300,7 +306,7 @@ module _ {classes text : List ℕ} {start at depth p : ℕ} (w : Commenting clas
 
 module _ {classes text : List ℕ} {at p q : ℕ} where
   -- a single byte that is a symbol
-  single-next : {kind : Kind} (class : Class) → FirstCharacter classes text at kind p q → move outside kind (getD text p 0) p ≡ go (single class (getD text p 0) p ∷ []) outside
+  single-next : {kind : Kind} (class : Class) (x : FirstCharacter classes text at kind p q) → move outside kind (getD text p 0) p (x .folded) ≡ go (single class (getD text p 0) p ∷ []) outside
       → scanBy classes text at ≡ next (symbol class p q (getD text p 0 ∷ [])) (scanBy classes text q)
   single-next class x e =
       moves x outside (go (single class (getD text p 0) p ∷ []) outside) e
@@ -310,7 +316,7 @@ module _ {classes text : List ℕ} {at p q : ℕ} where
   mark-next {class} x = single-next class x refl
 
   pub stray-next : {kind : Kind} → FirstCharacter classes text at kind p q → OneOf (5 ∷ 7 ∷ 11 ∷ []) (tag kind) → scanBy classes text at ≡ next (symbol Stray p q (getD text p 0 ∷ [])) (scanBy classes text q)
-  stray-next {kind} x o = single-next Stray x (stray kind (getD text p 0) p o)
+  stray-next {kind} x o = single-next Stray x (stray kind (getD text p 0) p (x .folded) o)
 
   pub control-next : {kind : Kind} → FirstCharacter classes text at kind p q → OneOf (1 ∷ 2 ∷ []) (tag kind) → scanBy classes text at ≡ faultAt strayControl p
-  control-next {kind} x o = moves x outside (halt [] strayControl p) (stray-control kind (getD text p 0) p o)
+  control-next {kind} x o = moves x outside (halt [] strayControl p) (stray-control kind (getD text p 0) p (x .folded) o)

@@ -27,7 +27,7 @@ use Rattle.scanner.specs.declared.Kind.the-variants.{White, Control, Ret
 use Rattle.scanner.proofs.CharacterLaws.{View, over, one, view}
 use Rattle.scanner.proofs.MoveLaws.{tag, part-one, NotPlain, Data, Taken, at-end, moves, atom-on, atom-begins, atom-ends, atom-last, Quoting, quoted-moves, quoted-on, quoted-taking, quoted-taken, InLiteral, literal-moves, literal-on, literal-taking, literal-taken, Commenting, comment-moves, comment-on, comment-opens, comment-closes, comment-over, comment-taking, comment-taken, mark-next, stray-next, control-next}
 use Rattle.scanner.specs.Ties.Meanings.{dataAt, meaningAt}
-use Rattle.scanner.proofs.Meanings.{data-on, data-backslash, data-taken, data-quote}
+use Rattle.scanner.proofs.Meanings.{AsData, data-on, data-backslash, data-taken, data-quote}
 
 module _ (classes text : List ℕ) where
   -- ---- an atom ends
@@ -79,10 +79,10 @@ module _ (classes text : List ℕ) where
     data-so-far : dataAt classes text at ≡ quoting .meaning ++ dataAt classes text p
     from : at ≤ p
 
-  passed-data : {start at p q r : ℕ} {kind : Kind} → Passed start at p → FirstCharacter classes text p kind q r → Data kind → Passed start at r
+  passed-data : {start at p q r : ℕ} {kind : Kind} → Passed start at p → FirstCharacter classes text p kind q r → Data kind → AsData kind → Passed start at r
   unfolding quoted-on
-  passed-data {q = q} w x o =
-      record { quoting = quoted-on (w .quoting) x o; data-so-far = w .data-so-far ∙ rw (data-on x o, append-assoc); from = omega (arith, w .from, x .from, x .behind) }
+  passed-data w x o d =
+      record { quoting = quoted-on (w .quoting) x o; data-so-far = w .data-so-far ∙ rw (data-on x d, append-assoc); from = omega (arith, w .from, x .from, x .behind) }
 
   passed-taken : {start at p q r s u : ℕ} {kind : Kind} → Passed start at p → FirstCharacter classes text p Backslash q r → FirstCharacter classes text r kind s u → Taken kind → Passed start at u
   unfolding quoted-taken
@@ -123,18 +123,18 @@ module _ (classes text : List ℕ) where
 
   quoted-by : (start at p : ℕ) {q r : ℕ} (kind : Kind) → Passed start at p → FirstCharacter classes text p kind q r → View classes text r
       → ((u : ℕ) → p < u → u ≤ length text → Passed start at u → Closes start at) → Closes start at
-  quoted-by start at p {r = r} White w x v f = f r (omega (arith, x .from, x .behind)) (x .within) (passed-data w x (hit (0 ∷ 1 ∷ 3 ∷ 4 ∷ 5 ∷ 8 ∷ 10 ∷ 11 ∷ []) 0 tt))
-  quoted-by start at p {r = r} Control w x v f = f r (omega (arith, x .from, x .behind)) (x .within) (passed-data w x (hit (0 ∷ 1 ∷ 3 ∷ 4 ∷ 5 ∷ 8 ∷ 10 ∷ 11 ∷ []) 1 tt))
+  quoted-by start at p {r = r} White w x v f = f r (omega (arith, x .from, x .behind)) (x .within) (passed-data w x (hit (0 ∷ 1 ∷ 3 ∷ 4 ∷ 5 ∷ 8 ∷ 10 ∷ 11 ∷ []) 0 tt) (λ b f. (refl, refl)))
+  quoted-by start at p {r = r} Control w x v f = f r (omega (arith, x .from, x .behind)) (x .within) (passed-data w x (hit (0 ∷ 1 ∷ 3 ∷ 4 ∷ 5 ∷ 8 ∷ 10 ∷ 11 ∷ []) 1 tt) (λ b f. (refl, refl)))
   quoted-by start at p {r = r} Return w x v f = faulty strayControl _ (quoted-moves (w .quoting) x (halt [] strayControl _) refl)
-  quoted-by start at p {r = r} Plain w x v f = f r (omega (arith, x .from, x .behind)) (x .within) (passed-data w x (hit (0 ∷ 1 ∷ 3 ∷ 4 ∷ 5 ∷ 8 ∷ 10 ∷ 11 ∷ []) 3 tt))
-  quoted-by start at p {r = r} Open w x v f = f r (omega (arith, x .from, x .behind)) (x .within) (passed-data w x (hit (0 ∷ 1 ∷ 3 ∷ 4 ∷ 5 ∷ 8 ∷ 10 ∷ 11 ∷ []) 4 tt))
-  quoted-by start at p {r = r} Close w x v f = f r (omega (arith, x .from, x .behind)) (x .within) (passed-data w x (hit (0 ∷ 1 ∷ 3 ∷ 4 ∷ 5 ∷ 8 ∷ 10 ∷ 11 ∷ []) 5 tt))
+  quoted-by start at p {r = r} Plain w x v f = f r (omega (arith, x .from, x .behind)) (x .within) (passed-data w x (hit (0 ∷ 1 ∷ 3 ∷ 4 ∷ 5 ∷ 8 ∷ 10 ∷ 11 ∷ []) 3 tt) (λ b f. (refl, refl)))
+  quoted-by start at p {r = r} Open w x v f = f r (omega (arith, x .from, x .behind)) (x .within) (passed-data w x (hit (0 ∷ 1 ∷ 3 ∷ 4 ∷ 5 ∷ 8 ∷ 10 ∷ 11 ∷ []) 4 tt) (λ b f. (refl, refl)))
+  quoted-by start at p {r = r} Close w x v f = f r (omega (arith, x .from, x .behind)) (x .within) (passed-data w x (hit (0 ∷ 1 ∷ 3 ∷ 4 ∷ 5 ∷ 8 ∷ 10 ∷ 11 ∷ []) 5 tt) (λ b f. (refl, refl)))
   quoted-by start at p {r = r} Quote w x v f = closing w x
   quoted-by start at p {r = r} Backslash w x v f = taking-view start at p w x v f
-  quoted-by start at p {r = r} (Mark class) w x v f = f r (omega (arith, x .from, x .behind)) (x .within) (passed-data w x (hit (0 ∷ 1 ∷ 3 ∷ 4 ∷ 5 ∷ 8 ∷ 10 ∷ 11 ∷ []) 8 tt))
+  quoted-by start at p {r = r} (Mark class) w x v f = f r (omega (arith, x .from, x .behind)) (x .within) (passed-data w x (hit (0 ∷ 1 ∷ 3 ∷ 4 ∷ 5 ∷ 8 ∷ 10 ∷ 11 ∷ []) 8 tt) (λ b f. (refl, refl)))
   quoted-by start at p {r = r} Above w x v f = faulty byteAbove127 _ (quoted-moves (w .quoting) x (halt [] byteAbove127 _) refl)
-  quoted-by start at p {r = r} OpenBracket w x v f = f r (omega (arith, x .from, x .behind)) (x .within) (passed-data w x (hit (0 ∷ 1 ∷ 3 ∷ 4 ∷ 5 ∷ 8 ∷ 10 ∷ 11 ∷ []) 10 tt))
-  quoted-by start at p {r = r} CloseBracket w x v f = f r (omega (arith, x .from, x .behind)) (x .within) (passed-data w x (hit (0 ∷ 1 ∷ 3 ∷ 4 ∷ 5 ∷ 8 ∷ 10 ∷ 11 ∷ []) 11 tt))
+  quoted-by start at p {r = r} OpenBracket w x v f = f r (omega (arith, x .from, x .behind)) (x .within) (passed-data w x (hit (0 ∷ 1 ∷ 3 ∷ 4 ∷ 5 ∷ 8 ∷ 10 ∷ 11 ∷ []) 10 tt) (λ b f. (refl, refl)))
+  quoted-by start at p {r = r} CloseBracket w x v f = f r (omega (arith, x .from, x .behind)) (x .within) (passed-data w x (hit (0 ∷ 1 ∷ 3 ∷ 4 ∷ 5 ∷ 8 ∷ 10 ∷ 11 ∷ []) 11 tt) (λ b f. (refl, refl)))
 
   quoted-view : (start at p : ℕ) → Passed start at p → View classes text p → ((u : ℕ) → p < u → u ≤ length text → Passed start at u → Closes start at) → Closes start at
   quoted-view start at p w (over e) f = faulty quotedNotClosed start (w .quoting .same ∙ at-end classes text p _ e)

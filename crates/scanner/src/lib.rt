@@ -12,6 +12,7 @@ ghost use Rattle.octets.specs.Believed.Answers.{told};
 ghost use Rattle.scanner.specs.Believed.Answers.{nextOf, nextTold, nextInBody, faultOf, bodyScanned};
 ghost use Rattle.scanner.specs.Believed.Categories.{ofSymbol, between, categoryOf, categoryAt};
 ghost use Rattle.scanner.specs.Ties.Steps.{StepIs, AtomEnds, CommentIs, FaultsFrom};
+ghost use Rattle.scanner.specs.Ties.Meanings.{datumAt};
 ghost use Rattle.scanner.specs.Ties.Gaps.{gapDepth, GapCategoryIs, PassedIs, PassedLow, Faultless};
 ghost use Rattle.scanner.specs.declared.Gap.the-variants.{Comment as commentGap};
 ghost use Rattle.octets.specs.Believed.Text.{part};
@@ -47,6 +48,12 @@ pub enum Next {
     Found(Class, usize, usize),
     Ended,
     Fault(u8, usize),
+}
+
+// The next byte of data of a quoted-string and the position behind it, or that the string is over.
+pub enum Datum {
+    Byte(u8, usize),
+    Over,
 }
 
 // What a byte of a body is: white space, comment, part of a word, "at", a bracket or mark, or nothing of these.
@@ -219,6 +226,25 @@ fn quoted_end(classes: &[u8; 256], text: &[u8], start: usize, at: usize) -> Next
             }
             _ => p = q,
         }
+    }
+}
+
+// The next byte of data of a quoted-string, from a position inside it on, by a table of classes that is handed on.
+pub fn next_datum(classes: &[u8; 256], text: &[u8], at: usize) -> Datum
+    ensures { λ r. ⌜ r ≡ datumAt (now (classes .entry)) (now (text .entry)) at ⌝ }
+{
+    let Step::Byte(kind, here, q) = character(classes, text, at) else {
+        return Datum::Over;
+    };
+    match kind {
+        Kind::Quote => Datum::Over,
+        Kind::Backslash => {
+            let Step::Byte(taken, place, behind) = character(classes, text, q) else {
+                return Datum::Over;
+            };
+            Datum::Byte(text[place], behind)
+        }
+        _ => Datum::Byte(text[here], q),
     }
 }
 

@@ -25,7 +25,7 @@ stateOf (halt symbols number p) = none
 
 -- .. that a character leads to
 abbrev pub stateBehind : State → Character → Option State
-stateBehind state (character b p folded) = stateOf (move state (characterKind classTable b folded) b p)
+stateBehind state (character b p folded) = stateOf (move state (characterKind classTable b folded) b p folded)
 
 -- .. that characters lead to, one after the other
 abbrev pub stateAfter : List Character → State → Option State

@@ -4,97 +4,61 @@ use Prim.Native.Nat.{_+_, _*_, _-_, _≤_}
 use native.Mathlib.Omega.{arith}
 use borrow.Author.Needs.{needs}
 use lib.ListN.{length}
+use Rattle.octets.proofs.Writes.{Left, left-all, left-after, left-none}
 use Rattle.scanner.specs.Ties.Meanings.{dataAt}
+use Rattle.scanner.proofs.Meanings.{DatumFirst, DatumIs, datum-is}
 use Rattle.plain.specs.Believed.PlainText.{dataText}
-use Rattle.plain.specs.declared.Role.the-variants.{Datum, Takes, Closes}
-use Rattle.octets.proofs.Writes.{Left, left-all, left-as, left-after, left-none}
-use Rattle.plain.proofs.QuotedData.{dataLeft, data-step, data-end}
 use Rattle.plain.proofs.put_data.Statement.{statement}
 use Rattle.plain.proofs.put_data.Tie as tie
 
 abbrev Inv-loop : tie.InvT-loop
-Inv-loop classes text at out₀ n p₀ m₀ taking₀ out p m taking =
-    (at ≤ p) × (p ≤ length text) × (m ≤ n + 2 * (p - at)) × (length out ≡ length out₀)
-    × Left out₀ n (dataText (dataAt classes text at)) out m (dataText (dataLeft classes text taking p))
+Inv-loop classes text at out₀ n p₀ m₀ out p m =
+    (at ≤ p) × (p ≤ length text) × (m ≤ n + 2 * (p - at)) × (length out ≡ length out₀) × Left out₀ n (dataText (dataAt classes text at)) out m (dataText (dataAt classes text p))
 
 abbrev μ-loop : tie.MeasureT-loop
-μ-loop classes text at out₀ n p₀ m₀ taking₀ out p m taking = length text - p
+μ-loop classes text at out₀ n p₀ m₀ out p m = length text - p
+
+-- the byte of data that was read
+first : (c : tie.After-b Inv-loop μ-loop) → (let f = c .b .given .0 in let a = c .before .before .before .before .before .before .args in DatumFirst (a .classes .now) (a .text .now) (c .before .before .before .loop .p) (f .0) (f .1 .0))
+first c =
+    let a = c .before .before .before .before .before .before .args in
+    let d = datum-is (a .classes .now) (a .text .now) (c .before .before .before .loop .p) in
+    rw (sym (c .before .before .next-datum .ensures), c .b .given .1) at d
 
 loop-holds : tie.Need-loop-holds Inv-loop μ-loop
 loop-holds c = (omega arith, omega arith, omega arith, refl, left-all _ _ _)
 
-past-fold-requires : tie.Need-past-fold-requires Inv-loop μ-loop
-past-fold-requires c κs = search needs
+next-datum-requires : tie.Need-next-datum-requires Inv-loop μ-loop
+next-datum-requires c κs = search needs
 
-shared-slice-read-b : tie.Need-shared-slice-read-b Inv-loop μ-loop
-shared-slice-read-b c = omega (arith, c .before .past-fold .ensures .2)
-
-role-of-requires : tie.Need-role-of-requires Inv-loop μ-loop
-role-of-requires c κs = search needs
+enum-known-b : tie.Need-enum-known-b Inv-loop μ-loop
+enum-known-b c = search needs
 
 enum-told : tie.Need-enum-told Inv-loop μ-loop
 enum-told c = search needs
 
 same-length : tie.Need-same-length Inv-loop μ-loop
-same-length c = c .before .before .before .before .before .before .loop .inv .3
+same-length c = c .before .before .before .loop .inv .3
 
 returns : tie.Need-returns Inv-loop μ-loop
 returns c =
-    let a = c .before .before .before .before .before .before .before .before .before .args in
-    let l = c .before .before .before .before .before .before .loop in
-    let h = c .before .before .before .before .past-fold .ensures in
-    let r = sym (c .enum-told .given .1) ∙ c .before .before .role-of .ensures in
-    let e = data-step (a .classes .now) (a .text .now) (l .taking) (l .p) {role = Closes} (h .0) (omega arith) r in
+    let a = c .before .before .before .before .before .before .args in
+    let l = c .before .before .before .loop in
+    let e = rw (sym (c .before .before .next-datum .ensures), c .enum-told .given .1) at (datum-is (a .classes .now) (a .text .now) (l .p)) in
     (left-none (l .inv .4) (λ rest. ap (λ t. dataText t rest) e), omega arith)
 
-enum-told-2 : tie.Need-enum-told-2 Inv-loop μ-loop
-enum-told-2 c = search needs
-
-add-p : tie.Need-add-p Inv-loop μ-loop
-add-p c = omega (arith, c .before .before .before .before .past-fold .ensures .2)
+put-datum-requires : tie.Need-put-datum-requires Inv-loop μ-loop
+put-datum-requires c κs = let x = first (c .before .before) in omega (arith, x .from, x .within)
 
 loop-less : tie.Need-loop-less Inv-loop μ-loop
-loop-less c = omega (arith, c .before .before .before .before .past-fold .ensures .1, c .before .before .before .before .past-fold .ensures .2)
+loop-less c = let x = first (c .before .before .before .before .before) in omega (arith, x .from, x .within)
 
 loop-again : tie.Need-loop-again Inv-loop μ-loop
 loop-again c =
-    let a = c .before .before .before .before .before .before .before .before .before .args in
-    let l = c .before .before .before .before .before .before .loop in
-    let h = c .before .before .before .before .past-fold .ensures in
-    let r = sym (c .enum-told2 .given .1) ∙ c .before .before .role-of .ensures in
-    let e = data-step (a .classes .now) (a .text .now) (l .taking) (l .p) {role = Takes} (h .0) (omega arith) r in
-    (omega (arith, h .1), omega (arith, h .2), omega (arith, h .1), l .inv .3, left-as (l .inv .4) (λ rest. ap (λ t. dataText t rest) e))
-
-enum-told-3 : tie.Need-enum-told-3 Inv-loop μ-loop
-enum-told-3 c = search needs
-
-put-datum-requires : tie.Need-put-datum-requires Inv-loop μ-loop
-put-datum-requires c κs = omega (arith, c .before .before .before .before .before .past-fold .ensures .1, c .before .before .before .before .before .past-fold .ensures .2)
-
-add-p-2 : tie.Need-add-p-2 Inv-loop μ-loop
-add-p-2 c = omega (arith, c .before .before .before .before .before .before .before .before .past-fold .ensures .2)
-
-loop-less-2 : tie.Need-loop-less-2 Inv-loop μ-loop
-loop-less-2 c = omega (arith, c .before .before .before .before .before .before .before .before .past-fold .ensures .1, c .before .before .before .before .before .before .before .before .past-fold .ensures .2)
-
-loop-again-2 : tie.Need-loop-again-2 Inv-loop μ-loop
-loop-again-2 c =
-    let a = c .before .before .before .before .before .before .before .before .before .before .before .before .before .args in
-    let l = c .before .before .before .before .before .before .before .before .before .before .loop in
-    let h = c .before .before .before .before .before .before .before .before .past-fold .ensures in
-    let r = sym (c .before .before .before .before .enum-told3 .given .1) ∙ c .before .before .before .before .before .before .role-of .ensures in
-    let e = data-step (a .classes .now) (a .text .now) (l .taking) (l .p) {role = Datum} (h .0) (omega arith) r in
+    let x = first (c .before .before .before .before .before) in
+    let l = c .before .before .before .before .before .before .before .before .loop in
     let p = c .before .before .put-datum in
-    (omega (arith, h .1), omega (arith, h .2), omega (arith, h .1, p .ensures .1), p .kept .0 ∙ l .inv .3, left-after (l .inv .4) (λ rest. ap (λ t. dataText t rest) e) (p .ensures .0))
-
-same-length-2 : tie.Need-same-length-2 Inv-loop μ-loop
-same-length-2 c = c .before .loop .inv .3
-
-returns-2 : tie.Need-returns-2 Inv-loop μ-loop
-returns-2 c =
-    let a = c .before .before .before .before .args in
-    let l = c .before .loop in
-    (left-none (l .inv .4) (λ rest. ap (λ t. dataText t rest) (data-end (a .classes .now) (a .text .now) (l .taking) (l .p) (omega arith))), omega arith)
+    (omega (arith, x .from), x .within, omega (arith, x .from, p .ensures .1), p .kept .0 ∙ l .inv .3, left-after (l .inv .4) (λ rest. ap (λ t. dataText t rest) (x .first)) (p .ensures .0))
 
 pub put-data-spec : {M : Type 1} → statement M
 put-data-spec =
@@ -103,20 +67,11 @@ put-data-spec =
     Inv-loop
     μ-loop
     loop-holds
-    past-fold-requires
-    shared-slice-read-b
-    role-of-requires
+    next-datum-requires
+    enum-known-b
     enum-told
     same-length
     returns
-    enum-told-2
-    add-p
-    loop-less
-    loop-again
-    enum-told-3
     put-datum-requires
-    add-p-2
-    loop-less-2
-    loop-again-2
-    same-length-2
-    returns-2)
+    loop-less
+    loop-again)

@@ -88,7 +88,7 @@ unfoldable pub between : List ℕ → ℕ → List Character → State → Categ
 between classes place [] state = category.Nothing
 between classes place (character b p folded ∷ rest) state =
     elim (ltb p place) [
-      | true ↦ behind (move state (characterKind classes b folded) b p) (λ state′. between classes place rest state′)
+      | true ↦ behind (move state (characterKind classes b folded) b p folded) (λ state′. between classes place rest state′)
       | false ↦ takenIn state (characterKind classes b folded)
     ]
 

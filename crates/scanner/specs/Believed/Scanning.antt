@@ -1,5 +1,6 @@
 -- Scanning goes left to right over the characters, gives symbols, and stops at its first fault.
 use Prim.Native.Nat.{ℕ, zero, suc, _+_}
+use mathlib.Core.Bool.{Bool}
 use mathlib.Core.List.{List, [], _∷_, _++_}
 use Rattle.octets.specs.Believed.Choice.{pick}
 use Rattle.octets.specs.Believed.Classes.{classTable}
@@ -154,16 +155,20 @@ take Above state p = halt [] byteAbove127 p
 take OpenBracket state p = go [] state
 take CloseBracket state p = go [] state
 
--- a byte b of a kind, at a position p, in any state
-abbrev pub move : State → Kind → ℕ → ℕ → Move
-move outside kind b p = moveOutside kind b p
-move (inAtom start end t) kind b p = moveInAtom kind start end t b p
-move (inQuoted start t) kind b p = moveInQuoted kind start t b p
-move (takingInQuoted start t) kind b p = take kind (inQuoted start (t ++ (b ∷ []))) p
-move (inLiteral start) kind b p = moveInLiteral kind start p
-move (takingInLiteral start) kind b p = take kind (inLiteral start) p
-move (inComment depth start) kind b p = moveInComment kind depth start p
-move (takingInComment depth start) kind b p = take kind (inComment depth start) p
+-- the data that a backslash takes in a quoted-string: the byte behind it, where the CRLF of a fold was dropped right before that one, too
+unfoldable pub takenData : ℕ → Bool → List ℕ
+takenData b folded = b ∷ []
+
+-- a byte b of a kind, at a position p, in any state; folded, the CRLF of a fold was dropped right before it
+abbrev pub move : State → Kind → ℕ → ℕ → Bool → Move
+move outside kind b p folded = moveOutside kind b p
+move (inAtom start end t) kind b p folded = moveInAtom kind start end t b p
+move (inQuoted start t) kind b p folded = moveInQuoted kind start t b p
+move (takingInQuoted start t) kind b p folded = take kind (inQuoted start (t ++ takenData b folded)) p
+move (inLiteral start) kind b p folded = moveInLiteral kind start p
+move (takingInLiteral start) kind b p folded = take kind (inLiteral start) p
+move (inComment depth start) kind b p folded = moveInComment kind depth start p
+move (takingInComment depth start) kind b p folded = take kind (inComment depth start) p
 
 -- the body ends: 5 and 6 arise only here
 abbrev pub atEnd : State → Scanned
@@ -190,7 +195,7 @@ then (halt symbols number p) rest = followedBy symbols (faultAt number p)
 unfoldable pub scanFrom : List ℕ → List Character → State → Scanned
 scanFrom classes [] state = atEnd state
 scanFrom classes (character b p folded ∷ rest) state =
-    then (move state (characterKind classes b folded) b p) (λ state′. scanFrom classes rest state′)
+    then (move state (characterKind classes b folded) b p folded) (λ state′. scanFrom classes rest state′)
 
 -- what a text scans to from a position on, by a table of classes
 abbrev pub scanBy : List ℕ → List ℕ → ℕ → Scanned

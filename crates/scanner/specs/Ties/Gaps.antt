@@ -1,6 +1,7 @@
 -- What the functions that look between symbols answer. Nothing here needs to be believed.
 use mathlib.Core.Path.{_≡_}
 use Prim.Native.Nat.{ℕ, _≤_}
+use mathlib.Core.Bool.{Bool}
 use mathlib.Core.List.{List}
 use Rattle.octets.specs.declared.answers.Answer.the-variants.{Accepted}
 use Rattle.scanner.specs.Believed.Scanning.{State, outside, inComment, takingInComment, move, scanBy}
@@ -35,13 +36,13 @@ abbrev pub GapCategoryIs : Gap → Kind → Category → Type 0
 GapCategoryIs gap kind r = (start : ℕ) → r ≡ takenIn (stateOf gap start) kind
 
 -- where it leads, with a byte b at a position p
-pub record LeadsTo (gap : Gap) (start : ℕ) (kind : Kind) (b p : ℕ) (next : Gap) : Type 0 where
+pub record LeadsTo (gap : Gap) (start : ℕ) (kind : Kind) (b p : ℕ) (folded : Bool) (next : Gap) : Type 0 where
   pub outermost : ℕ
-  pub same : (rest : State → Category) → behind (move (stateOf gap start) kind b p) rest ≡ rest (stateOf next outermost)
+  pub same : (rest : State → Category) → behind (move (stateOf gap start) kind b p folded) rest ≡ rest (stateOf next outermost)
 
 abbrev pub PassedIs : Gap → Kind → Passed → Type 0
-PassedIs gap kind (To next) = (start b p : ℕ) → LeadsTo gap start kind b p next
-PassedIs gap kind Over = (start b p : ℕ) (rest : State → Category) → behind (move (stateOf gap start) kind b p) rest ≡ Nothing
+PassedIs gap kind (To next) = (start b p : ℕ) (folded : Bool) → LeadsTo gap start kind b p folded next
+PassedIs gap kind Over = (start b p : ℕ) (folded : Bool) (rest : State → Category) → behind (move (stateOf gap start) kind b p folded) rest ≡ Nothing
 
 -- .. in so many comments, at most
 abbrev pub PassedLow : ℕ → Passed → Type 0

@@ -1,11 +1,16 @@
 -- The meaning of a symbol by its place in a text. Nothing here needs to be believed: that it is the meaning which scanning gives is a law.
-use mathlib.Core.List.{List, [], _∷_}
-use Prim.Native.Nat.{ℕ, _+_}
+use mathlib.Core.Bool.{Bool}
+use mathlib.Core.List.{List, [], _∷_, _++_}
+use Prim.Native.Nat.{ℕ, _+_, _-_}
+use lib.ListN.{length}
 use Rattle.octets.specs.Believed.Text.{part}
 use Rattle.scanner.specs.Believed.Kinds.{characterKind}
 use Rattle.scanner.specs.Believed.Characters.{Character, character, charactersAt}
+use Rattle.scanner.specs.Believed.Scanning.{takenData}
 use Rattle.scanner.specs.declared.Class.{Class}
 use Rattle.scanner.specs.declared.Class.the-variants.{Atom, Quoted, At, LessThan, GreaterThan, Comma, Semicolon, Colon, Stray, Dot, Literal}
+use Rattle.scanner.specs.declared.Datum.{Datum}
+use Rattle.scanner.specs.declared.Datum.the-variants.{Byte, Over}
 use Rattle.scanner.specs.declared.Kind.{Kind}
 use Rattle.scanner.specs.declared.Kind.the-variants.{White, Control, Return, Plain, Open, Close, Quote, Backslash, Mark, Above, OpenBracket, CloseBracket}
 
@@ -13,22 +18,22 @@ use Rattle.scanner.specs.declared.Kind.the-variants.{White, Control, Ret
 pub data Walk : Type 0 where
   inside taking over : Walk
 
--- the data of a character, before those of the rest
-abbrev pub datum : Walk → Kind → ℕ → List ℕ → List ℕ
-datum taking kind b rest = b ∷ rest
-datum over kind b rest = []
-datum inside White b rest = b ∷ rest
-datum inside Control b rest = b ∷ rest
-datum inside Return b rest = b ∷ rest
-datum inside Plain b rest = b ∷ rest
-datum inside Open b rest = b ∷ rest
-datum inside Close b rest = b ∷ rest
-datum inside Quote b rest = []
-datum inside Backslash b rest = rest
-datum inside (Mark class) b rest = b ∷ rest
-datum inside Above b rest = b ∷ rest
-datum inside OpenBracket b rest = b ∷ rest
-datum inside CloseBracket b rest = b ∷ rest
+-- the data of a character
+abbrev pub dataOf : Walk → Kind → ℕ → Bool → List ℕ
+dataOf taking kind b folded = takenData b folded
+dataOf over kind b folded = []
+dataOf inside White b folded = b ∷ []
+dataOf inside Control b folded = b ∷ []
+dataOf inside Return b folded = b ∷ []
+dataOf inside Plain b folded = b ∷ []
+dataOf inside Open b folded = b ∷ []
+dataOf inside Close b folded = b ∷ []
+dataOf inside Quote b folded = []
+dataOf inside Backslash b folded = []
+dataOf inside (Mark class) b folded = b ∷ []
+dataOf inside Above b folded = b ∷ []
+dataOf inside OpenBracket b folded = b ∷ []
+dataOf inside CloseBracket b folded = b ∷ []
 
 -- where the walk goes on
 abbrev pub walked : Walk → Kind → Walk
@@ -51,11 +56,26 @@ walked inside CloseBracket = inside
 unfoldable pub dataFrom : List ℕ → Walk → List Character → List ℕ
 dataFrom classes walk [] = []
 dataFrom classes walk (character b p folded ∷ rest) =
-    datum walk (characterKind classes b folded) b (dataFrom classes (walked walk (characterKind classes b folded)) rest)
+    dataOf walk (characterKind classes b folded) b folded ++ dataFrom classes (walked walk (characterKind classes b folded)) rest
 
 -- the data of a quoted-string from a position inside it on
 abbrev pub dataAt : List ℕ → List ℕ → ℕ → List ℕ
 dataAt classes text at = dataFrom classes inside (charactersAt text at)
+
+-- the first of the data that stand up to a position, with the position behind it; where there are none, what comes then
+abbrev pub firstOr : List ℕ → ℕ → Datum → Datum
+firstOr [] end rest = rest
+firstOr (b ∷ more) end rest = Byte b (end - length more)
+
+-- the next byte of data from one of its characters on
+unfoldable pub datumFrom : List ℕ → Walk → List Character → Datum
+datumFrom classes walk [] = Over
+datumFrom classes walk (character b p folded ∷ rest) =
+    firstOr (dataOf walk (characterKind classes b folded) b folded) (p + 1) (datumFrom classes (walked walk (characterKind classes b folded)) rest)
+
+-- the next byte of data from a position inside it on
+abbrev pub datumAt : List ℕ → List ℕ → ℕ → Datum
+datumAt classes text at = datumFrom classes inside (charactersAt text at)
 
 -- the meaning of a symbol that stands from `start` to `end`
 abbrev pub meaningAt : List ℕ → List ℕ → Class → ℕ → ℕ → List ℕ
