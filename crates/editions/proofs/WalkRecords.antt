@@ -1,89 +1,22 @@
 -- The records that the loop of RFC 822 leaves are those of the derivation. Assumes nothing.
 use Prim.Native.Nat.{ℕ, suc, _+_}
-use native.Mathlib.Omega.{arith}
-use mathlib.Core.Path.{_≡_, refl, sym, ap, _∙_}
+use mathlib.Core.Path.{_≡_, refl, ap, _∙_}
 use mathlib.Core.Bool.{Bool, true, false}
-use mathlib.Core.List.{List, [], _∷_, _++_, append-assoc, append-nil, List·Memᴰ, List·Memᴰ·head as here, List·Memᴰ·tail as there}
-use mathlib.Core.Option.{Option, none, some}
-use lib.ListN.{length, length-append}
-use Rattle.octets.specs.Believed.Choice.{both}
-use Rattle.octets.proofs.ChoiceLaws.{both-parts}
-use Rattle.grammar.specs.Believed.Grammar.{Makes, Item, symbol, part, Rule, Grammar, Row, nil, leaf, branch, yieldThen, yield, Fits, done, take, apply}
+use mathlib.Core.List.{List, [], _∷_, _++_, append-nil}
+use mathlib.Core.Option.{some}
+use lib.ListN.{length}
+use Rattle.octets.specs.Believed.Choice.{pick}
+use Rattle.grammar.specs.Believed.Grammar.{Makes, Rule, Row, nil, leaf, branch, yieldThen, yield}
 use Rattle.grammar.specs.Believed.Language.{positionOf}
-use Rattle.grammar.specs.Believed.Records.{AddressRecord, recordBy, lastEnd, count, recordOf, recordsFrom, records}
+use Rattle.grammar.specs.Believed.Records.{AddressRecord, recordBy, lastEnd, recordOf, records}
 use Rattle.grammar.specs.Believed.Rfc822.{rulesOf, Notion, list, place, address, boxes, boxPlace, mailbox, routeAddr, addrSpec, route, hops, emptyPlaces, localPart, domain, subDomain, phrase, word, rfc822}
-use Rattle.grammar.proofs.Any.Records.{length-from}
+use Rattle.grammar.proofs.Any.Records.{yield-append, last-append, Then, plain-then, record-then}
+use Rattle.grammar.proofs.Any.Silent.{silentRules, silent-records}
 use Rattle.grammar.specs.Executable.Trees822.{Piece, put, Class, At, LessThan, GreaterThan, Comma, Semicolon, Colon, Dot, Lexeme, Sym, of, Word, atomWord, quotedWord, Phrase, one, more, Sub, atomSub, literalSub, Domain, oneSub, moreSub, Local, oneWord, moreWord, Spec, spec, RouteAddr, noRoute, withRoute, routeAddrPiece, Route, Mailbox, bare, angle, routed, Place, empty, comma, Listed, idle, full, Address, box, group, wordPiece, phrasePiece, subPiece, domainPiece, localPiece, specPiece, routePiece, mailboxPiece, boxPlacePiece, boxesPiece, addressPiece, placePiece, listPiece, asRow}
-use Rattle.grammar.proofs.Any.Pieces.{From}
-use Rattle.grammar.proofs.Rfc733.TreeRecords.{wordLexeme, phraseStart, phraseEnd, yield-append, last-append}
+use Rattle.grammar.proofs.Any.Pieces.{From, seen}
+use Rattle.grammar.proofs.Rfc733.TreeRecords.{wordLexeme, phraseStart, phraseEnd}
 use Rattle.grammar.proofs.Rfc822.Derivations.{phrase-is, domain-is, local-is, route-is}
-use Rattle.grammar.proofs.Rfc822.Machine.{seen}
 use Rattle.editions.proofs.Follows.{subEnd, endOfDomain, localStart, localEnd, namedRecord, addSpec, addBox, addBoxPlace, addBoxes, opensGroup, addAddress, addPlace, addList}
-
--- ---- over any grammar
-
-module _ {C N : Type 0} where
-  -- records, and those of a row behind them
-  abbrev pub Then : List AddressRecord → Row C N → ℕ → ℕ → List AddressRecord
-  Then rs k d p = rs ++ recordsFrom k d p (length rs)
-
-  -- a rule that makes no record
-  pub plain-then : (r : Rule C N) (parts k : Row C N) (rs : List AddressRecord) (d p : ℕ) → r .makes ≡ none → Then rs (branch r parts k) d p ≡ Then (Then rs parts d p) k d p
-  plain-then r parts k rs d p e =
-      let n : length (Then rs parts d p) ≡ length rs + count parts = length-append rs (recordsFrom parts d p (length rs)) ∙ ap (λ (m : ℕ). length rs + m) (length-from parts d p (length rs)) in
-      rw (e, n) (sym (append-assoc rs (recordsFrom parts d p (length rs)) (recordsFrom k d p (length rs + count parts))))
-
-  -- a rule that makes one
-  pub record-then : (r : Rule C N) (m : Makes) (parts k : Row C N) (rs : List AddressRecord) (d p : ℕ) → r .makes ≡ some m
-      → Then rs (branch r parts k) d p ≡ Then (Then (rs ++ (recordOf m d p parts ∷ [])) parts (suc d) (suc (length rs))) k d p
-  record-then r m parts k rs d p e =
-      let one : length (rs ++ (recordOf m d p parts ∷ [])) ≡ suc (length rs) = omega (arith, length-append rs (recordOf m d p parts ∷ [])) in
-      let all : length ((rs ++ (recordOf m d p parts ∷ [])) ++ recordsFrom parts (suc d) (suc (length rs)) (suc (length rs))) ≡ suc (length rs) + count parts =
-      length-append (rs ++ (recordOf m d p parts ∷ [])) (recordsFrom parts (suc d) (suc (length rs)) (suc (length rs)))
-      ∙ omega (arith, one, length-from parts (suc d) (suc (length rs)) (suc (length rs))) in
-      rw (e, one, all)
-      (sym
-      (append-assoc (rs ++ (recordOf m d p parts ∷ [])) (recordsFrom parts (suc d) (suc (length rs)) (suc (length rs))) (recordsFrom k d p (suc (length rs) + count parts))
-      ∙ append-assoc rs (recordOf m d p parts ∷ []) (recordsFrom parts (suc d) (suc (length rs)) (suc (length rs)) ++ recordsFrom k d p (suc (length rs) + count parts))))
-
--- ---- nonterminals that make no record
-
-abbrev noMakes : Option Makes → Bool
-noMakes none = true
-noMakes (some m) = false
-
-no-makes : (o : Option Makes) → noMakes o ≡ true → o ≡ none
-no-makes none e = refl
-no-makes (some m) e = absurd (let z : _≡_ {A = ℕ} 0 1 = cc in omega arith)
-
-module _ {C N : Type 0} (silent : N → Bool) where
-  abbrev hushed : List (Item C N) → Bool
-  hushed [] = true
-  hushed (symbol c ∷ items) = hushed items
-  hushed (part A ∷ items) = both (silent A) (hushed items)
-
-  abbrev pub silentRules : List (Rule C N) → Bool
-  silentRules [] = true
-  silentRules (r ∷ rs) = both (both (noMakes (r .makes)) (hushed (r .items))) (silentRules rs)
-
-  silent-rule : (r : Rule C N) (rs : List (Rule C N)) → List·Memᴰ r rs → silentRules rs ≡ true → both (noMakes (r .makes)) (hushed (r .items)) ≡ true
-  silent-rule r (s ∷ rs) (here e) h = rw e (both-parts (both (noMakes (s .makes)) (hushed (s .items))) (silentRules rs) h .0)
-  silent-rule r (s ∷ rs) (there m) h = silent-rule r rs m (both-parts (both (noMakes (s .makes)) (hushed (s .items))) (silentRules rs) h .1)
-
-  module _ (G : Grammar C N) (all : (A : N) → silent A ≡ true → silentRules (G .rules A) ≡ true) where
-    pub silent-row : {items : List (Item C N)} {k : Row C N} → Fits G items k → hushed items ≡ true → (rs : List AddressRecord) (d p : ℕ) → Then rs k d p ≡ rs
-    silent-row done h rs d p = append-nil rs
-    silent-row (take e f) h rs d p = silent-row f h rs d p
-    silent-row (apply {A = A} {rule = r} {items = items} {parts = q} {row = k} m f o g) h rs d p =
-        let (a, b) = both-parts (silent A) (hushed items) h in
-        let (x, y) = both-parts (noMakes (r .makes)) (hushed (r .items)) (silent-rule r (G .rules A) m (all A a)) in
-        plain-then r q k rs d p (no-makes (r .makes) x) ∙ ap (λ (ss : List AddressRecord). Then ss k d p) (silent-row f y rs d p) ∙ silent-row g b rs d p
-
-    -- a piece of such a nonterminal
-    pub silent-put : {A : N} {q : Piece C N} → From G A q → silent A ≡ true → (k : Row C N) (rs : List AddressRecord) (d p : ℕ) → Then rs (put q k) d p ≡ Then rs k d p
-    silent-put {A} {q} f a k rs d p =
-        let (x, y) = both-parts (noMakes (q .rule .makes)) (hushed (q .rule .items)) (silent-rule (q .rule) (G .rules A) (f .member) (all A a)) in
-        plain-then (q .rule) (q .parts) k rs d p (no-makes (q .rule .makes) x) ∙ ap (λ (ss : List AddressRecord). Then ss k d p) (silent-row (f .fits) y rs d p)
 
 -- ---- RFC 822
 
@@ -105,41 +38,41 @@ silent subDomain = true
 silent phrase = true
 silent word = true
 
-never : {A : Type 0} → false ≡ true → A
-never e = absurd (let z : _≡_ {A = ℕ} 0 1 = cc in omega arith)
+all-silent : (A : Notion) → pick (silent A) (silentRules silent (rulesOf A)) true ≡ true
+all-silent list = refl
+all-silent place = refl
+all-silent address = refl
+all-silent boxes = refl
+all-silent boxPlace = refl
+all-silent mailbox = refl
+all-silent routeAddr = refl
+all-silent addrSpec = refl
+all-silent route = refl
+all-silent hops = refl
+all-silent emptyPlaces = refl
+all-silent localPart = refl
+all-silent domain = refl
+all-silent subDomain = refl
+all-silent phrase = refl
+all-silent word = refl
 
-all-silent : (A : Notion) → silent A ≡ true → silentRules silent (rulesOf A) ≡ true
-all-silent list e = never e
-all-silent place e = never e
-all-silent address e = never e
-all-silent boxes e = never e
-all-silent boxPlace e = never e
-all-silent mailbox e = never e
-all-silent routeAddr e = never e
-all-silent addrSpec e = never e
-all-silent route e = refl
-all-silent hops e = refl
-all-silent emptyPlaces e = refl
-all-silent localPart e = refl
-all-silent domain e = refl
-all-silent subDomain e = refl
-all-silent phrase e = refl
-all-silent word e = refl
+silent-put : {A : Notion} {q : Piece Class Notion} → From rfc822 A q → silent A ≡ true → (k : Row Class Notion) (rs : List AddressRecord) (d p : ℕ) → Then rs (put q k) d p ≡ Then rs k d p
+silent-put f a k rs d p = ap (λ (ss : List AddressRecord). rs ++ ss) (silent-records silent rfc822 all-silent f a k d p (length rs))
 
 abbrev Row822 : Type 0
 Row822 = Row Class Notion
 
 phrase-then : (p : Phrase) (k : Row822) (rs : List AddressRecord) (d q : ℕ) → Then rs (put (phrasePiece p) k) d q ≡ Then rs k d q
-phrase-then p k rs d q = silent-put silent rfc822 all-silent (phrase-is p) refl k rs d q
+phrase-then p k rs d q = silent-put (phrase-is p) refl k rs d q
 
 local-then : (l : Local) (k : Row822) (rs : List AddressRecord) (d q : ℕ) → Then rs (put (localPiece l) k) d q ≡ Then rs k d q
-local-then l k rs d q = silent-put silent rfc822 all-silent (local-is l) refl k rs d q
+local-then l k rs d q = silent-put (local-is l) refl k rs d q
 
 domain-then : (m : Domain) (k : Row822) (rs : List AddressRecord) (d q : ℕ) → Then rs (put (domainPiece m) k) d q ≡ Then rs k d q
-domain-then m k rs d q = silent-put silent rfc822 all-silent (domain-is m) refl k rs d q
+domain-then m k rs d q = silent-put (domain-is m) refl k rs d q
 
 route-then : (r : Route) (k : Row822) (rs : List AddressRecord) (d q : ℕ) → Then rs (put (routePiece r) k) d q ≡ Then rs k d q
-route-then r k rs d q = silent-put silent rfc822 all-silent (route-is r) refl k rs d q
+route-then r k rs d q = silent-put (route-is r) refl k rs d q
 
 -- ---- where parts begin and end
 

@@ -11,6 +11,7 @@ use Rattle.grammar.specs.Believed.Rfc822 as of822
 use Rattle.grammar.specs.Executable.Machine733.{answer}
 use Rattle.grammar.specs.Executable.Machine822.{read}
 pub mod Machines
+pub mod Pieces
 pub mod Trees733
 pub mod Machine733
 pub mod Trees822

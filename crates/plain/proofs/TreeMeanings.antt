@@ -13,12 +13,11 @@ use Rattle.grammar.specs.Believed.Grammar.{nil, leaf}
 use Rattle.grammar.specs.Believed.Records.{partOf}
 use Rattle.grammar.specs.Believed.Rfc733.{Derivation, include, postal, otherTyped, kindNumber, typedKind}
 use Rattle.grammar.specs.Believed.Rfc733 as rfc733
-use Rattle.grammar.specs.Executable.Trees733.{Atom, Colon, LessThan, GreaterThan, Semicolon, Lexeme, Sym, of, atomWord, quotedWord, Phrase, one, more, Nodes, first, next, Place, empty, comma, AddressList, idle, full, mailbox, angle, group, quoted, typed, wordRow, phraseRow, nodesRow, placeRow, listRow, addressRow, asRow}
+use Rattle.grammar.specs.Executable.Trees733.{nodePiece, Comma, At, put, Atom, Colon, LessThan, GreaterThan, Semicolon, Lexeme, Sym, of, atomWord, quotedWord, Phrase, one, more, Nodes, first, next, Place, empty, comma, AddressList, idle, full, mailbox, angle, group, quoted, typed, wordPiece, phrasePiece, nodesPiece, placePiece, listPiece, addressPiece, asRow}
 use Rattle.grammar.proofs.Rfc733.Trees.{phraseThen, nodesThen, placeLevels, listLevels, addressLevels}
 use Rattle.grammar.specs.Executable.Trees733 as trees
 use Rattle.grammar.proofs.Rfc733.HouseRule as house
-use Rattle.grammar.proofs.Rfc733.Derivations.{nodes-yield}
-use Rattle.grammar.proofs.Rfc733.TreeRecords.{part-phrase}
+use Rattle.grammar.proofs.Rfc733.Derivations.{phrase-yield, nodes-yield}
 use Rattle.plain.specs.Believed.Meaning.{Word, atom, quotedString, Words, noWord, andWord, Addresses, noAddress, andAddress, Address, address, wordsAfter, wordsOf, nodesOf, addressesAfter, meaning}
 use Rattle.plain.specs.Believed.PlainText.{atomGroup, addressText}
 
@@ -84,37 +83,28 @@ words-nodes (first t (quotedWord w)) xs = refl
 words-nodes (next m t (atomWord w)) xs = words-nodes m _
 words-nodes (next m t (quotedWord w)) xs = words-nodes m _
 
--- the rest of a row follows its phrase
-second-part : (p : Phrase) (k : Derivation) → partOf 1 (phraseRow p k) ≡ partOf 0 k
-second-part (one w) k = refl
-second-part (more p w) k = refl
+pub name-words : (p : Phrase) (k : Derivation) → wordsOf (partOf 0 (put (phrasePiece p) k)) ≡ phraseMeaning p
+name-words p k = ap wordsOf (phrase-yield p []) ∙ words-phrase p []
 
-first-nodes : (m : Nodes) (k : Derivation) → partOf 0 (nodesRow m k) ≡ nodesThen m []
-first-nodes (first t w) k = nodes-yield (first t w) nil []
-first-nodes (next m t w) k = nodes-yield (next m t w) nil []
-
-pub name-words : (p : Phrase) (k : Derivation) → wordsOf (partOf 0 (phraseRow p k)) ≡ phraseMeaning p
-name-words p k = ap wordsOf (part-phrase p k) ∙ words-phrase p []
-
-pub node-words : (p : Phrase) (m : Nodes) (k : Derivation) → wordsOf (partOf 1 (phraseRow p (nodesRow m k))) ≡ nodesMeaning m
-node-words p m k = ap wordsOf (second-part p _ ∙ first-nodes m k) ∙ words-nodes m []
+pub node-words : (p : Phrase) (m : Nodes) (k : Derivation) → wordsOf (partOf 1 (put (phrasePiece p) (put (nodesPiece m) k))) ≡ nodesMeaning m
+node-words p m k = ap wordsOf (nodes-yield m []) ∙ words-nodes m []
 
 no-typed-nodes : (letters : List ℕ) (parts : Derivation) → nodesOf (kindNumber (typedKind letters)) parts ≡ noWord
 no-typed-nodes letters parts = of-typed (λ kind. nodesOf kind parts ≡ noWord) refl refl refl letters
 
 -- ---- words and phrases hold no address
 
-after-word : (w : trees.Word) (before : Addresses) (k : Derivation) → addressesAfter before (wordRow w k) ≡ addressesAfter before k
+after-word : (w : trees.Word) (before : Addresses) (k : Derivation) → addressesAfter before (put (wordPiece w) k) ≡ addressesAfter before k
 after-word (atomWord t) before k = refl
 after-word (quotedWord t) before k = refl
 
-after-phrase : (p : Phrase) (before : Addresses) (k : Derivation) → addressesAfter before (phraseRow p k) ≡ addressesAfter before k
+after-phrase : (p : Phrase) (before : Addresses) (k : Derivation) → addressesAfter before (put (phrasePiece p) k) ≡ addressesAfter before k
 after-phrase (one w) before k = ap (λ b. addressesAfter b k) (after-word w before nil)
-after-phrase (more p w) before k = ap (λ b. addressesAfter b k) (after-phrase p before (wordRow w nil) ∙ after-word w before nil)
+after-phrase (more p w) before k = ap (λ b. addressesAfter b k) (after-phrase p before (put (wordPiece w) nil) ∙ after-word w before nil)
 
-after-nodes : (m : Nodes) (before : Addresses) (k : Derivation) → addressesAfter before (nodesRow m k) ≡ addressesAfter before k
+after-nodes : (m : Nodes) (before : Addresses) (k : Derivation) → addressesAfter before (put (nodesPiece m) k) ≡ addressesAfter before k
 after-nodes (first t w) before k = ap (λ b. addressesAfter b k) (after-word w before nil)
-after-nodes (next m t w) before k = ap (λ b. addressesAfter b k) (after-nodes m before _ ∙ after-word w before nil)
+after-nodes (next m t w) before k = ap (λ b. addressesAfter b k) (after-nodes m before (leaf (of At t) (put (nodePiece w) nil)) ∙ after-word w before nil)
 
 -- ---- the addresses of a row are those of the tree
 
@@ -123,39 +113,39 @@ typed-address : (atom′ : Lexeme) (kind : ℕ) (name nodes nodes′ : Words) (m
 typed-address atom′ kind name nodes nodes′ members members′ e f g = cc
 
 mutual
-  after-place : (r : Place) (k : Derivation) → addressesAfter noAddress (placeRow r k) ≡ addressesAfter (placeMeaning r) k
+  after-place : (r : Place) (k : Derivation) → addressesAfter noAddress (put (placePiece r) k) ≡ addressesAfter (placeMeaning r) k
   after-place empty k = refl
-  after-place (comma l t) k = ap (λ b. addressesAfter b k) (after-list l _)
+  after-place (comma l t) k = ap (λ b. addressesAfter b k) (after-list l (leaf (of Comma t) nil))
 
-  pub after-list : (l : AddressList) (k : Derivation) → addressesAfter noAddress (listRow l k) ≡ addressesAfter (listMeaning l) k
+  pub after-list : (l : AddressList) (k : Derivation) → addressesAfter noAddress (put (listPiece l) k) ≡ addressesAfter (listMeaning l) k
   after-list (idle r) k = ap (λ b. addressesAfter b k) (after-place r nil)
-  after-list (full r a) k = ap (λ b. addressesAfter b k) (after-place r _ ∙ after-address a (placeMeaning r) nil)
+  after-list (full r a) k = ap (λ b. addressesAfter b k) (after-place r (put (addressPiece a) nil) ∙ after-address a (placeMeaning r) nil)
 
-  pub after-address : (a : trees.Address) (before : Addresses) (k : Derivation) → addressesAfter before (addressRow a k) ≡ addressesAfter (andAddress before (addressMeaning a)) k
+  pub after-address : (a : trees.Address) (before : Addresses) (k : Derivation) → addressesAfter before (put (addressPiece a) k) ≡ addressesAfter (andAddress before (addressMeaning a)) k
   after-address (mailbox p m) before k =
-      let row = phraseRow p (nodesRow m nil) in
-      let n : wordsOf (partOf 0 row) ≡ phraseMeaning p = name-words p _ in
+      let row = put (phrasePiece p) (put (nodesPiece m) nil) in
+      let n : wordsOf (partOf 0 row) ≡ phraseMeaning p = name-words p (put (nodesPiece m) nil) in
       let w : wordsOf (partOf 1 row) ≡ nodesMeaning m = node-words p m nil in
-      let e : addressesAfter noAddress row ≡ noAddress = after-phrase p noAddress _ ∙ after-nodes m noAddress nil in
+      let e : addressesAfter noAddress row ≡ noAddress = after-phrase p noAddress (put (nodesPiece m) nil) ∙ after-nodes m noAddress nil in
       ap (λ b. addressesAfter (andAddress before b) k) (cc)
   after-address (angle none t l u) before k =
-      ap (λ b. addressesAfter (andAddress before (address (kindNumber rfc733.angleList) noWord noWord b)) k) (after-list l _)
+      ap (λ b. addressesAfter (andAddress before (address (kindNumber rfc733.angleList) noWord noWord b)) k) (after-list l (leaf (of GreaterThan u) nil))
   after-address (angle (some p) t l u) before k =
-      let row = phraseRow p (leaf (of LessThan t) (listRow l (leaf (of GreaterThan u) nil))) in
-      let n : wordsOf (partOf 0 row) ≡ phraseMeaning p = name-words p _ in
-      let e : addressesAfter noAddress row ≡ listMeaning l = after-phrase p noAddress _ ∙ after-list l _ in
+      let row = put (phrasePiece p) (leaf (of LessThan t) (put (listPiece l) (leaf (of GreaterThan u) nil))) in
+      let n : wordsOf (partOf 0 row) ≡ phraseMeaning p = name-words p (leaf (of LessThan t) (put (listPiece l) (leaf (of GreaterThan u) nil))) in
+      let e : addressesAfter noAddress row ≡ listMeaning l = after-phrase p noAddress (leaf (of LessThan t) (put (listPiece l) (leaf (of GreaterThan u) nil))) ∙ after-list l (leaf (of GreaterThan u) nil) in
       ap (λ b. addressesAfter (andAddress before b) k) (cc)
   after-address (group none t l u) before k =
-      ap (λ b. addressesAfter (andAddress before (address (kindNumber rfc733.group) noWord noWord b)) k) (after-list l _)
+      ap (λ b. addressesAfter (andAddress before (address (kindNumber rfc733.group) noWord noWord b)) k) (after-list l (leaf (of Semicolon u) nil))
   after-address (group (some p) t l u) before k =
-      let row = phraseRow p (leaf (of Colon t) (listRow l (leaf (of Semicolon u) nil))) in
-      let n : wordsOf (partOf 0 row) ≡ phraseMeaning p = name-words p _ in
-      let e : addressesAfter noAddress row ≡ listMeaning l = after-phrase p noAddress _ ∙ after-list l _ in
+      let row = put (phrasePiece p) (leaf (of Colon t) (put (listPiece l) (leaf (of Semicolon u) nil))) in
+      let n : wordsOf (partOf 0 row) ≡ phraseMeaning p = name-words p (leaf (of Colon t) (put (listPiece l) (leaf (of Semicolon u) nil))) in
+      let e : addressesAfter noAddress row ≡ listMeaning l = after-phrase p noAddress (leaf (of Colon t) (put (listPiece l) (leaf (of Semicolon u) nil))) ∙ after-list l (leaf (of Semicolon u) nil) in
       ap (λ b. addressesAfter (andAddress before b) k) (cc)
   after-address (quoted t) before k = refl
   after-address (typed t a u b) before k =
       ap (λ c. addressesAfter (andAddress before c) k)
-      (typed-address a _ _ _ _ _ _ (ap (λ m. kindNumber (typedKind m)) (append-nil (a .meaning))) (no-typed-nodes (a .meaning ++ []) (leaf (of Colon t) (leaf (of Atom a) (leaf (of Colon u) (addressRow b nil))))) (after-address b noAddress nil))
+      (typed-address a _ _ _ _ _ _ (ap (λ m. kindNumber (typedKind m)) (append-nil (a .meaning))) (no-typed-nodes (a .meaning ++ []) (leaf (of Colon t) (leaf (of Atom a) (leaf (of Colon u) (put (addressPiece b) nil))))) (after-address b noAddress nil))
 
 -- the meaning of a derivation, by its tree
 pub meaning-row : (l : AddressList) → meaning (asRow l) ≡ listMeaning l

@@ -7,8 +7,9 @@ use mathlib.Core.List.{List, [], _∷_}
 use mathlib.Core.Option.{Option, none, some}
 use Rattle.octets.specs.Believed.Choice.{pick}
 use Rattle.scanner.specs.Believed.Symbols.{Lexeme, Symbol}
-use Rattle.grammar.specs.Believed.Language.{AtMost, MoreThan, GoesOn, FirstRefused, unfit, unfinished, tooDeep, Verdict, accepted, refused, Right}
+use Rattle.grammar.specs.Believed.Language.{AtMost, MoreThan, GoesOn, unfit, unfinished, tooDeep, Verdict, accepted, refused, Right}
 use Rattle.grammar.specs.Executable.Machines.{Result, ended, stopped, after, runBy, atEnd, verdictBy, Arrow, look, taken, stepBy}
+use Rattle.grammar.proofs.Any.Alike.{first-alike}
 use Rattle.grammar.proofs.Any.Machine.{Steady, Machine}
 use Rattle.grammar.proofs.Any.Pieces.{mark}
 
@@ -90,13 +91,13 @@ module _ {C S : Type 0} (same : C → C → Bool) (same-only : (c d : C) → sam
 
 module _ {C T : Type 0} (Derives : T → List (Symbol C) → Type 0) (levels : T → ℕ) (most limit : ℕ) (below : most ≤ limit)
     (bounded : (t : T) (xs : List (Symbol C)) → Derives t xs → levels t ≤ most) where
-  goes : {xs : List (Symbol C)} → GoesOn Derives (λ t. 0) (AtMost limit) xs → GoesOn Derives levels (AtMost limit) xs
-  goes g =
+  goes : (xs : List (Symbol C)) → GoesOn Derives (λ t. 0) (AtMost limit) xs → GoesOn Derives levels (AtMost limit) xs
+  goes xs g =
       let h = bounded (g .derivation) _ (g .derived) in
       record { more = g .more; derivation = g .derivation; derived = g .derived; counted = omega arith }
 
-  back : {xs : List (Symbol C)} → GoesOn Derives levels (AtMost limit) xs → GoesOn Derives (λ t. 0) (AtMost limit) xs
-  back g = record { more = g .more; derivation = g .derivation; derived = g .derived; counted = omega arith }
+  back : (xs : List (Symbol C)) → GoesOn Derives levels (AtMost limit) xs → GoesOn Derives (λ t. 0) (AtMost limit) xs
+  back xs g = record { more = g .more; derivation = g .derivation; derived = g .derived; counted = omega arith }
 
   never-deeper : {xs : List (Symbol C)} → GoesOn Derives levels (MoreThan limit) xs → ⊥
   never-deeper g =
@@ -104,34 +105,10 @@ module _ {C T : Type 0} (Derives : T → List (Symbol C) → Type 0) (levels : T
       let c = g .counted in
       omega arith
 
-  abbrev first-to : {xs rest : List (Symbol C)} → FirstRefused Derives (λ t. 0) limit xs rest → FirstRefused Derives levels limit xs rest
-  first-to f =
-      record {
-        before = f .before;
-        x = f .x;
-        after = f .after;
-        place = f .place;
-        splits = f .splits;
-        earlier = λ p y q e. goes (f .earlier p y q e);
-        here = λ g. f .here (back g);
-      }
-
-  first-back : {xs rest : List (Symbol C)} → FirstRefused Derives levels limit xs rest → FirstRefused Derives (λ t. 0) limit xs rest
-  first-back f =
-      record {
-        before = f .before;
-        x = f .x;
-        after = f .after;
-        place = f .place;
-        splits = f .splits;
-        earlier = λ p y q e. back (f .earlier p y q e);
-        here = λ g. f .here (goes g);
-      }
-
   pub right-bounded : (xs : List (Symbol C)) (v : Verdict C T) → Right Derives (λ t. 0) limit xs v → Right Derives levels limit xs v
   right-bounded xs (accepted t) r = (r .0, let h = bounded t xs (r .0) in omega arith)
-  right-bounded xs (refused unfinished rest) r = (r .0, λ place f. r .1 place (first-back f), λ t d h. r .2 t d (omega arith))
-  right-bounded xs (refused unfit rest) r = (first-to (r .0), λ g. never-deeper g)
+  right-bounded xs (refused unfinished rest) r = (r .0, λ place f. r .1 place (first-alike Derives levels Derives (λ t. 0) limit back goes f), λ t d h. r .2 t d (omega arith))
+  right-bounded xs (refused unfit rest) r = (first-alike Derives (λ t. 0) Derives levels limit goes back (r .0), λ g. never-deeper g)
   right-bounded xs (refused tooDeep rest) r = absurd (let c = r .1 .counted in omega arith)
 
   -- 10 never occurs

@@ -1,18 +1,27 @@
 -- Trees for the derivations of any grammar: a tree is a rule and the row of its parts; if every rule is covered by trees, every derivation is a tree. Assumes nothing.
-use Prim.Native.Nat.{ℕ, zero, suc, _<_}
+use Prim.Native.Nat.{ℕ, zero, suc, _+_, _<_}
 use native.Mathlib.Omega.{arith}
 use mathlib.Core.Path.{_≡_, refl, ap, ap₂, _∙_}
 use mathlib.Core.List.{List, [], _∷_, List·Memᴰ, List·Memᴰ·head as here, List·Memᴰ·tail as there}
 use lib.ListN.{length, getD}
+use Rattle.octets.specs.Believed.Choice.{pick}
 use Rattle.scanner.specs.Believed.Symbols.{Lexeme, Symbol}
-use Rattle.grammar.specs.Believed.Grammar.{Item, symbol, part, Rule, Grammar, Row, nil, leaf, yield, Allowed, Fits, done, take, apply, Derived}
-use Rattle.grammar.specs.Executable.Trees822.{Piece, piece, put}
+use Rattle.grammar.specs.Believed.Grammar.{Item, symbol, part, Rule, Grammar, Row, nil, leaf, yieldThen, yield, levels, Allowed, Fits, done, take, apply, Derived}
+use Rattle.grammar.specs.Executable.Pieces.{Piece, piece, put}
 
 -- the symbol of a class with a lexeme
 abbrev pub mark : {C : Type 0} → C → Lexeme → Symbol C
 mark c t = record { class = c; lexeme = t }
 
-pub member : {R : Type 0} (rs : List R) (i : ℕ) (r : R) → i < length rs → List·Memᴰ (getD rs i r) rs
+-- the symbols of a piece, and then others
+abbrev pub seen : {C N : Type 0} → Piece C N → List (Symbol C) → List (Symbol C)
+seen p xs = yieldThen (p .parts) xs
+
+-- the levels that a piece has open at once, at most
+abbrev pub levelsOf : {C N : Type 0} → Piece C N → ℕ
+levelsOf p = pick (p .rule .opens) 1 0 + levels (p .parts)
+
+member : {R : Type 0} (rs : List R) (i : ℕ) (r : R) → i < length rs → List·Memᴰ (getD rs i r) rs
 member [] i r h = absurd (omega arith)
 member (x ∷ rs) zero r h = here refl
 member (x ∷ rs) (suc i) r h = there (member rs i r (omega arith))
@@ -23,6 +32,11 @@ module _ {C N : Type 0} (G : Grammar C N) where
     pub member : List·Memᴰ (p .rule) (G .rules A)
     pub fits : Fits G (p .rule .items) (p .parts)
     pub allowed : Allowed (G .same) (p .rule .never) (yield (p .parts))
+
+  -- .. by the i-th rule
+  pub by-rule : (A : N) (i : ℕ) (r : Rule C N) {p : Row C N} → i < length (G .rules A) → Fits G (getD (G .rules A) i r .items) p
+      → Allowed (G .same) (getD (G .rules A) i r .never) (yield p) → From A (piece (getD (G .rules A) i r) p)
+  by-rule A i r h d o = record { member = member (G .rules A) i r h; fits = d; allowed = o }
 
   pub put-fits : {A : N} {p : Piece C N} {items : List (Item C N)} {k : Row C N} → From A p → Fits G items k → Fits G (part A ∷ items) (put p k)
   put-fits f d = apply (f .member) (f .fits) (f .allowed) d
@@ -39,9 +53,9 @@ module _ {C N : Type 0} (G : Grammar C N) where
     rowOf (symbol c ∷ items) v = leaf (mark c (v .0)) (rowOf items (v .1))
     rowOf (part A ∷ items) v = put (pieceOf A (v .0)) (rowOf items (v .1))
 
-    -- whatever the items of a rule hold is a tree
+    -- whatever the items of a rule hold, if the rule allows its symbols, is a tree
     abbrev pub Covers : N → Rule C N → Type 0
-    Covers A r = (v : Values (r .items)) → (x : Tree A) × (piece r (rowOf (r .items) v) ≡ pieceOf A x)
+    Covers A r = (v : Values (r .items)) → Allowed (G .same) (r .never) (yield (rowOf (r .items) v)) → (x : Tree A) × (piece r (rowOf (r .items) v) ≡ pieceOf A x)
 
     abbrev pub AllCovered : N → List (Rule C N) → Type 0
     AllCovered A [] = Unit {0}
@@ -58,7 +72,7 @@ module _ {C N : Type 0} (G : Grammar C N) where
       values (take {x = x} {row = k} e d) = let (v, q) = values d in ((x .lexeme, v), ap₂ leaf (ap (λ c. mark c (x .lexeme)) e) q)
       values (apply {A = A} {rule = r} {parts = p} {row = k} m d o d′) =
           let (u, q) = values d in
-          let (x, f) = covers A (G .rules A) r m (all A) u in
+          let (x, f) = covers A (G .rules A) r m (all A) u (rw q at o) in
           let (w, q′) = values d′ in
           ((x, w), ap₂ put (ap (piece r) q ∙ f) q′)
 

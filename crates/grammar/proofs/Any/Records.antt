@@ -6,8 +6,9 @@ use mathlib.Core.List.{List, [], _∷_, _++_, append-assoc}
 use mathlib.Core.Option.{Option, none, some}
 use lib.ListN.{length, getD, length-append}
 use Rattle.octets.specs.Believed.Numbers.{addressRecordSize}
-use Rattle.grammar.specs.Believed.Grammar.{Makes, Rule, Row, nil, leaf, branch}
-use Rattle.grammar.specs.Believed.Records.{AddressRecord, count, recordsFrom, records, recordBytes, tableBytes}
+use Rattle.scanner.specs.Believed.Symbols.{Symbol}
+use Rattle.grammar.specs.Believed.Grammar.{Makes, Rule, Row, nil, leaf, branch, yieldThen, yield}
+use Rattle.grammar.specs.Believed.Records.{AddressRecord, lastEnd, count, recordOf, recordsFrom, records, recordBytes, tableBytes}
 
 -- ---- a parent's number is smaller than its child's
 
@@ -27,7 +28,22 @@ parent-at [] next i r p h = absurd (omega arith)
 parent-at (s ∷ rs) next zero r p h = omega arith
 parent-at (s ∷ rs) next (suc i) r p h = omega (arith, parent-at rs (suc next) i r (p .1) (omega arith))
 
+-- ---- the end of symbols that end with others
+
+pub last-append : {C : Type 0} (q : ℕ) (zs : List (Symbol C)) (x : Symbol C) (xs : List (Symbol C)) → lastEnd q (zs ++ (x ∷ xs)) ≡ lastEnd (x .lexeme .end) xs
+last-append q [] x xs = refl
+last-append q (z ∷ zs) x xs = last-append (z .lexeme .end) zs x xs
+
 module _ {C N : Type 0} where
+  -- ---- symbols
+
+  pub yield-append : (row : Row C N) (xs : List (Symbol C)) → yieldThen row xs ≡ yield row ++ xs
+  yield-append nil xs = refl
+  yield-append (leaf x row) xs = ap (λ l. x ∷ l) (yield-append row xs)
+  yield-append (branch rule parts row) xs =
+      yield-append parts (yieldThen row xs) ∙ ap (λ l. yield parts ++ l) (yield-append row xs) ∙ sym (append-assoc (yield parts) (yield row) xs)
+      ∙ ap (λ l. l ++ xs) (sym (yield-append parts (yield row)))
+
   -- ---- the count is the number of records
 
   length-branch : (rule : Rule C N) (parts row : Row C N) (depth parent next : ℕ)
@@ -72,6 +88,31 @@ module _ {C N : Type 0} where
   -- the record numbered `i` has as parent, plus 1, at most `i`
   pub parent-smaller : (row : Row C N) (i : ℕ) (r : AddressRecord) → i < length (records row) → getD (records row) i r .parent ≤ i
   parent-smaller row i r h = omega (arith, parent-at (records row) 0 i r (parents-from row 0 0 0 (omega arith)) h)
+
+  -- ---- records behind others
+
+  -- records, and those of a row behind them
+  abbrev pub Then : List AddressRecord → Row C N → ℕ → ℕ → List AddressRecord
+  Then rs k d p = rs ++ recordsFrom k d p (length rs)
+
+  -- a rule that makes no record
+  pub plain-then : (r : Rule C N) (parts k : Row C N) (rs : List AddressRecord) (d p : ℕ) → r .makes ≡ none → Then rs (branch r parts k) d p ≡ Then (Then rs parts d p) k d p
+  plain-then r parts k rs d p e =
+      let n : length (Then rs parts d p) ≡ length rs + count parts = length-append rs (recordsFrom parts d p (length rs)) ∙ ap (λ (m : ℕ). length rs + m) (length-from parts d p (length rs)) in
+      rw (e, n) (sym (append-assoc rs (recordsFrom parts d p (length rs)) (recordsFrom k d p (length rs + count parts))))
+
+  -- a rule that makes one
+  pub record-then : (r : Rule C N) (m : Makes) (parts k : Row C N) (rs : List AddressRecord) (d p : ℕ) → r .makes ≡ some m
+      → Then rs (branch r parts k) d p ≡ Then (Then (rs ++ (recordOf m d p parts ∷ [])) parts (suc d) (suc (length rs))) k d p
+  record-then r m parts k rs d p e =
+      let one : length (rs ++ (recordOf m d p parts ∷ [])) ≡ suc (length rs) = omega (arith, length-append rs (recordOf m d p parts ∷ [])) in
+      let all : length ((rs ++ (recordOf m d p parts ∷ [])) ++ recordsFrom parts (suc d) (suc (length rs)) (suc (length rs))) ≡ suc (length rs) + count parts =
+      length-append (rs ++ (recordOf m d p parts ∷ [])) (recordsFrom parts (suc d) (suc (length rs)) (suc (length rs)))
+      ∙ omega (arith, one, length-from parts (suc d) (suc (length rs)) (suc (length rs))) in
+      rw (e, one, all)
+      (sym
+      (append-assoc (rs ++ (recordOf m d p parts ∷ [])) (recordsFrom parts (suc d) (suc (length rs)) (suc (length rs))) (recordsFrom k d p (suc (length rs) + count parts))
+      ∙ append-assoc rs (recordOf m d p parts ∷ []) (recordsFrom parts (suc d) (suc (length rs)) (suc (length rs)) ++ recordsFrom k d p (suc (length rs) + count parts))))
 
 -- ---- bytes
 

@@ -1,243 +1,184 @@
 -- The trees of RFC 733 are the derivations of the grammar `rfc733`. Assumes nothing.
-use Prim.Native.Nat.{ℕ, zero, suc, max, _<_}
+use Prim.Native.Nat.{ℕ, _<_}
 use native.Mathlib.Omega.{arith}
-use mathlib.Core.Path.{_≡_, refl, sym, ap, ap₂, _∙_}
+use mathlib.Core.Path.{_≡_, refl, sym, ap, _∙_}
 use mathlib.Core.Bool.{false}
-use mathlib.Core.List.{List, [], _∷_, List·Memᴰ, List·Memᴰ·head as here, List·Memᴰ·tail as there}
+use mathlib.Core.List.{List, [], _∷_}
 use mathlib.Core.Option.{none, some}
-use lib.ListN.{length, getD}
-use Rattle.grammar.specs.Believed.Grammar.{Item, symbol, part, Rule, nil, leaf, branch, yieldThen, yield, levels, begins, Allowed, Fits, done, take, apply}
+use lib.ListN.{length}
+use Rattle.grammar.specs.Believed.Grammar.{Item, part, yield, levels, begins, Allowed, Fits, done, take}
 use Rattle.grammar.specs.Believed.Rfc733.{sameClass, plain, rulesOf, Notion, list, place, address, phrase, atNodes, node, word, rfc733, Derivation, DerivedList}
-use Rattle.grammar.specs.Executable.Trees733.{Class, Atom, At, LessThan, GreaterThan, Comma, Semicolon, Colon, Lexeme, Sym, of, Word, atomWord, quotedWord, Phrase, one, more, Nodes, first, next, Place, empty, comma, AddressList, idle, full, Address, mailbox, angle, group, quoted, typed, ruleOf, wordRow, phraseRow, nodeRow, nodesRow, placeRow, listRow, addressRow, asRow}
-use Rattle.grammar.proofs.Rfc733.Trees.{wordSymbol, phraseThen, nodesThen, placeThen, listThen, addressThen, placeLevels, listLevels, addressLevels, placeLawful, listLawful, addressLawful, DerivedTree}
+use Rattle.grammar.specs.Executable.Trees733.{put, Class, Atom, At, LessThan, Comma, Semicolon, Colon, Lexeme, Sym, of, Word, atomWord, quotedWord, Phrase, one, more, Nodes, first, next, Place, empty, comma, AddressList, idle, full, Address, mailbox, angle, group, quoted, typed, Bit, bit, wordPiece, phrasePiece, nodePiece, nodesPiece, placePiece, listPiece, addressPiece, asRow}
+use Rattle.grammar.proofs.Any.Pieces.{seen, levelsOf, From, by-rule, put-fits, AllCovered, tree-of}
+use Rattle.grammar.proofs.Rfc733.Trees.{wordSymbol, phraseThen, nodesThen, placeThen, listThen, addressThen, placeLevels, listLevels, addressLevels, placeLawful, listLawful, addressLawful, houseRule, DerivedTree}
 
 -- ---- the same symbols
 
-pub word-yield : (w : Word) (k : Derivation) (xs : List Sym) → yieldThen (wordRow w k) xs ≡ wordSymbol w ∷ yieldThen k xs
-word-yield (atomWord t) k xs = refl
-word-yield (quotedWord t) k xs = refl
+pub word-yield : (w : Word) (xs : List Sym) → seen (wordPiece w) xs ≡ wordSymbol w ∷ xs
+word-yield (atomWord t) xs = refl
+word-yield (quotedWord t) xs = refl
 
-pub phrase-yield : (p : Phrase) (k : Derivation) (xs : List Sym) → yieldThen (phraseRow p k) xs ≡ phraseThen p (yieldThen k xs)
-phrase-yield (one w) k xs = word-yield w nil _
-phrase-yield (more p w) k xs = phrase-yield p (wordRow w nil) _ ∙ ap (phraseThen p) (word-yield w nil _)
+pub phrase-yield : (p : Phrase) (xs : List Sym) → seen (phrasePiece p) xs ≡ phraseThen p xs
+phrase-yield (one w) xs = word-yield w xs
+phrase-yield (more p w) xs = phrase-yield p _ ∙ ap (phraseThen p) (word-yield w xs)
 
-pub nodes-yield : (m : Nodes) (k : Derivation) (xs : List Sym) → yieldThen (nodesRow m k) xs ≡ nodesThen m (yieldThen k xs)
-nodes-yield (first t w) k xs = ap (λ l. of At t ∷ l) (word-yield w nil _)
-nodes-yield (next m t w) k xs = nodes-yield m _ _ ∙ ap (λ l. nodesThen m (of At t ∷ l)) (word-yield w nil _)
+pub nodes-yield : (m : Nodes) (xs : List Sym) → seen (nodesPiece m) xs ≡ nodesThen m xs
+nodes-yield (first t w) xs = ap (λ l. of At t ∷ l) (word-yield w xs)
+nodes-yield (next m t w) xs = nodes-yield m _ ∙ ap (λ l. nodesThen m (of At t ∷ l)) (word-yield w xs)
 
 mutual
-  pub place-yield : (r : Place) (k : Derivation) (xs : List Sym) → yieldThen (placeRow r k) xs ≡ placeThen r (yieldThen k xs)
-  place-yield empty k xs = refl
-  place-yield (comma l t) k xs = list-yield l (leaf (of Comma t) nil) _
+  pub place-yield : (r : Place) (xs : List Sym) → seen (placePiece r) xs ≡ placeThen r xs
+  place-yield empty xs = refl
+  place-yield (comma l t) xs = list-yield l (of Comma t ∷ xs)
 
-  pub list-yield : (l : AddressList) (k : Derivation) (xs : List Sym) → yieldThen (listRow l k) xs ≡ listThen l (yieldThen k xs)
-  list-yield (idle r) k xs = place-yield r nil _
-  list-yield (full r a) k xs = place-yield r (addressRow a nil) _ ∙ ap (placeThen r) (address-yield a nil _)
+  pub list-yield : (l : AddressList) (xs : List Sym) → seen (listPiece l) xs ≡ listThen l xs
+  list-yield (idle r) xs = place-yield r xs
+  list-yield (full r a) xs = place-yield r _ ∙ ap (placeThen r) (address-yield a xs)
 
-  pub address-yield : (a : Address) (k : Derivation) (xs : List Sym) → yieldThen (addressRow a k) xs ≡ addressThen a (yieldThen k xs)
-  address-yield (mailbox p m) k xs = phrase-yield p _ _ ∙ ap (phraseThen p) (nodes-yield m nil _)
-  address-yield (angle none t l u) k xs = ap (λ s. of LessThan t ∷ s) (list-yield l _ _)
-  address-yield (angle (some p) t l u) k xs = phrase-yield p _ _ ∙ ap (λ s. phraseThen p (of LessThan t ∷ s)) (list-yield l _ _)
-  address-yield (group none t l u) k xs = ap (λ s. of Colon t ∷ s) (list-yield l _ _)
-  address-yield (group (some p) t l u) k xs = phrase-yield p _ _ ∙ ap (λ s. phraseThen p (of Colon t ∷ s)) (list-yield l _ _)
-  address-yield (quoted t) k xs = refl
-  address-yield (typed t a u b) k xs = ap (λ s. of Colon t ∷ of Atom a ∷ of Colon u ∷ s) (address-yield b nil _)
+  pub address-yield : (a : Address) (xs : List Sym) → seen (addressPiece a) xs ≡ addressThen a xs
+  address-yield (mailbox p m) xs = phrase-yield p _ ∙ ap (phraseThen p) (nodes-yield m xs)
+  address-yield (angle none t l u) xs = ap (λ s. of LessThan t ∷ s) (list-yield l _)
+  address-yield (angle (some p) t l u) xs = phrase-yield p _ ∙ ap (λ s. phraseThen p (of LessThan t ∷ s)) (list-yield l _)
+  address-yield (group none t l u) xs = ap (λ s. of Colon t ∷ s) (list-yield l _)
+  address-yield (group (some p) t l u) xs = phrase-yield p _ ∙ ap (λ s. phraseThen p (of Colon t ∷ s)) (list-yield l _)
+  address-yield (quoted t) xs = refl
+  address-yield (typed t a u b) xs = ap (λ s. of Colon t ∷ of Atom a ∷ of Colon u ∷ s) (address-yield b xs)
 
 -- ---- the same levels
 
-pub word-levels : (w : Word) (k : Derivation) → levels (wordRow w k) ≡ levels k
-word-levels (atomWord t) k = omega arith
-word-levels (quotedWord t) k = omega arith
+word-levels : (w : Word) → levelsOf (wordPiece w) ≡ 0
+word-levels (atomWord t) = refl
+word-levels (quotedWord t) = refl
 
-pub phrase-levels : (p : Phrase) (k : Derivation) → levels (phraseRow p k) ≡ levels k
-phrase-levels (one w) k = omega (arith, word-levels w nil)
-phrase-levels (more p w) k = omega (arith, phrase-levels p (wordRow w nil), word-levels w nil)
+phrase-levels : (p : Phrase) → levelsOf (phrasePiece p) ≡ 0
+phrase-levels (one w) = omega (arith, word-levels w)
+phrase-levels (more p w) = omega (arith, phrase-levels p, word-levels w)
 
-pub nodes-levels : (m : Nodes) (k : Derivation) → levels (nodesRow m k) ≡ levels k
-nodes-levels (first t w) k = omega (arith, word-levels w nil)
-nodes-levels (next m t w) k = omega (arith, nodes-levels m (leaf (of At t) (nodeRow w nil)), word-levels w nil)
+nodes-levels : (m : Nodes) → levelsOf (nodesPiece m) ≡ 0
+nodes-levels (first t w) = omega (arith, word-levels w)
+nodes-levels (next m t w) = omega (arith, nodes-levels m, word-levels w)
 
 mutual
-  pub place-levels : (r : Place) (k : Derivation) → levels (placeRow r k) ≡ max (placeLevels r) (levels k)
-  place-levels empty k = omega arith
-  place-levels (comma l t) k = omega (arith, list-levels l (leaf (of Comma t) nil))
+  place-levels : (r : Place) → levelsOf (placePiece r) ≡ placeLevels r
+  place-levels empty = refl
+  place-levels (comma l t) = omega (arith, list-levels l)
 
-  pub list-levels : (l : AddressList) (k : Derivation) → levels (listRow l k) ≡ max (listLevels l) (levels k)
-  list-levels (idle r) k = omega (arith, place-levels r nil)
-  list-levels (full r a) k = omega (arith, place-levels r (addressRow a nil), address-levels a nil)
+  list-levels : (l : AddressList) → levelsOf (listPiece l) ≡ listLevels l
+  list-levels (idle r) = omega (arith, place-levels r)
+  list-levels (full r a) = omega (arith, place-levels r, address-levels a)
 
-  pub address-levels : (a : Address) (k : Derivation) → levels (addressRow a k) ≡ max (addressLevels a) (levels k)
-  address-levels (mailbox p m) k = omega (arith, phrase-levels p (nodesRow m nil), nodes-levels m nil)
-  address-levels (angle none t l u) k = omega (arith, list-levels l (leaf (of GreaterThan u) nil))
-  address-levels (angle (some p) t l u) k = omega (arith, phrase-levels p (leaf (of LessThan t) (listRow l (leaf (of GreaterThan u) nil))), list-levels l (leaf (of GreaterThan u) nil))
-  address-levels (group none t l u) k = omega (arith, list-levels l (leaf (of Semicolon u) nil))
-  address-levels (group (some p) t l u) k = omega (arith, phrase-levels p (leaf (of Colon t) (listRow l (leaf (of Semicolon u) nil))), list-levels l (leaf (of Semicolon u) nil))
-  address-levels (quoted t) k = omega arith
-  address-levels (typed t a u b) k = omega (arith, address-levels b nil)
+  address-levels : (a : Address) → levelsOf (addressPiece a) ≡ addressLevels a
+  address-levels (mailbox p m) = omega (arith, phrase-levels p, nodes-levels m)
+  address-levels (angle none t l u) = omega (arith, list-levels l)
+  address-levels (angle (some p) t l u) = omega (arith, phrase-levels p, list-levels l)
+  address-levels (group none t l u) = omega (arith, list-levels l)
+  address-levels (group (some p) t l u) = omega (arith, phrase-levels p, list-levels l)
+  address-levels (quoted t) = refl
+  address-levels (typed t a u b) = omega (arith, address-levels b)
 
 -- ---- every lawful tree is a derivation
 
-abbrev Is : List (Item Class Notion) → Derivation → Type 0
-Is items k = Fits rfc733 items k
+abbrev Is : Notion → Bit → Type 0
+Is A p = From rfc733 A p
 
-member : {R : Type 0} (rs : List R) (i : ℕ) (r : R) → i < length rs → List·Memᴰ (getD rs i r) rs
-member [] i r h = absurd (omega arith)
-member (x ∷ rs) zero r h = here refl
-member (x ∷ rs) (suc i) r h = there (member rs i r (omega arith))
+-- .. by the i-th rule
+by : (A : Notion) (i : ℕ) {p : Derivation} → i < length (rulesOf A) → Fits rfc733 (bit A i p .rule .items) p → Allowed sameClass (bit A i p .rule .never) (yield p) → Is A (bit A i p)
+by A i h d o = by-rule rfc733 A i (plain []) h d o
 
-rule : (A : Notion) (i : ℕ) → i < length (rulesOf A) → List·Memᴰ (ruleOf A i) (rulesOf A)
-rule A i h = member (rulesOf A) i (plain []) h
+with : {A : Notion} {p : Bit} {items : List (Item Class Notion)} {k : Derivation} → Is A p → Fits rfc733 items k → Fits rfc733 (part A ∷ items) (put p k)
+with f d = put-fits rfc733 f d
 
-word-fits : (w : Word) {items : List (Item Class Notion)} {k : Derivation} → Is items k → Is (part word ∷ items) (wordRow w k)
-word-fits (atomWord t) d = apply (rule word 0 (omega arith)) (take refl done) tt d
-word-fits (quotedWord t) d = apply (rule word 1 (omega arith)) (take refl done) tt d
+word-is : (w : Word) → Is word (wordPiece w)
+word-is (atomWord t) = by word 0 (omega arith) (take refl done) tt
+word-is (quotedWord t) = by word 1 (omega arith) (take refl done) tt
 
-node-fits : (w : Word) {items : List (Item Class Notion)} {k : Derivation} → Is items k → Is (part node ∷ items) (nodeRow w k)
-node-fits w d = apply (rule node 0 (omega arith)) (word-fits w done) tt d
+node-is : (w : Word) → Is node (nodePiece w)
+node-is w = by node 0 (omega arith) (with (word-is w) done) tt
 
-phrase-fits : (p : Phrase) {items : List (Item Class Notion)} {k : Derivation} → Is items k → Is (part phrase ∷ items) (phraseRow p k)
-phrase-fits (one w) d = apply (rule phrase 0 (omega arith)) (word-fits w done) tt d
-phrase-fits (more p w) d = apply (rule phrase 1 (omega arith)) (phrase-fits p (word-fits w done)) tt d
+pub phrase-is : (p : Phrase) → Is phrase (phrasePiece p)
+phrase-is (one w) = by phrase 0 (omega arith) (with (word-is w) done) tt
+phrase-is (more p w) = by phrase 1 (omega arith) (with (phrase-is p) (with (word-is w) done)) tt
 
-nodes-fits : (m : Nodes) {items : List (Item Class Notion)} {k : Derivation} → Is items k → Is (part atNodes ∷ items) (nodesRow m k)
-nodes-fits (first t w) d = apply (rule atNodes 0 (omega arith)) (take refl (node-fits w done)) tt d
-nodes-fits (next m t w) d = apply (rule atNodes 1 (omega arith)) (nodes-fits m (take refl (node-fits w done))) tt d
+pub nodes-is : (m : Nodes) → Is atNodes (nodesPiece m)
+nodes-is (first t w) = by atNodes 0 (omega arith) (take refl (with (node-is w) done)) tt
+nodes-is (next m t w) = by atNodes 1 (omega arith) (with (nodes-is m) (take refl (with (node-is w) done))) tt
 
 mutual
-  place-fits : (r : Place) {items : List (Item Class Notion)} {k : Derivation} → placeLawful r → Is items k → Is (part place ∷ items) (placeRow r k)
-  place-fits empty o d = apply (rule place 0 (omega arith)) done tt d
-  place-fits (comma l t) o d = apply (rule place 1 (omega arith)) (list-fits l o (take refl done)) tt d
+  place-is : (r : Place) → placeLawful r → Is place (placePiece r)
+  place-is empty o = by place 0 (omega arith) done tt
+  place-is (comma l t) o = by place 1 (omega arith) (with (list-is l o) (take refl done)) tt
 
-  list-fits : (l : AddressList) {items : List (Item Class Notion)} {k : Derivation} → listLawful l → Is items k → Is (part list ∷ items) (listRow l k)
-  list-fits (idle r) o d = apply (rule list 1 (omega arith)) (place-fits r o done) tt d
-  list-fits (full r a) o d = apply (rule list 0 (omega arith)) (place-fits r (o .0) (address-fits a (o .1) done)) tt d
+  list-is : (l : AddressList) → listLawful l → Is list (listPiece l)
+  list-is (idle r) o = by list 1 (omega arith) (with (place-is r o) done) tt
+  list-is (full r a) o = by list 0 (omega arith) (with (place-is r (o .0)) (with (address-is a (o .1)) done)) tt
 
-  address-fits : (a : Address) {items : List (Item Class Notion)} {k : Derivation} → addressLawful a → Is items k → Is (part address ∷ items) (addressRow a k)
-  address-fits (mailbox p m) o d = apply (rule address 0 (omega arith)) (phrase-fits p (nodes-fits m done)) tt d
-  address-fits (angle none t l u) o d = apply (rule address 2 (omega arith)) (take refl (list-fits l o (take refl done))) tt d
-  address-fits (angle (some p) t l u) o d = apply (rule address 1 (omega arith)) (phrase-fits p (take refl (list-fits l o (take refl done)))) tt d
-  address-fits (group none t l u) o d = apply (rule address 4 (omega arith)) (take refl (list-fits l (o .0) (take refl done))) (ap (begins sameClass (Atom ∷ Colon ∷ [])) (list-yield l _ _) ∙ o .1) d
-  address-fits (group (some p) t l u) o d = apply (rule address 3 (omega arith)) (phrase-fits p (take refl (list-fits l (o .0) (take refl done)))) tt d
-  address-fits (quoted t) o d = apply (rule address 5 (omega arith)) (take refl done) tt d
-  address-fits (typed t a u b) o d = apply (rule address 6 (omega arith)) (take refl (take refl (take refl (address-fits b o done)))) tt d
+  address-is : (a : Address) → addressLawful a → Is address (addressPiece a)
+  address-is (mailbox p m) o = by address 0 (omega arith) (with (phrase-is p) (with (nodes-is m) done)) tt
+  address-is (angle none t l u) o = by address 2 (omega arith) (take refl (with (list-is l o) (take refl done))) tt
+  address-is (angle (some p) t l u) o = by address 1 (omega arith) (with (phrase-is p) (take refl (with (list-is l o) (take refl done)))) tt
+  address-is (group none t l u) o = by address 4 (omega arith) (take refl (with (list-is l (o .0)) (take refl done))) (ap (begins sameClass (Atom ∷ Colon ∷ [])) (list-yield l _) ∙ o .1)
+  address-is (group (some p) t l u) o = by address 3 (omega arith) (with (phrase-is p) (take refl (with (list-is l (o .0)) (take refl done)))) tt
+  address-is (quoted t) o = by address 5 (omega arith) (take refl done) tt
+  address-is (typed t a u b) o = by address 6 (omega arith) (take refl (take refl (take refl (with (address-is b o) done)))) tt
 
 -- ---- every derivation is a lawful tree
 
 abbrev Tree : Notion → Type 0
-Tree list = AddressList
-Tree place = Place
-Tree address = Address
+Tree list = (l : AddressList) × listLawful l
+Tree place = (r : Place) × placeLawful r
+Tree address = (a : Address) × addressLawful a
 Tree phrase = Phrase
 Tree atNodes = Nodes
 Tree node = Word
 Tree word = Word
 
-abbrev rowOf : (A : Notion) → Tree A → Derivation → Derivation
-rowOf list x k = listRow x k
-rowOf place x k = placeRow x k
-rowOf address x k = addressRow x k
-rowOf phrase x k = phraseRow x k
-rowOf atNodes x k = nodesRow x k
-rowOf node x k = nodeRow x k
-rowOf word x k = wordRow x k
+abbrev pieceOf : (A : Notion) → Tree A → Bit
+pieceOf list x = listPiece (x .0)
+pieceOf place x = placePiece (x .0)
+pieceOf address x = addressPiece (x .0)
+pieceOf phrase x = phrasePiece x
+pieceOf atNodes x = nodesPiece x
+pieceOf node x = nodePiece x
+pieceOf word x = wordPiece x
 
-abbrev lawful : (A : Notion) → Tree A → Type 0
-lawful list x = listLawful x
-lawful place x = placeLawful x
-lawful address x = addressLawful x
-lawful phrase x = Unit {0}
-lawful atNodes x = Unit {0}
-lawful node x = Unit {0}
-lawful word x = Unit {0}
+-- a nameless group that the rule allows keeps the house rule
+house : (l : AddressList) (u : Lexeme) → begins sameClass (Atom ∷ Colon ∷ []) (seen (listPiece l) (of Semicolon u ∷ [])) ≡ false → houseRule none (listThen l (of Semicolon u ∷ []))
+house l u h = sym (ap (begins sameClass (Atom ∷ Colon ∷ [])) (list-yield l (of Semicolon u ∷ []))) ∙ h
 
--- a row whose parts are trees, as these items say
-abbrev Parts : List (Item Class Notion) → Derivation → Type 0
-Parts [] k = k ≡ nil
-Parts (symbol c ∷ items) k = (t : Lexeme) × (j : Derivation) × (k ≡ leaf (of c t) j) × Parts items j
-Parts (part A ∷ items) k = (x : Tree A) × (j : Derivation) × lawful A x × (k ≡ rowOf A x j) × Parts items j
-
--- a rule and its row are a tree of `A`
-abbrev IsTree : Notion → Rule Class Notion → Derivation → Type 0
-IsTree A r p = (x : Tree A) × lawful A x × ((k : Derivation) → branch r p k ≡ rowOf A x k)
-
-same-branch : {r r′ : Rule Class Notion} {p p′ : Derivation} → r ≡ r′ → p ≡ p′ → (k : Derivation) → branch r p k ≡ branch r′ p′ k
-same-branch e q k = ap₂ (λ r p. branch r p k) e q
-
-word-tree : (r : Rule Class Notion) (p : Derivation) → List·Memᴰ r (rulesOf word) → Parts (r .items) p → IsTree word r p
-word-tree r p (here e) s = let (t, j, q, z) = rw e at s in (atomWord t, tt, same-branch e (cc))
-word-tree r p (there (here e)) s = let (t, j, q, z) = rw e at s in (quotedWord t, tt, same-branch e (cc))
-
-node-tree : (r : Rule Class Notion) (p : Derivation) → List·Memᴰ r (rulesOf node) → Parts (r .items) p → IsTree node r p
-node-tree r p (here e) s = let (w, j, o, q, z) = rw e at s in (w, tt, same-branch e (cc))
-
-phrase-tree : (r : Rule Class Notion) (p : Derivation) → List·Memᴰ r (rulesOf phrase) → Parts (r .items) p → IsTree phrase r p
-phrase-tree r p (here e) s = let (w, j, o, q, z) = rw e at s in (one w, tt, same-branch e (cc))
-phrase-tree r p (there (here e)) s = let (f, i, o, q, (w, j, o′, q′, z)) = rw e at s in (more f w, tt, same-branch e (cc))
-
-nodes-tree : (r : Rule Class Notion) (p : Derivation) → List·Memᴰ r (rulesOf atNodes) → Parts (r .items) p → IsTree atNodes r p
-nodes-tree r p (here e) s = let (t, i, q, (w, j, o, q′, z)) = rw e at s in (first t w, tt, same-branch e (cc))
-nodes-tree r p (there (here e)) s =
-    let (m, h, o, q, (t, i, q′, (w, j, o′, q″, z))) = rw e at s in (next m t w, tt, same-branch e (cc))
-
-place-tree : (r : Rule Class Notion) (p : Derivation) → List·Memᴰ r (rulesOf place) → Parts (r .items) p → IsTree place r p
-place-tree r p (here e) s = (empty, tt, same-branch e (rw e at s))
-place-tree r p (there (here e)) s = let (l, i, o, q, (t, j, q′, z)) = rw e at s in (comma l t, o, same-branch e (cc))
-
-list-tree : (r : Rule Class Notion) (p : Derivation) → List·Memᴰ r (rulesOf list) → Parts (r .items) p → IsTree list r p
-list-tree r p (here e) s = let (x, i, o, q, (a, j, o′, q′, z)) = rw e at s in (full x a, (o, o′), same-branch e (cc))
-list-tree r p (there (here e)) s = let (x, j, o, q, z) = rw e at s in (idle x, o, same-branch e (cc))
-
--- the house rule, of the row and of the tree
-house-row : (p : Derivation) (t u : Lexeme) (l : AddressList) → p ≡ leaf (of Colon t) (listRow l (leaf (of Semicolon u) nil)) → begins sameClass (Colon ∷ Atom ∷ Colon ∷ []) (yield p) ≡ false
-    → begins sameClass (Atom ∷ Colon ∷ []) (listThen l (of Semicolon u ∷ [])) ≡ false
-house-row p t u l e h =
-    let h′ : begins sameClass (Colon ∷ Atom ∷ Colon ∷ []) (yieldThen (leaf (of Colon t) (listRow l (leaf (of Semicolon u) nil))) []) ≡ false = rw e at h in
-    sym (ap (begins sameClass (Atom ∷ Colon ∷ [])) (list-yield l (leaf (of Semicolon u) nil) [])) ∙ h′
-
-address-tree : (r : Rule Class Notion) (p : Derivation) → List·Memᴰ r (rulesOf address) → Parts (r .items) p → Allowed sameClass (r .never) (yield p) → IsTree address r p
-address-tree r p (here e) s v = let (f, i, o, q, (m, j, o′, q′, z)) = rw e at s in (mailbox f m, tt, same-branch e (cc))
-address-tree r p (there (here e)) s v =
-    let (f, g, o, q, (t, h, q′, (l, i, o′, q″, (u, j, q‴, z)))) = rw e at s in (angle (some f) t l u, o′, same-branch e (cc))
-address-tree r p (there (there (here e))) s v =
-    let (t, h, q′, (l, i, o′, q″, (u, j, q‴, z))) = rw e at s in (angle none t l u, o′, same-branch e (cc))
-address-tree r p (there (there (there (here e)))) s v =
-    let (f, g, o, q, (t, h, q′, (l, i, o′, q″, (u, j, q‴, z)))) = rw e at s in (group (some f) t l u, (o′, tt), same-branch e (cc))
-address-tree r p (there (there (there (there (here e))))) s v =
-    let (t, h, q′, (l, i, o′, q″, (u, j, q‴, z))) = rw e at s in
-    let q : p ≡ leaf (of Colon t) (listRow l (leaf (of Semicolon u) nil)) = cc in
-    (group none t l u, (o′, house-row p t u l q (rw e at v)), same-branch e q)
-address-tree r p (there (there (there (there (there (here e)))))) s v =
-    let (t, j, q, z) = rw e at s in (quoted t, tt, same-branch e (cc))
-address-tree r p (there (there (there (there (there (there (here e))))))) s v =
-    let (t, h, q, (x, i, q′, (u, g, q″, (b, j, o, q‴, z)))) = rw e at s in (typed t x u b, o, same-branch e (cc))
-
-tree : (A : Notion) (r : Rule Class Notion) (p : Derivation) → List·Memᴰ r (rulesOf A) → Parts (r .items) p → Allowed sameClass (r .never) (yield p) → IsTree A r p
-tree list r p m s v = list-tree r p m s
-tree place r p m s v = place-tree r p m s
-tree address r p m s v = address-tree r p m s v
-tree phrase r p m s v = phrase-tree r p m s
-tree atNodes r p m s v = nodes-tree r p m s
-tree node r p m s v = node-tree r p m s
-tree word r p m s v = word-tree r p m s
-
--- the one induction over derivations
-parts : {items : List (Item Class Notion)} {k : Derivation} → Is items k → Parts items k
-parts done = refl
-parts (take {x = x} {row = k} e d) = (x .lexeme, k, ap (λ c. leaf (of c (x .lexeme)) k) e, parts d)
-parts (apply {A = A} {rule = r} {parts = p} {row = k} m d v d′) = let (x, o, f) = tree A r p m (parts d) v in (x, k, o, f k, parts d′)
+covered : (A : Notion) → AllCovered rfc733 Tree pieceOf A (rulesOf A)
+covered list = (λ (r, (a, z)) o. ((full (r .0) (a .0), (r .1, a .1)), refl), (λ (r, z) o. ((idle (r .0), r .1), refl), tt))
+covered place = (λ z o. ((empty, tt), refl), (λ (l, (t, z)) o. ((comma (l .0) t, l .1), refl), tt))
+covered address = (
+  λ (p, (m, z)) o. ((mailbox p m, tt), refl),
+  (
+    λ (p, (t, (l, (u, z)))) o. ((angle (some p) t (l .0) u, l .1), refl),
+    (
+      λ (t, (l, (u, z))) o. ((angle none t (l .0) u, l .1), refl),
+      (
+        λ (p, (t, (l, (u, z)))) o. ((group (some p) t (l .0) u, (l .1, tt)), refl),
+        (
+          λ (t, (l, (u, z))) o. ((group none t (l .0) u, (l .1, house (l .0) u o)), refl),
+          (λ (t, z) o. ((quoted t, tt), refl), (λ (t, (a, (u, (b, z)))) o. ((typed t a u (b .0), b .1), refl), tt)),
+        ),
+      ),
+    ),
+  ),
+)
+covered phrase = (λ (w, z) o. (one w, refl), (λ (p, (w, z)) o. (more p w, refl), tt))
+covered atNodes = (λ (t, (w, z)) o. (first t w, refl), (λ (m, (t, (w, z))) o. (next m t w, refl), tt))
+covered node = (λ (w, z) o. (w, refl), tt)
+covered word = (λ (t, z) o. (atomWord t, refl), (λ (t, z) o. (quotedWord t, refl), tt))
 
 -- ---- the two kinds of derivation
 
 pub row-levels : (l : AddressList) → levels (asRow l) ≡ listLevels l
-row-levels l = omega (arith, list-levels l nil)
+row-levels l = omega (arith, list-levels l)
 
 pub row-derived : {l : AddressList} {xs : List Sym} → DerivedTree l xs → DerivedList (asRow l) xs
-row-derived {l} {xs} d = record { fits = list-fits l (d .lawful) done; yields = list-yield l nil [] ∙ d .yields }
+row-derived {l} {xs} d = record { fits = with (list-is l (d .lawful)) done; yields = list-yield l [] ∙ d .yields }
 
 -- .. and every derivation is a tree
 pub tree-derived : {k : Derivation} {xs : List Sym} → DerivedList k xs → (l : AddressList) × (k ≡ asRow l) × DerivedTree l xs
 tree-derived {k} {xs} d =
-    let (l, j, o, q, z) = parts (d .fits) in
-    let e : k ≡ asRow l = cc in
-    let y : yield (asRow l) ≡ xs = rw e at (d .yields) in
-    (l, e, record { yields = sym (list-yield l nil []) ∙ y; lawful = o })
+    let (x, e, y) = tree-of rfc733 Tree pieceOf covered d in
+    (x .0, e, record { yields = sym (list-yield (x .0) []) ∙ y; lawful = x .1 })

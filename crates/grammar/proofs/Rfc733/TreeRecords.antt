@@ -2,16 +2,20 @@
 use Prim.Native.Nat.{ℕ, suc, _+_}
 use native.Mathlib.Omega.{arith}
 use mathlib.Core.Path.{_≡_, refl, sym, ap, _∙_}
-use mathlib.Core.List.{List, [], _∷_, _++_, append-assoc, append-nil}
+use mathlib.Core.Bool.{Bool, true, false}
+use mathlib.Core.List.{List, [], _∷_, _++_, append-nil}
 use mathlib.Core.Option.{Option, none, some}
-use Rattle.grammar.specs.Believed.Grammar.{Row, nil, leaf, branch, yieldThen, yield}
+use Rattle.octets.specs.Believed.Choice.{pick}
+use Rattle.grammar.specs.Believed.Grammar.{nil, leaf, yield}
 use Rattle.grammar.specs.Believed.Language.{positionOf}
 use Rattle.grammar.specs.Believed.Records.{AddressRecord, recordBy, lastEnd, partOf, count, recordsFrom, records}
-use Rattle.grammar.specs.Believed.Rfc733.{Derivation, kindNumber, typedKind}
+use Rattle.grammar.specs.Believed.Rfc733.{Notion, list, place, address, phrase, atNodes, node, word, rulesOf, rfc733, Derivation, kindNumber, typedKind}
 use Rattle.grammar.specs.Believed.Rfc733 as rfc
-use Rattle.grammar.specs.Executable.Trees733.{Lexeme, LessThan, GreaterThan, Colon, Semicolon, Comma, At, Sym, of, Word, atomWord, quotedWord, Phrase, one, more, Nodes, first, next, Place, empty, comma, AddressList, idle, full, Address, mailbox, angle, group, quoted, typed, wordRow, phraseRow, nodeRow, nodesRow, placeRow, listRow, addressRow, asRow}
+use Rattle.grammar.specs.Executable.Trees733.{put, Lexeme, LessThan, GreaterThan, Colon, Semicolon, Comma, At, Sym, of, Word, atomWord, quotedWord, Phrase, one, more, Nodes, first, next, Place, empty, comma, AddressList, idle, full, Address, mailbox, angle, group, quoted, typed, phrasePiece, nodesPiece, placePiece, listPiece, addressPiece, asRow}
 use Rattle.grammar.proofs.Rfc733.Trees.{wordSymbol, phraseThen, nodesThen, listThen, addressThen}
-use Rattle.grammar.proofs.Rfc733.Derivations.{phrase-yield, list-yield, address-yield}
+use Rattle.grammar.proofs.Any.Records.{yield-append, last-append}
+use Rattle.grammar.proofs.Any.Silent.{silentRules, silent-records, silent-count}
+use Rattle.grammar.proofs.Rfc733.Derivations.{phrase-yield, list-yield, address-yield, phrase-is, nodes-is}
 
 -- ---- the record of an address
 
@@ -97,17 +101,6 @@ addressRecords a depth parent i = addressRecord a depth parent ∷ insideRecords
 
 -- ---- the symbols of a tree: the first and the last of them
 
-pub yield-append : {C N : Type 0} (row : Row C N) (xs : List _) → yieldThen row xs ≡ yield row ++ xs
-yield-append nil xs = refl
-yield-append (leaf x row) xs = ap (λ l. x ∷ l) (yield-append row xs)
-yield-append (branch rule parts row) xs =
-    yield-append parts (yieldThen row xs) ∙ ap (λ l. yield parts ++ l) (yield-append row xs) ∙ sym (append-assoc (yield parts) (yield row) xs)
-    ∙ ap (λ l. l ++ xs) (sym (yield-append parts (yield row)))
-
-pub last-append : (q : ℕ) (zs : List Sym) (x : Sym) (xs : List Sym) → lastEnd q (zs ++ (x ∷ xs)) ≡ lastEnd (x .lexeme .end) xs
-last-append q [] x xs = refl
-last-append q (z ∷ zs) x xs = last-append (z .lexeme .end) zs x xs
-
 start-phrase : (q : ℕ) (p : Phrase) (xs : List Sym) → positionOf q (phraseThen p xs) ≡ phraseStart p
 start-phrase q (one (atomWord t)) xs = refl
 start-phrase q (one (quotedWord t)) xs = refl
@@ -126,7 +119,7 @@ last-nodes q (first t w) xs = last-word (t .end) w xs
 last-nodes q (next m t w) xs = last-nodes q m (of At t ∷ wordSymbol w ∷ xs) ∙ last-word (t .end) w xs
 
 last-list : (q : ℕ) (l : AddressList) (x : Sym) (xs : List Sym) → lastEnd q (listThen l (x ∷ xs)) ≡ lastEnd (x .lexeme .end) xs
-last-list q l x xs = ap (lastEnd q) (sym (list-yield l nil (x ∷ xs)) ∙ yield-append (asRow l) (x ∷ xs)) ∙ last-append q (yield (asRow l)) x xs
+last-list q l x xs = ap (lastEnd q) (sym (list-yield l (x ∷ xs)) ∙ yield-append (listPiece l .parts) (x ∷ xs)) ∙ last-append q (yield (listPiece l .parts)) x xs
 
 last-address : (q : ℕ) (a : Address) (xs : List Sym) → lastEnd q (addressThen a xs) ≡ lastEnd (addressEnd a) xs
 last-address q (mailbox p m) xs = last-phrase q p (nodesThen m xs) ∙ last-nodes (phraseEnd p) m xs
@@ -145,21 +138,16 @@ same-record d par a b c f g = cc
 cons-record : {r r′ : AddressRecord} {a a′ : List AddressRecord} → r ≡ r′ → a ≡ a′ → r ∷ a ≡ r′ ∷ a′
 cons-record e f = cc
 
--- the phrase is the first part of a row
-pub part-phrase : (p : Phrase) (k : Derivation) → partOf 0 (phraseRow p k) ≡ phraseThen p []
-part-phrase (one w) k = phrase-yield (one w) nil []
-part-phrase (more p w) k = phrase-yield (more p w) nil []
-
 -- a name at the beginning of a row
 module _ (p : Phrase) (k : Derivation) where
-  row-start : positionOf 0 (yield (phraseRow p k)) ≡ phraseStart p
-  row-start = ap (positionOf 0) (phrase-yield p k []) ∙ start-phrase 0 p _
+  row-start : positionOf 0 (yield (put (phrasePiece p) k)) ≡ phraseStart p
+  row-start = ap (positionOf 0) (phrase-yield p (yield k)) ∙ start-phrase 0 p _
 
-  name-start : (q : ℕ) → positionOf q (partOf 0 (phraseRow p k)) ≡ phraseStart p
-  name-start q = ap (positionOf q) (part-phrase p k) ∙ start-phrase q p []
+  name-start : (q : ℕ) → positionOf q (partOf 0 (put (phrasePiece p) k)) ≡ phraseStart p
+  name-start q = ap (positionOf q) (phrase-yield p []) ∙ start-phrase q p []
 
-  name-end : (q : ℕ) → lastEnd q (partOf 0 (phraseRow p k)) ≡ phraseEnd p
-  name-end q = ap (lastEnd q) (part-phrase p k) ∙ last-phrase q p []
+  name-end : (q : ℕ) → lastEnd q (partOf 0 (put (phrasePiece p) k)) ≡ phraseEnd p
+  name-end q = ap (lastEnd q) (phrase-yield p []) ∙ last-phrase q p []
 
 -- the end of an address
 row-end : (q : ℕ) (a : Address) (xs : List Sym) → xs ≡ addressThen a [] → lastEnd q xs ≡ addressEnd a
@@ -167,33 +155,46 @@ row-end q a xs e = ap (lastEnd q) e ∙ last-address q a []
 
 -- ---- the records of a tree are those of its derivation
 
-word-count : (w : Word) (k : Derivation) → count (wordRow w k) ≡ count k
-word-count (atomWord t) k = omega arith
-word-count (quotedWord t) k = omega arith
+-- words, phrases and nodes have no record
+abbrev silent : Notion → Bool
+silent list = false
+silent place = false
+silent address = false
+silent phrase = true
+silent atNodes = true
+silent node = true
+silent word = true
 
-phrase-count : (p : Phrase) (k : Derivation) → count (phraseRow p k) ≡ count k
-phrase-count (one w) k = omega (arith, word-count w nil)
-phrase-count (more p w) k = omega (arith, phrase-count p (wordRow w nil), word-count w nil)
+all-silent : (A : Notion) → pick (silent A) (silentRules silent (rulesOf A)) true ≡ true
+all-silent list = refl
+all-silent place = refl
+all-silent address = refl
+all-silent phrase = refl
+all-silent atNodes = refl
+all-silent node = refl
+all-silent word = refl
 
-nodes-count : (m : Nodes) (k : Derivation) → count (nodesRow m k) ≡ count k
-nodes-count (first t w) k = omega (arith, word-count w nil)
-nodes-count (next m t w) k = omega (arith, nodes-count m (leaf (of At t) (nodeRow w nil)), word-count w nil)
+phrase-count : (p : Phrase) (k : Derivation) → count (put (phrasePiece p) k) ≡ count k
+phrase-count p k = silent-count silent rfc733 all-silent (phrase-is p) refl k
+
+nodes-count : (m : Nodes) (k : Derivation) → count (put (nodesPiece m) k) ≡ count k
+nodes-count m k = silent-count silent rfc733 all-silent (nodes-is m) refl k
 
 mutual
-  place-count : (r : Place) (k : Derivation) → count (placeRow r k) ≡ placeCount r + count k
+  place-count : (r : Place) (k : Derivation) → count (put (placePiece r) k) ≡ placeCount r + count k
   place-count empty k = omega arith
   place-count (comma l t) k = omega (arith, list-count l (leaf (of Comma t) nil))
 
-  list-count : (l : AddressList) (k : Derivation) → count (listRow l k) ≡ listCount l + count k
+  list-count : (l : AddressList) (k : Derivation) → count (put (listPiece l) k) ≡ listCount l + count k
   list-count (idle r) k = omega (arith, place-count r nil)
-  list-count (full r a) k = omega (arith, place-count r (addressRow a nil), address-count a nil)
+  list-count (full r a) k = omega (arith, place-count r (put (addressPiece a) nil), address-count a nil)
 
-  address-count : (a : Address) (k : Derivation) → count (addressRow a k) ≡ addressCount a + count k
-  address-count (mailbox p m) k = omega (arith, phrase-count p (nodesRow m nil), nodes-count m nil)
+  address-count : (a : Address) (k : Derivation) → count (put (addressPiece a) k) ≡ addressCount a + count k
+  address-count (mailbox p m) k = omega (arith, phrase-count p (put (nodesPiece m) nil), nodes-count m nil)
   address-count (angle none t l u) k = omega (arith, list-count l (leaf (of GreaterThan u) nil))
-  address-count (angle (some p) t l u) k = omega (arith, phrase-count p (leaf (of LessThan t) (listRow l (leaf (of GreaterThan u) nil))), list-count l (leaf (of GreaterThan u) nil))
+  address-count (angle (some p) t l u) k = omega (arith, phrase-count p (leaf (of LessThan t) (put (listPiece l) (leaf (of GreaterThan u) nil))), list-count l (leaf (of GreaterThan u) nil))
   address-count (group none t l u) k = omega (arith, list-count l (leaf (of Semicolon u) nil))
-  address-count (group (some p) t l u) k = omega (arith, phrase-count p (leaf (of Colon t) (listRow l (leaf (of Semicolon u) nil))), list-count l (leaf (of Semicolon u) nil))
+  address-count (group (some p) t l u) k = omega (arith, phrase-count p (leaf (of Colon t) (put (listPiece l) (leaf (of Semicolon u) nil))), list-count l (leaf (of Semicolon u) nil))
   address-count (quoted t) k = omega arith
   address-count (typed t a u b) k = omega (arith, address-count b nil)
 
@@ -201,66 +202,55 @@ mutual
 both-parts : {a : List AddressRecord} {m : ℕ} (b : ℕ → List AddressRecord) (a′ : List AddressRecord) (n : ℕ) → a ≡ a′ → m ≡ n → a ++ b m ≡ a′ ++ b n
 both-parts b a′ n e f = cc
 
-word-records : (w : Word) (k : Derivation) (d par i : ℕ) → recordsFrom (wordRow w k) d par i ≡ recordsFrom k d par i
-word-records (atomWord t) k d par i = both-parts (recordsFrom k d par) [] i refl (omega arith)
-word-records (quotedWord t) k d par i = both-parts (recordsFrom k d par) [] i refl (omega arith)
+phrase-records : (p : Phrase) (k : Derivation) (d par i : ℕ) → recordsFrom (put (phrasePiece p) k) d par i ≡ recordsFrom k d par i
+phrase-records p k d par i = silent-records silent rfc733 all-silent (phrase-is p) refl k d par i
 
-phrase-records : (p : Phrase) (k : Derivation) (d par i : ℕ) → recordsFrom (phraseRow p k) d par i ≡ recordsFrom k d par i
-phrase-records (one w) k d par i = both-parts (recordsFrom k d par) [] i (word-records w nil d par i) (omega (arith, word-count w nil))
-phrase-records (more p w) k d par i =
-    both-parts (recordsFrom k d par) [] i (phrase-records p (wordRow w nil) d par i ∙ word-records w nil d par i) (omega (arith, phrase-count p (wordRow w nil), word-count w nil))
-
-node-records : (w : Word) (k : Derivation) (d par i : ℕ) → recordsFrom (nodeRow w k) d par i ≡ recordsFrom k d par i
-node-records w k d par i = both-parts (recordsFrom k d par) [] i (word-records w nil d par i) (omega (arith, word-count w nil))
-
-nodes-records : (m : Nodes) (k : Derivation) (d par i : ℕ) → recordsFrom (nodesRow m k) d par i ≡ recordsFrom k d par i
-nodes-records (first t w) k d par i = both-parts (recordsFrom k d par) [] i (node-records w nil d par i) (omega (arith, word-count w nil))
-nodes-records (next m t w) k d par i =
-    both-parts (recordsFrom k d par) [] i (nodes-records m _ d par i ∙ node-records w nil d par i) (omega (arith, nodes-count m (leaf (of At t) (nodeRow w nil)), word-count w nil))
+nodes-records : (m : Nodes) (k : Derivation) (d par i : ℕ) → recordsFrom (put (nodesPiece m) k) d par i ≡ recordsFrom k d par i
+nodes-records m k d par i = silent-records silent rfc733 all-silent (nodes-is m) refl k d par i
 
 mutual
-  place-records : (r : Place) (k : Derivation) (d par i : ℕ) → recordsFrom (placeRow r k) d par i ≡ placeRecords r d par i ++ recordsFrom k d par (i + placeCount r)
+  place-records : (r : Place) (k : Derivation) (d par i : ℕ) → recordsFrom (put (placePiece r) k) d par i ≡ placeRecords r d par i ++ recordsFrom k d par (i + placeCount r)
   place-records empty k d par i = refl
   place-records (comma l t) k d par i =
       both-parts (recordsFrom k d par) (placeRecords (comma l t) d par i) (i + placeCount (comma l t)) (list-records l (leaf (of Comma t) nil) d par i ∙ append-nil _) (omega (arith, list-count l (leaf (of Comma t) nil)))
 
-  list-records : (l : AddressList) (k : Derivation) (d par i : ℕ) → recordsFrom (listRow l k) d par i ≡ listRecords l d par i ++ recordsFrom k d par (i + listCount l)
+  list-records : (l : AddressList) (k : Derivation) (d par i : ℕ) → recordsFrom (put (listPiece l) k) d par i ≡ listRecords l d par i ++ recordsFrom k d par (i + listCount l)
   list-records (idle r) k d par i = both-parts (recordsFrom k d par) (listRecords (idle r) d par i) (i + listCount (idle r)) (place-records r nil d par i ∙ append-nil _) (omega (arith, place-count r nil))
   list-records (full r a) k d par i =
       both-parts (recordsFrom k d par) (listRecords (full r a) d par i) (i + listCount (full r a))
-      (place-records r (addressRow a nil) d par i ∙ ap (λ rs. placeRecords r d par i ++ rs) (address-records a nil d par (i + placeCount r) ∙ append-nil _))
-      (omega (arith, place-count r (addressRow a nil), address-count a nil))
+      (place-records r (put (addressPiece a) nil) d par i ∙ ap (λ rs. placeRecords r d par i ++ rs) (address-records a nil d par (i + placeCount r) ∙ append-nil _))
+      (omega (arith, place-count r (put (addressPiece a) nil), address-count a nil))
 
-  address-records : (a : Address) (k : Derivation) (d par i : ℕ) → recordsFrom (addressRow a k) d par i ≡ addressRecords a d par i ++ recordsFrom k d par (i + addressCount a)
+  address-records : (a : Address) (k : Derivation) (d par i : ℕ) → recordsFrom (put (addressPiece a) k) d par i ≡ addressRecords a d par i ++ recordsFrom k d par (i + addressCount a)
   address-records (mailbox p m) k d par i =
       both-parts (recordsFrom k d par) (addressRecords (mailbox p m) d par i) (i + addressCount (mailbox p m))
-      (cons-record (same-record d par refl (row-start p _) (row-end _ (mailbox p m) _ (address-yield (mailbox p m) nil [])) (name-start p _ _) (name-end p _ _))
-      (phrase-records p (nodesRow m nil) (suc d) (suc i) (suc i) ∙ nodes-records m nil (suc d) (suc i) (suc i)))
-      (omega (arith, phrase-count p (nodesRow m nil), nodes-count m nil))
+      (cons-record (same-record d par refl (row-start p (put (nodesPiece m) nil)) (row-end _ (mailbox p m) _ (address-yield (mailbox p m) [])) (name-start p (put (nodesPiece m) nil) _) (name-end p (put (nodesPiece m) nil) _))
+      (phrase-records p (put (nodesPiece m) nil) (suc d) (suc i) (suc i) ∙ nodes-records m nil (suc d) (suc i) (suc i)))
+      (omega (arith, phrase-count p (put (nodesPiece m) nil), nodes-count m nil))
   address-records (angle none t l u) k d par i =
       both-parts (recordsFrom k d par) (addressRecords (angle none t l u) d par i) (i + addressCount (angle none t l u))
-      (cons-record (same-record d par refl refl (row-end 0 (angle none t l u) _ (address-yield (angle none t l u) nil [])) refl refl)
+      (cons-record (same-record d par refl refl (row-end 0 (angle none t l u) _ (address-yield (angle none t l u) [])) refl refl)
       (list-records l (leaf (of GreaterThan u) nil) (suc d) (suc i) (suc i) ∙ append-nil _))
       (omega (arith, list-count l (leaf (of GreaterThan u) nil)))
   address-records (angle (some p) t l u) k d par i =
       both-parts (recordsFrom k d par) (addressRecords (angle (some p) t l u) d par i) (i + addressCount (angle (some p) t l u))
-      (cons-record (same-record d par refl (row-start p _) (row-end _ (angle (some p) t l u) _ (address-yield (angle (some p) t l u) nil [])) (name-start p _ _) (name-end p _ _))
-      (phrase-records p _ (suc d) (suc i) (suc i) ∙ list-records l (leaf (of GreaterThan u) nil) (suc d) (suc i) (suc i) ∙ append-nil _))
-      (omega (arith, phrase-count p (leaf (of LessThan t) (listRow l (leaf (of GreaterThan u) nil))), list-count l (leaf (of GreaterThan u) nil)))
+      (cons-record (same-record d par refl (row-start p (leaf (of LessThan t) (put (listPiece l) (leaf (of GreaterThan u) nil)))) (row-end _ (angle (some p) t l u) _ (address-yield (angle (some p) t l u) [])) (name-start p (leaf (of LessThan t) (put (listPiece l) (leaf (of GreaterThan u) nil))) _) (name-end p (leaf (of LessThan t) (put (listPiece l) (leaf (of GreaterThan u) nil))) _))
+      (phrase-records p (leaf (of LessThan t) (put (listPiece l) (leaf (of GreaterThan u) nil))) (suc d) (suc i) (suc i) ∙ list-records l (leaf (of GreaterThan u) nil) (suc d) (suc i) (suc i) ∙ append-nil _))
+      (omega (arith, phrase-count p (leaf (of LessThan t) (put (listPiece l) (leaf (of GreaterThan u) nil))), list-count l (leaf (of GreaterThan u) nil)))
   address-records (group none t l u) k d par i =
       both-parts (recordsFrom k d par) (addressRecords (group none t l u) d par i) (i + addressCount (group none t l u))
-      (cons-record (same-record d par refl refl (row-end 0 (group none t l u) _ (address-yield (group none t l u) nil [])) refl refl)
+      (cons-record (same-record d par refl refl (row-end 0 (group none t l u) _ (address-yield (group none t l u) [])) refl refl)
       (list-records l (leaf (of Semicolon u) nil) (suc d) (suc i) (suc i) ∙ append-nil _))
       (omega (arith, list-count l (leaf (of Semicolon u) nil)))
   address-records (group (some p) t l u) k d par i =
       both-parts (recordsFrom k d par) (addressRecords (group (some p) t l u) d par i) (i + addressCount (group (some p) t l u))
-      (cons-record (same-record d par refl (row-start p _) (row-end _ (group (some p) t l u) _ (address-yield (group (some p) t l u) nil [])) (name-start p _ _) (name-end p _ _))
-      (phrase-records p _ (suc d) (suc i) (suc i) ∙ list-records l (leaf (of Semicolon u) nil) (suc d) (suc i) (suc i) ∙ append-nil _))
-      (omega (arith, phrase-count p (leaf (of Colon t) (listRow l (leaf (of Semicolon u) nil))), list-count l (leaf (of Semicolon u) nil)))
+      (cons-record (same-record d par refl (row-start p (leaf (of Colon t) (put (listPiece l) (leaf (of Semicolon u) nil)))) (row-end _ (group (some p) t l u) _ (address-yield (group (some p) t l u) [])) (name-start p (leaf (of Colon t) (put (listPiece l) (leaf (of Semicolon u) nil))) _) (name-end p (leaf (of Colon t) (put (listPiece l) (leaf (of Semicolon u) nil))) _))
+      (phrase-records p (leaf (of Colon t) (put (listPiece l) (leaf (of Semicolon u) nil))) (suc d) (suc i) (suc i) ∙ list-records l (leaf (of Semicolon u) nil) (suc d) (suc i) (suc i) ∙ append-nil _))
+      (omega (arith, phrase-count p (leaf (of Colon t) (put (listPiece l) (leaf (of Semicolon u) nil))), list-count l (leaf (of Semicolon u) nil)))
   address-records (quoted t) k d par i = both-parts (recordsFrom k d par) (addressRecords (quoted t) d par i) (i + addressCount (quoted t)) refl (omega arith)
   address-records (typed t a u b) k d par i =
       both-parts (recordsFrom k d par) (addressRecords (typed t a u b) d par i) (i + addressCount (typed t a u b))
-      (cons-record (same-record d par (ap (λ name. kindNumber (typedKind name)) (append-nil (a .meaning))) refl (row-end 0 (typed t a u b) _ (address-yield (typed t a u b) nil [])) refl refl)
+      (cons-record (same-record d par (ap (λ name. kindNumber (typedKind name)) (append-nil (a .meaning))) refl (row-end 0 (typed t a u b) _ (address-yield (typed t a u b) [])) refl refl)
       (address-records b nil (suc d) (suc i) (suc i) ∙ append-nil _))
       (omega (arith, address-count b nil))
 

@@ -9,12 +9,13 @@ use Rattle.grammar.specs.Believed.Rfc733.{sameClass}
 use Rattle.grammar.specs.Believed.Rfc822.{Notion}
 use Rattle.grammar.specs.Executable.Machines.{go, verdictBy, atEnd, Arrow}
 use Rattle.grammar.proofs.Any.Machine.{Machine}
+use Rattle.grammar.proofs.Any.Pieces.{seen}
 use Rattle.grammar.proofs.Any.Arrows as any
 use Rattle.grammar.proofs.Symbols.{same-class}
 use Rattle.grammar.specs.Executable.Trees822.{Class, Atom, At, LessThan, GreaterThan, Comma, Semicolon, Colon, Dot, Lexeme, Sym, of, Word, atomWord, quotedWord, Phrase, one, more, Sub, atomSub, literalSub, Domain, oneSub, moreSub, Local, oneWord, moreWord, Spec, spec, Empties, noEmpty, oneEmpty, Hops, firstHop, nextHop, Route, direct, trailing, Mailbox, bare, angle, routed, Place, empty, comma, Listed, idle, full, Address, box, group, wordPiece, phrasePiece, subPiece, domainPiece, localPiece, specPiece, emptiesPiece, hopsPiece, routePiece, mailboxPiece, boxPlacePiece, boxesPiece, addressPiece, placePiece, listPiece, asRow}
 use Rattle.grammar.proofs.Rfc822.Derivations.{DerivedList, tree-derived}
 use Rattle.grammar.specs.Executable.Machine822.{Here, inList, inGroup, Open, less, In, bareIn, angleIn, routeIn, firstAt, nextAt, Behind, ofSpec, ofHop, State, place, word, phrase, local, localDot, at, domain, domainDot, opened, hop, route, boxed, closed, words, subs, arrows, step, run, finish, start, read}
-use Rattle.grammar.proofs.Rfc822.Machine.{seen, stateThen, kept, gives}
+use Rattle.grammar.proofs.Rfc822.Machine.{stateThen, kept, gives}
 
 -- ---- where reading comes to after a tree
 

@@ -8,7 +8,7 @@ use Rattle.grammar.specs.Believed.Grammar.{Item, part, Row, nil, yield, 
 use Rattle.grammar.specs.Believed.Rfc733.{sameClass, plain}
 use Rattle.grammar.specs.Believed.Rfc822.{rulesOf, Notion, list, place, address, boxes, boxPlace, mailbox, routeAddr, addrSpec, route, hops, emptyPlaces, localPart, domain, subDomain, phrase, word, rfc822}
 use Rattle.grammar.specs.Executable.Trees822.{put, Class, Sym, Word, atomWord, quotedWord, Phrase, one, more, Sub, Domain, Local, Spec, Empties, Hops, Route, RouteAddr, Mailbox, Place, Listed, Address, Bit, bit, wordPiece, phrasePiece, subPiece, domainPiece, localPiece, specPiece, emptiesPiece, hopsPiece, routePiece, routeAddrPiece, mailboxPiece, boxPlacePiece, boxesPiece, addressPiece, placePiece, listPiece, atomSub, literalSub, oneSub, moreSub, oneWord, moreWord, spec, noEmpty, oneEmpty, firstHop, nextHop, direct, trailing, noRoute, withRoute, bare, angle, routed, empty, comma, idle, full, box, group, asRow}
-use Rattle.grammar.proofs.Any.Pieces.{member, From, put-fits, AllCovered, tree-of}
+use Rattle.grammar.proofs.Any.Pieces.{From, by-rule, put-fits, AllCovered, tree-of}
 
 -- ---- every tree is a derivation
 
@@ -17,7 +17,7 @@ Is A p = From rfc822 A p
 
 -- .. by the i-th rule
 by : (A : Notion) (i : ℕ) {p : Row Class Notion} → i < length (rulesOf A) → Fits rfc822 (bit A i p .rule .items) p → Allowed sameClass (bit A i p .rule .never) (yield p) → Is A (bit A i p)
-by A i h d o = record { member = member (rulesOf A) i (plain []) h; fits = d; allowed = o }
+by A i h d o = by-rule rfc822 A i (plain []) h d o
 
 with : {A : Notion} {p : Bit} {items : List (Item Class Notion)} {k : Row Class Notion} → Is A p → Fits rfc822 items k → Fits rfc822 (part A ∷ items) (put p k)
 with f d = put-fits rfc822 f d
@@ -131,22 +131,22 @@ named p (noRoute t s u) = (angle p t s u, refl)
 named p (withRoute t r s u) = (routed p t r s u, refl)
 
 covered : (A : Notion) → AllCovered rfc822 Tree pieceOf A (rulesOf A)
-covered list = (λ (r, (a, z)). (full r a, refl), (λ (r, z). (idle r, refl), tt))
-covered place = (λ z. (empty, refl), (λ (l, (t, z)). (comma l t, refl), tt))
-covered address = (λ (b, z). (box b, refl), (λ (p, (t, (l, (u, z)))). (group p t l u, refl), tt))
-covered boxes = (λ (r, (b, z)). (full r b, refl), (λ (r, z). (idle r, refl), tt))
-covered boxPlace = (λ z. (empty, refl), (λ (l, (t, z)). (comma l t, refl), tt))
-covered mailbox = (λ (s, z). (bare s, refl), (λ (p, (r, z)). named p r, tt))
-covered routeAddr = (λ (t, (s, (u, z))). (noRoute t s u, refl), (λ (t, (r, (s, (u, z)))). (withRoute t r s u, refl), tt))
-covered addrSpec = (λ (l, (t, (m, z))). (spec l t m, refl), tt)
-covered route = (λ (h, (t, z)). (direct h t, refl), (λ (h, (u, (g, (t, z)))). (trailing h u g t, refl), tt))
-covered hops = (λ (g, (t, (m, z))). (firstHop g t m, refl), (λ (h, (u, (g, (t, (m, z))))). (nextHop h u g t m, refl), tt))
-covered emptyPlaces = (λ z. (noEmpty, refl), (λ (g, (t, z)). (oneEmpty g t, refl), tt))
-covered localPart = (λ (w, z). (oneWord w, refl), (λ (l, (t, (w, z))). (moreWord l t w, refl), tt))
-covered domain = (λ (s, z). (oneSub s, refl), (λ (m, (t, (s, z))). (moreSub m t s, refl), tt))
-covered subDomain = (λ (t, z). (atomSub t, refl), (λ (t, z). (literalSub t, refl), tt))
-covered phrase = (λ (w, z). (one w, refl), (λ (p, (w, z)). (more p w, refl), tt))
-covered word = (λ (t, z). (atomWord t, refl), (λ (t, z). (quotedWord t, refl), tt))
+covered list = (λ (r, (a, z)) o. (full r a, refl), (λ (r, z) o. (idle r, refl), tt))
+covered place = (λ z o. (empty, refl), (λ (l, (t, z)) o. (comma l t, refl), tt))
+covered address = (λ (b, z) o. (box b, refl), (λ (p, (t, (l, (u, z)))) o. (group p t l u, refl), tt))
+covered boxes = (λ (r, (b, z)) o. (full r b, refl), (λ (r, z) o. (idle r, refl), tt))
+covered boxPlace = (λ z o. (empty, refl), (λ (l, (t, z)) o. (comma l t, refl), tt))
+covered mailbox = (λ (s, z) o. (bare s, refl), (λ (p, (r, z)) o. named p r, tt))
+covered routeAddr = (λ (t, (s, (u, z))) o. (noRoute t s u, refl), (λ (t, (r, (s, (u, z)))) o. (withRoute t r s u, refl), tt))
+covered addrSpec = (λ (l, (t, (m, z))) o. (spec l t m, refl), tt)
+covered route = (λ (h, (t, z)) o. (direct h t, refl), (λ (h, (u, (g, (t, z)))) o. (trailing h u g t, refl), tt))
+covered hops = (λ (g, (t, (m, z))) o. (firstHop g t m, refl), (λ (h, (u, (g, (t, (m, z))))) o. (nextHop h u g t m, refl), tt))
+covered emptyPlaces = (λ z o. (noEmpty, refl), (λ (g, (t, z)) o. (oneEmpty g t, refl), tt))
+covered localPart = (λ (w, z) o. (oneWord w, refl), (λ (l, (t, (w, z))) o. (moreWord l t w, refl), tt))
+covered domain = (λ (s, z) o. (oneSub s, refl), (λ (m, (t, (s, z))) o. (moreSub m t s, refl), tt))
+covered subDomain = (λ (t, z) o. (atomSub t, refl), (λ (t, z) o. (literalSub t, refl), tt))
+covered phrase = (λ (w, z) o. (one w, refl), (λ (p, (w, z)) o. (more p w, refl), tt))
+covered word = (λ (t, z) o. (atomWord t, refl), (λ (t, z) o. (quotedWord t, refl), tt))
 
 -- ---- the trees are the derivations
 

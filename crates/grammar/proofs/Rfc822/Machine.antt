@@ -1,17 +1,13 @@
 -- The machine of RFC 822: what its states stand for; every arrow keeps it, and what is given at the end is derived. Assumes nothing.
 use mathlib.Core.Path.{refl}
 use mathlib.Core.List.{List, [], _∷_}
-use Rattle.grammar.specs.Believed.Grammar.{yieldThen}
-use Rattle.grammar.specs.Believed.Rfc822.{Notion}
-use Rattle.grammar.specs.Executable.Trees822.{Piece, Class, At, LessThan, Comma, Colon, Dot, Sym, of, spec, Mailbox, bare, idle, full, box, wordPiece, phrasePiece, domainPiece, localPiece, emptiesPiece, hopsPiece, routePiece, mailboxPiece, boxPlacePiece, addressPiece, placePiece}
+use Rattle.grammar.specs.Executable.Trees822.{At, LessThan, Comma, Colon, Dot, Sym, of, spec, Mailbox, bare, idle, full, box, wordPiece, phrasePiece, domainPiece, localPiece, emptiesPiece, hopsPiece, routePiece, mailboxPiece, boxPlacePiece, addressPiece, placePiece}
+use Rattle.grammar.proofs.Any.Pieces.{seen}
 use Rattle.grammar.proofs.Any.Arrows.{Keeps, Gives}
 use Rattle.grammar.proofs.Rfc822.Derivations.{DerivedList, row-derived}
 use Rattle.grammar.specs.Executable.Machine822.{Here, Open, In, Hop, Behind, State, arrows, boxEnds, finish, inList, inGroup, less, bareIn, angleIn, routeIn, firstAt, nextAt, ofSpec, ofHop, place, word, phrase, local, localDot, at, domain, domainDot, opened, hop, route, boxed, closed}
 
 -- ---- what has been read, put before `xs`
-
-abbrev pub seen : Piece Class Notion → List Sym → List Sym
-seen p xs = yieldThen (p .parts) xs
 
 abbrev pub hereThen : Here → List Sym → List Sym
 hereThen (inList r) xs = seen (placePiece r) xs

@@ -35,6 +35,11 @@ abbrev pub verdictBy : {C S T : Type 0} → (S → Option T) → Result C S → 
 verdictBy finish (ended s) = atEnd (finish s)
 verdictBy finish (stopped why xs) = refused why xs
 
+-- a verdict in terms of other derivations
+abbrev pub verdictAs : {C T U : Type 0} → (T → U) → Verdict C T → Verdict C U
+verdictAs f (accepted t) = accepted (f t)
+verdictAs f (refused why rest) = refused why rest
+
 -- the state in which a run stops, or ends
 abbrev pub standsAfter : {S : Type 0} → Step S → (S → S) → S → S
 standsAfter (go s) more here = more s

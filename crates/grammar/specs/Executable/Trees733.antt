@@ -5,8 +5,9 @@ use mathlib.Core.List.{List, [], _∷_}
 use mathlib.Core.Option.{Option, none, some}
 use lib.ListN.{getD}
 use Rattle.octets.specs.Believed.Choice.{either}
-use Rattle.grammar.specs.Believed.Grammar.{Rule, nil, leaf, branch}
+use Rattle.grammar.specs.Believed.Grammar.{Rule, nil, leaf}
 use Rattle.grammar.specs.Believed.Rfc733.{sameClass, plain, rulesOf, Notion, list, place, address, phrase, atNodes, node, word, Derivation}
+pub use Rattle.grammar.specs.Executable.Pieces.{Piece, piece, put}
 pub use Rattle.scanner.specs.Believed.Symbols.{Lexeme, Symbol}
 pub use Rattle.scanner.specs.declared.Class.{Class}
 pub use Rattle.scanner.specs.declared.Class.the-variants.{Atom, Quoted, At, LessThan, GreaterThan, Comma, Semicolon, Colon, Stray, Dot, Literal}
@@ -60,41 +61,51 @@ mutual
 abbrev pub ruleOf : Notion → ℕ → Rule Class Notion
 ruleOf A i = getD (rulesOf A) i (plain [])
 
--- ---- a tree as a row of the grammar, before the row `k`
+-- ---- each tree as a rule and the row of its parts
 
-abbrev pub wordRow : Word → Derivation → Derivation
-wordRow (atomWord t) k = branch (ruleOf word 0) (leaf (of Atom t) nil) k
-wordRow (quotedWord t) k = branch (ruleOf word 1) (leaf (of Quoted t) nil) k
+abbrev pub Bit : Type 0
+Bit = Piece Class Notion
 
-abbrev pub phraseRow : Phrase → Derivation → Derivation
-phraseRow (one w) k = branch (ruleOf phrase 0) (wordRow w nil) k
-phraseRow (more p w) k = branch (ruleOf phrase 1) (phraseRow p (wordRow w nil)) k
+-- the i-th rule of a notion, with these parts
+abbrev pub bit : Notion → ℕ → Derivation → Bit
+bit A i p = piece (ruleOf A i) p
 
-abbrev pub nodeRow : Word → Derivation → Derivation
-nodeRow w k = branch (ruleOf node 0) (wordRow w nil) k
+abbrev then : Class → Lexeme → Derivation → Derivation
+then c t k = leaf (of c t) k
 
-abbrev pub nodesRow : Nodes → Derivation → Derivation
-nodesRow (first t w) k = branch (ruleOf atNodes 0) (leaf (of At t) (nodeRow w nil)) k
-nodesRow (next m t w) k = branch (ruleOf atNodes 1) (nodesRow m (leaf (of At t) (nodeRow w nil))) k
+abbrev pub wordPiece : Word → Bit
+wordPiece (atomWord t) = bit word 0 (then Atom t nil)
+wordPiece (quotedWord t) = bit word 1 (then Quoted t nil)
+
+abbrev pub phrasePiece : Phrase → Bit
+phrasePiece (one w) = bit phrase 0 (put (wordPiece w) nil)
+phrasePiece (more p w) = bit phrase 1 (put (phrasePiece p) (put (wordPiece w) nil))
+
+abbrev pub nodePiece : Word → Bit
+nodePiece w = bit node 0 (put (wordPiece w) nil)
+
+abbrev pub nodesPiece : Nodes → Bit
+nodesPiece (first t w) = bit atNodes 0 (then At t (put (nodePiece w) nil))
+nodesPiece (next m t w) = bit atNodes 1 (put (nodesPiece m) (then At t (put (nodePiece w) nil)))
 
 abbrev mutual
-  pub placeRow : Place → Derivation → Derivation
-  placeRow empty k = branch (ruleOf place 0) nil k
-  placeRow (comma l t) k = branch (ruleOf place 1) (listRow l (leaf (of Comma t) nil)) k
+  pub placePiece : Place → Bit
+  placePiece empty = bit place 0 nil
+  placePiece (comma l t) = bit place 1 (put (listPiece l) (then Comma t nil))
 
-  pub listRow : AddressList → Derivation → Derivation
-  listRow (idle r) k = branch (ruleOf list 1) (placeRow r nil) k
-  listRow (full r a) k = branch (ruleOf list 0) (placeRow r (addressRow a nil)) k
+  pub listPiece : AddressList → Bit
+  listPiece (idle r) = bit list 1 (put (placePiece r) nil)
+  listPiece (full r a) = bit list 0 (put (placePiece r) (put (addressPiece a) nil))
 
-  pub addressRow : Address → Derivation → Derivation
-  addressRow (mailbox p m) k = branch (ruleOf address 0) (phraseRow p (nodesRow m nil)) k
-  addressRow (angle none t l u) k = branch (ruleOf address 2) (leaf (of LessThan t) (listRow l (leaf (of GreaterThan u) nil))) k
-  addressRow (angle (some p) t l u) k = branch (ruleOf address 1) (phraseRow p (leaf (of LessThan t) (listRow l (leaf (of GreaterThan u) nil)))) k
-  addressRow (group none t l u) k = branch (ruleOf address 4) (leaf (of Colon t) (listRow l (leaf (of Semicolon u) nil))) k
-  addressRow (group (some p) t l u) k = branch (ruleOf address 3) (phraseRow p (leaf (of Colon t) (listRow l (leaf (of Semicolon u) nil)))) k
-  addressRow (quoted t) k = branch (ruleOf address 5) (leaf (of Quoted t) nil) k
-  addressRow (typed t a u b) k = branch (ruleOf address 6) (leaf (of Colon t) (leaf (of Atom a) (leaf (of Colon u) (addressRow b nil)))) k
+  pub addressPiece : Address → Bit
+  addressPiece (mailbox p m) = bit address 0 (put (phrasePiece p) (put (nodesPiece m) nil))
+  addressPiece (angle none t l u) = bit address 2 (then LessThan t (put (listPiece l) (then GreaterThan u nil)))
+  addressPiece (angle (some p) t l u) = bit address 1 (put (phrasePiece p) (then LessThan t (put (listPiece l) (then GreaterThan u nil))))
+  addressPiece (group none t l u) = bit address 4 (then Colon t (put (listPiece l) (then Semicolon u nil)))
+  addressPiece (group (some p) t l u) = bit address 3 (put (phrasePiece p) (then Colon t (put (listPiece l) (then Semicolon u nil))))
+  addressPiece (quoted t) = bit address 5 (then Quoted t nil)
+  addressPiece (typed t a u b) = bit address 6 (then Colon t (then Atom a (then Colon u (put (addressPiece b) nil))))
 
 -- a tree as a derivation
 abbrev pub asRow : AddressList → Derivation
-asRow l = listRow l nil
+asRow l = put (listPiece l) nil

@@ -2,22 +2,11 @@
 use Prim.Native.Nat.{ℕ}
 use mathlib.Core.List.{[]}
 use lib.ListN.{getD}
-use Rattle.grammar.specs.Believed.Grammar.{Rule, Row, nil, leaf, branch}
+use Rattle.grammar.specs.Believed.Grammar.{Row, nil, leaf}
 use Rattle.grammar.specs.Believed.Rfc733.{plain}
 use Rattle.grammar.specs.Believed.Rfc822.{rulesOf, Notion, list, place, address, boxes, boxPlace, mailbox, routeAddr, addrSpec, route, hops, emptyPlaces, localPart, domain, subDomain, phrase, word}
+pub use Rattle.grammar.specs.Executable.Pieces.{Piece, piece, put}
 pub use Rattle.grammar.specs.Executable.Trees733.{Class, Atom, Quoted, At, LessThan, GreaterThan, Comma, Semicolon, Colon, Stray, Dot, Literal, Lexeme, Sym, of, Word, atomWord, quotedWord, Phrase, one, more}
-
--- a rule, and the row of its parts
-pub record Piece (C N : Type 0) : Type 0 where
-  pub rule : Rule C N
-  pub parts : Row C N
-
-abbrev pub piece : {C N : Type 0} → Rule C N → Row C N → Piece C N
-piece r p = record { rule = r; parts = p }
-
--- a piece before a row
-abbrev pub put : {C N : Type 0} → Piece C N → Row C N → Row C N
-put p k = branch (p .rule) (p .parts) k
 
 -- ---- trees
 

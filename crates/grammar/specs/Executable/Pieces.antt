@@ -1,0 +1,14 @@
+-- The executable layer: a derivation tree, over any grammar. Nothing here needs to be believed: what the verdict is `Decides` says, over the grammar alone.
+use Rattle.grammar.specs.Believed.Grammar.{Rule, Row, branch}
+
+-- a rule, and the row of its parts
+pub record Piece (C N : Type 0) : Type 0 where
+  pub rule : Rule C N
+  pub parts : Row C N
+
+abbrev pub piece : {C N : Type 0} → Rule C N → Row C N → Piece C N
+piece r p = record { rule = r; parts = p }
+
+-- a piece before a row
+abbrev pub put : {C N : Type 0} → Piece C N → Row C N → Row C N
+put p k = branch (p .rule) (p .parts) k
