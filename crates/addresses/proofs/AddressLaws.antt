@@ -13,11 +13,12 @@ use Rattle.scanner.specs.declared.Next.{Next}
 use Rattle.scanner.specs.declared.Next.the-variants.{Found, Ended, Fault}
 use Rattle.grammar.specs.Believed.Language.{unfit, unfinished, refused, number}
 use Rattle.grammar.specs.Believed.Records.{recordBy, recordBytes}
-use Rattle.grammar.specs.Executable.Trees733.{Class, Atom, Quoted, At, LessThan, GreaterThan, Comma, Semicolon, Colon, Stray, Dot, Literal, Lexeme, Sym, of, atomWord, quotedWord, Phrase, one, more, mailbox, quoted}
+use Rattle.grammar.specs.Executable.Trees733.{Class, At, GreaterThan, Comma, Semicolon, Lexeme, Sym, of, atomWord, quotedWord, Phrase, one, more, mailbox, quoted}
 use Rattle.grammar.proofs.Rfc733.Trees.{phraseThen}
-use Rattle.addresses.proofs.ClassCases.{BeginsNone}
+use Rattle.addresses.proofs.ClassCases.{beginsNone}
 use Rattle.grammar.specs.Executable.Machine733.{Here, phrase, firstAt, lone, levelsHere, run, judge}
 use Rattle.grammar.proofs.Rfc733.Complete.{begin, run-phrase, run-mailbox}
+use Rattle.grammar.proofs.Symbols.{each-of, each-other}
 use Rattle.grammar.proofs.Rfc733.Readers.{AddressEnds, endsAddress, at-unfit}
 use Rattle.addresses.specs.Ties.Steps.{endsAddressNext, refusedNext, loneQuoted, symbolsFrom, lexemeAt, symbolsAhead, Ahead, NodesEnd, Stops, NodesContext, AddressRead, AddressStops, AddressIs, Opened, Named, NoMark, followsPhrase, Lone}
 use Rattle.addresses.specs.declared.Frame.{Frame}
@@ -90,20 +91,14 @@ module _ (classes text : List ℕ) where
   -- a phrase with nothing behind it that goes on, and no lone quoted-string, or with something that fits no rule
   behind-phrase : (n : ℕ) (h : Here) (p : Phrase) (class : Class) (t : Lexeme) (ys : List Sym) → followsPhrase classes text class ≡ false → (loneQuoted p ≡ false) ⊎ (endsAddress class ≡ false)
       → judge (run n (phrase h p) (of class t ∷ ys)) ≡ refused unfit (of class t ∷ ys)
-  behind-phrase n h p Atom t ys f o = absurd (true≢false f)
-  behind-phrase n h p Quoted t ys f o = absurd (true≢false f)
-  behind-phrase n h p At t ys f o = absurd (true≢false f)
-  behind-phrase n h p LessThan t ys f o = absurd (true≢false f)
-  behind-phrase n h p GreaterThan t ys f (inl e) = rw (not-lone h p e)
-  behind-phrase n h p GreaterThan t ys f (inr e) = absurd (true≢false e)
-  behind-phrase n h p Comma t ys f (inl e) = rw (not-lone h p e)
-  behind-phrase n h p Comma t ys f (inr e) = absurd (true≢false e)
-  behind-phrase n h p Semicolon t ys f (inl e) = rw (not-lone h p e)
-  behind-phrase n h p Semicolon t ys f (inr e) = absurd (true≢false e)
-  behind-phrase n h p Colon t ys f o = absurd (true≢false f)
-  behind-phrase n h p Stray t ys f o = refl
-  behind-phrase n h p Dot t ys f o = refl
-  behind-phrase n h p Literal t ys f o = refl
+  behind-phrase n h p class t ys f o =
+      each-other (λ c. (loneQuoted p ≡ false) ⊎ (endsAddress c ≡ false) → judge (run n (phrase h p) (of c t ∷ ys)) ≡ refused unfit (of c t ∷ ys)) (followsPhrase classes text)
+      (ended GreaterThan refl (λ e. rw e), (ended Comma refl (λ e. rw e), (ended Semicolon refl (λ e. rw e), (λ o. refl, (λ o. refl, (λ o. refl, tt)))))) class f o
+    where
+      ended : (c : Class) → endsAddress c ≡ true → (lone h p ≡ none → judge (run n (phrase h p) (of c t ∷ ys)) ≡ refused unfit (of c t ∷ ys)) → (loneQuoted p ≡ false) ⊎ (endsAddress c ≡ false)
+          → judge (run n (phrase h p) (of c t ∷ ys)) ≡ refused unfit (of c t ∷ ys)
+      ended c y g (inl e) = g (not-lone h p e)
+      ended c y g (inr e) = absurd (true≢false (sym y ∙ e))
 
   end-phrase : (n : ℕ) (h : Here) (p : Phrase) → loneQuoted p ≡ false → judge (run n (phrase h p) []) ≡ refused unfinished []
   end-phrase n h p e = rw (not-lone h p e)
@@ -133,20 +128,11 @@ module _ (classes text : List ℕ) where
   -- ---- a symbol that begins no address
 
   -- "at", or what fits no rule
-  begins-none : (n : ℕ) (h : Here) (class : Class) (t : Lexeme) (ys : List Sym) → BeginsNone class → judge (run n (begin h) (of class t ∷ ys)) ≡ refused unfit (of class t ∷ ys)
-  begins-none n h Atom t ys o = absurd o
-  begins-none n h Quoted t ys o = absurd o
-  begins-none n h At t ys o = ap judge (at-unfit n t ys h)
-  begins-none n h LessThan t ys o = absurd o
-  begins-none n h GreaterThan t ys o = absurd o
-  begins-none n h Comma t ys o = absurd o
-  begins-none n h Semicolon t ys o = absurd o
-  begins-none n h Colon t ys o = absurd o
-  begins-none n h Stray t ys o = refl
-  begins-none n h Dot t ys o = refl
-  begins-none n h Literal t ys o = refl
+  begins-none : (n : ℕ) (h : Here) (class : Class) (t : Lexeme) (ys : List Sym) → beginsNone class ≡ true → judge (run n (begin h) (of class t ∷ ys)) ≡ refused unfit (of class t ∷ ys)
+  begins-none n h class t ys o =
+      each-of (λ c. judge (run n (begin h) (of c t ∷ ys)) ≡ refused unfit (of c t ∷ ys)) beginsNone (ap judge (at-unfit n t ys h), (refl, (refl, (refl, tt)))) class o
 
-  pub none-begins : (class : Class) (a b : ℕ) (frame : Frame) → BeginsNone class → AddressStops classes text (symbolsAhead classes text (Found class a b)) frame noListGoesOn a
+  pub none-begins : (class : Class) (a b : ℕ) (frame : Frame) → beginsNone class ≡ true → AddressStops classes text (symbolsAhead classes text (Found class a b)) frame noListGoesOn a
   none-begins class a b frame o =
       record {
         why = unfit;

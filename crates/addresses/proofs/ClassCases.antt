@@ -8,13 +8,14 @@ use mir.Val.{hasKey}
 use types.Run.{OneOf, miss}
 use denote.Enum.Declared.{tagOf}
 use Rattle.octets.proofs.Tables.{at}
+use Rattle.octets.specs.Believed.Choice.{either}
 use Rattle.octets.specs.Believed.Tests.{every}
 use Rattle.scanner.proofs.Class as class-declared
 use Rattle.scanner.proofs.Next as next-declared
 use Rattle.scanner.specs.declared.Next.{Next}
 use Rattle.scanner.specs.declared.Next.the-variants.{Found, Ended, Fault}
 use Rattle.grammar.proofs.Rfc733.Readers.{endsAddress}
-use Rattle.grammar.specs.Executable.Trees733.{Class, Atom, Quoted, At, LessThan, GreaterThan, Comma, Semicolon, Colon, Stray, Dot, Literal}
+use Rattle.grammar.specs.Executable.Trees733.{Class, Atom, Quoted, At, LessThan, GreaterThan, Comma, Semicolon, Colon, Stray, Dot, Literal, oneOf}
 
 -- a class's place in its declaration
 abbrev pub tag : Class → ℕ
@@ -49,7 +50,7 @@ by-class ks test t Stray o = of-key ks 8 (test Stray) (hasKey ks 8) refl (at (λ
 by-class ks test t Dot o = of-key ks 9 (test Dot) (hasKey ks 9) refl (at (λ n class. implies (hasKey ks n) (test class)) all Stray t 9 (lit< tt)) o
 by-class ks test t Literal o = of-key ks 10 (test Literal) (hasKey ks 10) refl (at (λ n class. implies (hasKey ks n) (test class)) all Stray t 10 (lit< tt)) o
 
-is-false : (b : Bool) → not b ≡ true → b ≡ false
+pub is-false : (b : Bool) → not b ≡ true → b ≡ false
 is-false true e = absurd (true≢false (sym e))
 is-false false e = refl
 
@@ -64,28 +65,8 @@ no-symbol f a e g Ended o = e
 no-symbol f a e g (Fault number p) o = g number p
 
 -- a class that begins no address and does not end one: "at", or what fits no rule
-abbrev pub BeginsNone : Class → Type 0
-BeginsNone Atom = ⊥
-BeginsNone Quoted = ⊥
-BeginsNone At = Unit {0}
-BeginsNone LessThan = ⊥
-BeginsNone GreaterThan = ⊥
-BeginsNone Comma = ⊥
-BeginsNone Semicolon = ⊥
-BeginsNone Colon = ⊥
-BeginsNone Stray = Unit {0}
-BeginsNone Dot = Unit {0}
-BeginsNone Literal = Unit {0}
+abbrev pub beginsNone : Class → Bool
+beginsNone c = oneOf (At ∷ Stray ∷ Dot ∷ Literal ∷ []) c
 
-pub at-or-stray : (class : Class) → OneOf (2 ∷ 4 ∷ 5 ∷ 6 ∷ 8 ∷ 9 ∷ 10 ∷ []) (tag class) → endsAddress class ≡ false → BeginsNone class
-at-or-stray Atom o e = absurd (miss (2 ∷ 4 ∷ 5 ∷ 6 ∷ 8 ∷ 9 ∷ 10 ∷ []) 0 tt o)
-at-or-stray Quoted o e = absurd (miss (2 ∷ 4 ∷ 5 ∷ 6 ∷ 8 ∷ 9 ∷ 10 ∷ []) 1 tt o)
-at-or-stray At o e = tt
-at-or-stray LessThan o e = absurd (miss (2 ∷ 4 ∷ 5 ∷ 6 ∷ 8 ∷ 9 ∷ 10 ∷ []) 3 tt o)
-at-or-stray GreaterThan o e = absurd (true≢false e)
-at-or-stray Comma o e = absurd (true≢false e)
-at-or-stray Semicolon o e = absurd (true≢false e)
-at-or-stray Colon o e = absurd (miss (2 ∷ 4 ∷ 5 ∷ 6 ∷ 8 ∷ 9 ∷ 10 ∷ []) 7 tt o)
-at-or-stray Stray o e = tt
-at-or-stray Dot o e = tt
-at-or-stray Literal o e = tt
+pub at-or-stray : (class : Class) → OneOf (2 ∷ 4 ∷ 5 ∷ 6 ∷ 8 ∷ 9 ∷ 10 ∷ []) (tag class) → endsAddress class ≡ false → beginsNone class ≡ true
+at-or-stray class o e = rw e at (by-class (2 ∷ 4 ∷ 5 ∷ 6 ∷ 8 ∷ 9 ∷ 10 ∷ []) (λ c. either (endsAddress c) (beginsNone c)) tt class o)

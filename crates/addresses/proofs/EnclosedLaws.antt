@@ -14,12 +14,12 @@ use Rattle.scanner.specs.declared.Next.the-variants.{Found, Ended, Fault}
 use Rattle.grammar.specs.Believed.Language.{unfit, unfinished, tooDeep, refused, number}
 use Rattle.grammar.specs.Believed.Records.{AddressRecord, recordBy, recordBytes, tableBytes}
 use Rattle.grammar.specs.Believed.Rfc733.{sameClass, kindNumber, typedKind}
-use Rattle.grammar.proofs.Symbols.{same-class}
-use Rattle.grammar.specs.Executable.Trees733.{Class, Atom, Quoted, At, LessThan, GreaterThan, Comma, Semicolon, Colon, Stray, Dot, Literal, Lexeme, Sym, of, Phrase, AddressList, empty, idle, angle, group, typed}
+use Rattle.grammar.proofs.Symbols.{same-class, each-of}
+use Rattle.grammar.specs.Executable.Trees733.{Class, Atom, GreaterThan, Semicolon, Colon, Lexeme, Sym, of, Phrase, AddressList, empty, idle, angle, group, typed}
 use Rattle.grammar.proofs.Rfc733.Trees.{nameThen, atomColon}
 use Rattle.grammar.specs.Executable.Machine733.{Here, inTyped, inAngle, inGroup, list, want, levelsHere, levelsAt, nameless, fresh, run, judge}
 use Rattle.grammar.proofs.Rfc733.Complete.{begin, doneAddress, doneList, Clear, complete-doneList, run-angle, run-group}
-use Rattle.grammar.proofs.Rfc733.Readers.{ListEnds, endsAddress, deep-angle, deep-group, closed-unfit, clear-colon, run-typed}
+use Rattle.grammar.proofs.Rfc733.Readers.{ListEnds, endsAddress, endsList, deep-angle, deep-group, closed-unfit, clear-colon, run-typed}
 use Rattle.grammar.proofs.Rfc733.TreeRecords.{nameStart, nameEnd, addressEnd, addressRecords, listRecords}
 use Rattle.grammar.proofs.RecordLaws.{stored-around}
 use Rattle.addresses.specs.Ties.Steps.{endsAddressNext, refusedNext, opening, closing, enclosureKind, levelIn, enclosed, House, symbolsFrom, lexemeAt, symbolAt, symbolsAhead, Standing, AddressRead, AddressStops, AddressIs, Opening, Opened, ListRead, ListStops, inner, TypedFirst}
@@ -64,19 +64,16 @@ run-close Group n h o t l u ys = rw (complete-doneList (inGroup h o t) l)
 -- any other mark that may stand behind a list
 run-other : (e : Enclosure) (n : ℕ) (h : Here) (o : Option Phrase) (t : Lexeme) (l : AddressList) (class : Class) (u : Lexeme) (ys : List Sym) → ListEnds (of class u ∷ ys) → sameClass (closing e) class ≡ false
     → judge (run n (doneList (levelIn e h o t) l) (of class u ∷ ys)) ≡ refused unfit (of class u ∷ ys)
-run-other e n h o t l Atom u ys v f = absurd (true≢false (sym v))
-run-other e n h o t l Quoted u ys v f = absurd (true≢false (sym v))
-run-other e n h o t l At u ys v f = absurd (true≢false (sym v))
-run-other e n h o t l LessThan u ys v f = absurd (true≢false (sym v))
-run-other Angle n h o t l GreaterThan u ys v f = absurd (true≢false f)
-run-other Group n h o t l GreaterThan u ys v f = rw (complete-doneList (inGroup h o t) l)
-run-other e n h o t l Comma u ys v f = absurd (true≢false (sym v))
-run-other Angle n h o t l Semicolon u ys v f = rw (complete-doneList (inAngle h o t) l)
-run-other Group n h o t l Semicolon u ys v f = absurd (true≢false f)
-run-other e n h o t l Colon u ys v f = absurd (true≢false (sym v))
-run-other e n h o t l Stray u ys v f = absurd (true≢false (sym v))
-run-other e n h o t l Dot u ys v f = absurd (true≢false (sym v))
-run-other e n h o t l Literal u ys v f = absurd (true≢false (sym v))
+run-other e n h o t l class u ys v f =
+    each-of (λ c. sameClass (closing e) c ≡ false → judge (run n (doneList (levelIn e h o t) l) (of c u ∷ ys)) ≡ refused unfit (of c u ∷ ys)) endsList (greater e, (semicolon e, tt)) class v f
+  where
+    greater : (e : Enclosure) → sameClass (closing e) GreaterThan ≡ false → judge (run n (doneList (levelIn e h o t) l) (of GreaterThan u ∷ ys)) ≡ refused unfit (of GreaterThan u ∷ ys)
+    greater Angle f = absurd (true≢false f)
+    greater Group f = rw (complete-doneList (inGroup h o t) l)
+
+    semicolon : (e : Enclosure) → sameClass (closing e) Semicolon ≡ false → judge (run n (doneList (levelIn e h o t) l) (of Semicolon u ∷ ys)) ≡ refused unfit (of Semicolon u ∷ ys)
+    semicolon Angle f = rw (complete-doneList (inAngle h o t) l)
+    semicolon Group f = absurd (true≢false f)
 
 run-unclosed : (e : Enclosure) (n : ℕ) (h : Here) (o : Option Phrase) (t : Lexeme) (l : AddressList) → judge (run n (doneList (levelIn e h o t) l) []) ≡ refused unfinished []
 run-unclosed Angle n h o t l = rw (complete-doneList (inAngle h o t) l)
@@ -269,17 +266,9 @@ module _ (classes text : List ℕ) where
           want-ends : (k : Class) → endsAddress k ≡ true → (h : Here)
               → judge (run (levelsHere (inTyped h first-colon the-atom (t .follows .colon)) + inner classes text frame .levels) (want h first-colon the-atom (t .follows .colon)) (of k (lexemeAt classes text class i j) ∷ symbolsFrom classes text j))
               ≡ refused unfit (of k (lexemeAt classes text class i j) ∷ symbolsFrom classes text j)
-          want-ends Atom e h = absurd (true≢false (sym e))
-          want-ends Quoted e h = absurd (true≢false (sym e))
-          want-ends At e h = absurd (true≢false (sym e))
-          want-ends LessThan e h = absurd (true≢false (sym e))
-          want-ends GreaterThan e h = refl
-          want-ends Comma e h = refl
-          want-ends Semicolon e h = refl
-          want-ends Colon e h = absurd (true≢false (sym e))
-          want-ends Stray e h = absurd (true≢false (sym e))
-          want-ends Dot e h = absurd (true≢false (sym e))
-          want-ends Literal e h = absurd (true≢false (sym e))
+          want-ends k e h =
+              each-of (λ c. judge (run (levelsHere (inTyped h first-colon the-atom (t .follows .colon)) + inner classes text frame .levels) (want h first-colon the-atom (t .follows .colon)) (of c (lexemeAt classes text class i j) ∷ symbolsFrom classes text j))
+              ≡ refused unfit (of c (lexemeAt classes text class i j) ∷ symbolsFrom classes text j)) endsAddress (refl, (refl, (refl, tt))) k e
       typed-wanted Ended x start′ table after f =
           record {
             why = unfinished;

@@ -1,37 +1,30 @@
 -- An address that begins with a phrase. Assumes nothing.
-use mathlib.Core.Path.{_≡_, refl, sym, ap, _∙_}
-use mathlib.Core.Bool.{Bool, false, true≢false}
+use mathlib.Core.Path.{_≡_, sym, ap, _∙_}
+use mathlib.Core.Bool.{not, Bool, false}
 use mathlib.Core.List.{List, [], _∷_}
 use mathlib.Core.Option.{some}
 use Prim.Native.Nat.{ℕ}
 use types.Run.{OneOf, miss}
 use denote.Enum.Declared.{tagOf}
 use Rattle.scanner.proofs.Next as next-declared
+use Rattle.octets.specs.Believed.Choice.{either}
 use Rattle.scanner.specs.declared.Next.{Next}
 use Rattle.scanner.specs.declared.Next.the-variants.{Found, Ended, Fault}
-use Rattle.grammar.specs.Executable.Trees733.{Class, Atom, Quoted, At, LessThan, GreaterThan, Comma, Semicolon, Colon, Stray, Dot, Literal, Lexeme, Sym, Phrase, one}
+use Rattle.grammar.specs.Executable.Trees733.{Class, Lexeme, Sym, Phrase, one}
 use Rattle.grammar.proofs.Rfc733.Trees.{phraseThen}
 use Rattle.addresses.specs.Ties.Steps.{isWord, isQuoted, followsPhrase, loneQuoted, opening, House, symbolsFrom, lexemeAt, symbolsAhead, Ahead, FirstWord, WordsIs, NoMark, Named, Opening}
 use Rattle.addresses.specs.declared.Words.{Words}
 use Rattle.grammar.specs.declared.Span.{Span}
 use Rattle.addresses.specs.declared.Enclosure.{Enclosure}
 use Rattle.addresses.specs.declared.Enclosure.the-variants.{Angle, Group}
-use Rattle.addresses.proofs.ClassCases.{tag}
+use Rattle.addresses.proofs.ClassCases.{tag, by-class, is-false}
 use Rattle.addresses.proofs.PhraseLaws.{wordOf, word-symbol, word-lexeme, word-lone}
 
 -- a symbol behind a phrase that is no word and none of the marks of an address
 pub no-mark-found : (classes text : List ℕ) (class : Class) → OneOf (0 ∷ 1 ∷ 4 ∷ 5 ∷ 6 ∷ 8 ∷ 9 ∷ 10 ∷ []) (tag class) → isWord class ≡ false → followsPhrase classes text class ≡ false
-no-mark-found classes text Atom o e = absurd (true≢false e)
-no-mark-found classes text Quoted o e = absurd (true≢false e)
-no-mark-found classes text At o e = absurd (miss (0 ∷ 1 ∷ 4 ∷ 5 ∷ 6 ∷ 8 ∷ 9 ∷ 10 ∷ []) 2 tt o)
-no-mark-found classes text LessThan o e = absurd (miss (0 ∷ 1 ∷ 4 ∷ 5 ∷ 6 ∷ 8 ∷ 9 ∷ 10 ∷ []) 3 tt o)
-no-mark-found classes text GreaterThan o e = refl
-no-mark-found classes text Comma o e = refl
-no-mark-found classes text Semicolon o e = refl
-no-mark-found classes text Colon o e = absurd (miss (0 ∷ 1 ∷ 4 ∷ 5 ∷ 6 ∷ 8 ∷ 9 ∷ 10 ∷ []) 7 tt o)
-no-mark-found classes text Stray o e = refl
-no-mark-found classes text Dot o e = refl
-no-mark-found classes text Literal o e = refl
+no-mark-found classes text class o e =
+    let b = by-class (0 ∷ 1 ∷ 4 ∷ 5 ∷ 6 ∷ 8 ∷ 9 ∷ 10 ∷ []) (λ c. either (isWord c) (not (followsPhrase classes text c))) tt class o in
+    is-false (followsPhrase classes text class) (rw e at b)
 
 module _ (classes text : List ℕ) where
   pub no-mark-left : (low : ℕ) (r : Next) → Ahead classes text low r → OneOf (1 ∷ 2 ∷ []) (tagOf next-declared.the-type r) → NoMark classes text r

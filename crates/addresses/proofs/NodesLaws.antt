@@ -1,6 +1,6 @@
 -- The nodes of a mailbox, one by one. Assumes nothing.
 use mathlib.Core.Path.{_≡_, refl, sym, ap, _∙_}
-use mathlib.Core.Bool.{Bool, true, false, true≢false}
+use mathlib.Core.Bool.{Bool, true, false}
 use mathlib.Core.List.{List, [], _∷_}
 use Prim.Native.Nat.{ℕ, _≤_, _<_}
 use native.Mathlib.Omega.{arith}
@@ -9,10 +9,11 @@ use Rattle.octets.specs.Believed.Numbers.{noListGoesOn, endsTooSoon}
 use Rattle.scanner.specs.declared.Next.{Next}
 use Rattle.scanner.specs.declared.Next.the-variants.{Found}
 use Rattle.grammar.specs.Believed.Language.{unfit, unfinished, refused}
-use Rattle.grammar.specs.Executable.Trees733.{Class, Atom, Quoted, At, LessThan, GreaterThan, Comma, Semicolon, Colon, Stray, Dot, Literal, Lexeme, Sym, of, oneOf, Word, Phrase, Nodes, first, next}
+use Rattle.grammar.specs.Executable.Trees733.{Class, At, GreaterThan, Comma, Semicolon, Lexeme, Sym, of, oneOf, Word, Phrase, Nodes, first, next}
 use Rattle.grammar.proofs.Rfc733.Trees.{wordSymbol, nodesThen}
 use Rattle.grammar.specs.Executable.Machine733.{Here, State, firstAt, nextAt, node, run, judge}
 use Rattle.grammar.proofs.Rfc733.Complete.{run-word}
+use Rattle.grammar.proofs.Symbols.{each-other}
 use Rattle.grammar.proofs.Rfc733.Readers.{AddressEnds}
 use Rattle.grammar.proofs.Rfc733.TreeRecords.{wordLexeme, nodesEnd}
 use Rattle.addresses.specs.Ties.Steps.{isWord, symbolsFrom, lexemeAt, symbolAt, symbolsAhead, Faultless, Standing, NodesEnd, Stops, NodesContext}
@@ -51,26 +52,10 @@ run-node n h p (next-open m t) w xs = run-word n (nextAt h p m t) w xs
 
 -- .. and nothing else there
 no-node : (n : ℕ) (h : Here) (p : Phrase) (o : OpenNodes) (class : Class) (t : Lexeme) (xs : List Sym) → isWord class ≡ false → judge (run n (openState h p o) (of class t ∷ xs)) ≡ refused unfit (of class t ∷ xs)
-no-node n h p o Atom t xs e = absurd (true≢false e)
-no-node n h p o Quoted t xs e = absurd (true≢false e)
-no-node n h p (first-open u) At t xs e = refl
-no-node n h p (next-open m u) At t xs e = refl
-no-node n h p (first-open u) LessThan t xs e = refl
-no-node n h p (next-open m u) LessThan t xs e = refl
-no-node n h p (first-open u) GreaterThan t xs e = refl
-no-node n h p (next-open m u) GreaterThan t xs e = refl
-no-node n h p (first-open u) Comma t xs e = refl
-no-node n h p (next-open m u) Comma t xs e = refl
-no-node n h p (first-open u) Semicolon t xs e = refl
-no-node n h p (next-open m u) Semicolon t xs e = refl
-no-node n h p (first-open u) Colon t xs e = refl
-no-node n h p (next-open m u) Colon t xs e = refl
-no-node n h p (first-open u) Stray t xs e = refl
-no-node n h p (first-open u) Dot t xs e = refl
-no-node n h p (first-open u) Literal t xs e = refl
-no-node n h p (next-open m u) Stray t xs e = refl
-no-node n h p (next-open m u) Dot t xs e = refl
-no-node n h p (next-open m u) Literal t xs e = refl
+no-node n h p (first-open u) class t xs e =
+    each-other (λ c. judge (run n (openState h p (first-open u)) (of c t ∷ xs)) ≡ refused unfit (of c t ∷ xs)) isWord (refl, (refl, (refl, (refl, (refl, (refl, (refl, (refl, (refl, tt))))))))) class e
+no-node n h p (next-open m u) class t xs e =
+    each-other (λ c. judge (run n (openState h p (next-open m u)) (of c t ∷ xs)) ≡ refused unfit (of c t ∷ xs)) isWord (refl, (refl, (refl, (refl, (refl, (refl, (refl, (refl, (refl, tt))))))))) class e
 
 node-wanted : (n : ℕ) (h : Here) (p : Phrase) (o : OpenNodes) → judge (run n (openState h p o) []) ≡ refused unfinished []
 node-wanted n h p (first-open t) = refl
@@ -81,17 +66,8 @@ abbrev pub followsNode : Class → Bool
 followsNode c = oneOf (At ∷ GreaterThan ∷ Comma ∷ Semicolon ∷ []) c
 
 behind-node : (n : ℕ) (h : Here) (p : Phrase) (m : Nodes) (class : Class) (t : Lexeme) (xs : List Sym) → followsNode class ≡ false → judge (run n (node h p m) (of class t ∷ xs)) ≡ refused unfit (of class t ∷ xs)
-behind-node n h p m Atom t xs e = refl
-behind-node n h p m Quoted t xs e = refl
-behind-node n h p m At t xs e = absurd (true≢false e)
-behind-node n h p m LessThan t xs e = refl
-behind-node n h p m GreaterThan t xs e = absurd (true≢false e)
-behind-node n h p m Comma t xs e = absurd (true≢false e)
-behind-node n h p m Semicolon t xs e = absurd (true≢false e)
-behind-node n h p m Colon t xs e = refl
-behind-node n h p m Stray t xs e = refl
-behind-node n h p m Dot t xs e = refl
-behind-node n h p m Literal t xs e = refl
+behind-node n h p m class t xs e =
+    each-other (λ c. judge (run n (node h p m) (of c t ∷ xs)) ≡ refused unfit (of c t ∷ xs)) followsNode (refl, (refl, (refl, (refl, (refl, (refl, (refl, tt))))))) class e
 
 -- the next "at" opens again
 abbrev again : Nodes → Lexeme → OpenNodes

@@ -1,7 +1,7 @@
 -- A phrase, word by word. Assumes nothing.
 use mathlib.Core.Path.{_≡_, refl, sym, ap, _∙_}
 use mathlib.Core.Bool.{Bool, true, false}
-use mathlib.Core.List.{List, [], _∷_, List·Memᴰ, List·Memᴰ·head as here, List·Memᴰ·tail as there}
+use mathlib.Core.List.{List, _∷_}
 use Prim.Native.Nat.{ℕ, _≤_}
 use native.Mathlib.Omega.{arith}
 use lib.ListN.{length}
@@ -9,8 +9,8 @@ use Rattle.octets.specs.Believed.Choice.{pick}
 use Rattle.scanner.specs.declared.Next.{Next}
 use Rattle.scanner.specs.declared.Next.the-variants.{Found}
 use Rattle.grammar.specs.Believed.Rfc733.{sameClass}
-use Rattle.grammar.proofs.Symbols.{one-of}
-use Rattle.grammar.specs.Executable.Trees733.{Class, Atom, Quoted, Lexeme, Sym, of, Word, atomWord, quotedWord, Phrase, one, more}
+use Rattle.grammar.proofs.Symbols.{each-of}
+use Rattle.grammar.specs.Executable.Trees733.{Class, Quoted, Lexeme, Sym, of, Word, atomWord, quotedWord, Phrase, one, more}
 use Rattle.grammar.proofs.Rfc733.Trees.{wordSymbol, phraseThen}
 use Rattle.grammar.proofs.Rfc733.TreeRecords.{wordLexeme, phraseStart, phraseEnd}
 use Rattle.addresses.specs.Ties.Steps.{isWord, isQuoted, loneQuoted, symbolsFrom, lexemeAt, symbolsAhead, Faultless, Reached, NoWord, WordsIs}
@@ -21,11 +21,7 @@ abbrev pub wordOf : Class → Lexeme → Word
 wordOf c t = pick (sameClass Quoted c) (quotedWord t) (atomWord t)
 
 pub word-symbol : (class : Class) (t : Lexeme) → isWord class ≡ true → wordSymbol (wordOf class t) ≡ of class t
-word-symbol class t e = by (one-of (Atom ∷ Quoted ∷ []) class e)
-  where
-    by : List·Memᴰ class (Atom ∷ Quoted ∷ []) → wordSymbol (wordOf class t) ≡ of class t
-    by (here q) = rw q
-    by (there (here q)) = rw q
+word-symbol class t e = each-of (λ c. wordSymbol (wordOf c t) ≡ of c t) isWord (refl, (refl, tt)) class e
 
 pub word-lexeme : (class : Class) (t : Lexeme) → wordLexeme (wordOf class t) ≡ t
 word-lexeme class t = by (sameClass Quoted class)

@@ -1,6 +1,5 @@
 -- A whole body: the verdict, and what follows from it for the answer and the table. Assumes nothing.
 use mathlib.Core.Path.{_≡_, refl, sym, ap, _∙_}
-use mathlib.Core.Bool.{true≢false}
 use mathlib.Core.List.{List, [], _∷_}
 use Prim.Native.Nat.{ℕ, _≤_}
 use native.Mathlib.Nat.{zero-add}
@@ -17,9 +16,10 @@ use Rattle.grammar.specs.Believed.Language.{unfit, accepted, refused}
 use Rattle.grammar.specs.Believed.Records.{count, tableBytes}
 use Rattle.grammar.specs.Executable.Machine733.{asRows, answer, top, run, judge}
 use Rattle.grammar.proofs.Rfc733.Condition3.{decides}
-use Rattle.grammar.specs.Executable.Trees733.{asRow, Class, Atom, Quoted, At, LessThan, GreaterThan, Comma, Semicolon, Colon, Stray, Dot, Literal, Lexeme, Sym, of, AddressList}
+use Rattle.grammar.specs.Executable.Trees733.{asRow, Class, Lexeme, Sym, of, AddressList}
 use Rattle.grammar.proofs.Rfc733.Complete.{doneList, complete-doneList}
-use Rattle.grammar.proofs.Rfc733.Readers.{ListEnds}
+use Rattle.grammar.proofs.Symbols.{each-of}
+use Rattle.grammar.proofs.Rfc733.Readers.{ListEnds, endsList}
 use Rattle.grammar.proofs.Rfc733.TreeRecords.{tree-records, tree-count}
 use Rattle.addresses.specs.Believed.Editions.{edition733}
 use Rattle.addresses.specs.Believed.Outcome.{Outcome, AnsweredBy, outcome}
@@ -40,17 +40,8 @@ at-the-end limit l = rw (complete-doneList top l)
 
 -- a closing mark closes nothing there
 not-closed : (limit : ℕ) (l : AddressList) (class : Class) (u : Lexeme) (ys : List Sym) → ListEnds (of class u ∷ ys) → judge (run limit (doneList top l) (of class u ∷ ys)) ≡ refused unfit (of class u ∷ ys)
-not-closed limit l Atom u ys v = absurd (true≢false (sym v))
-not-closed limit l Quoted u ys v = absurd (true≢false (sym v))
-not-closed limit l At u ys v = absurd (true≢false (sym v))
-not-closed limit l LessThan u ys v = absurd (true≢false (sym v))
-not-closed limit l GreaterThan u ys v = rw (complete-doneList top l)
-not-closed limit l Comma u ys v = absurd (true≢false (sym v))
-not-closed limit l Semicolon u ys v = rw (complete-doneList top l)
-not-closed limit l Colon u ys v = absurd (true≢false (sym v))
-not-closed limit l Stray u ys v = absurd (true≢false (sym v))
-not-closed limit l Dot u ys v = absurd (true≢false (sym v))
-not-closed limit l Literal u ys v = absurd (true≢false (sym v))
+not-closed limit l class u ys v =
+    each-of (λ c. judge (run limit (doneList top l) (of c u ∷ ys)) ≡ refused unfit (of c u ∷ ys)) endsList (rw (complete-doneList top l), (rw (complete-doneList top l), tt)) class v
 
 module _ (classes text : List ℕ) where
   -- of a list from a position on, with so many levels

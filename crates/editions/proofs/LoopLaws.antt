@@ -7,7 +7,7 @@ use mathlib.Core.List.{List, [], _∷_}
 use mathlib.Core.Option.{none, some}
 use lib.ListN.{length}
 use lib.Seq.{sets, length-sets}
-use types.Run.{OneOf, miss}
+use types.Run.{OneOf}
 use borrow.Author.Tests.{eq-eqb, ne-eqb}
 use Rattle.octets.specs.Believed.Choice.{both}
 use Rattle.octets.specs.Believed.Numbers.{levelLimit, endsTooSoon, noListGoesOn}
@@ -15,13 +15,14 @@ use Rattle.scanner.specs.declared.Next.the-variants.{Found}
 use Rattle.grammar.specs.Believed.Language.{unfit, unfinished}
 use Rattle.grammar.specs.Believed.Records.{AddressRecord, tableBytes}
 use Rattle.grammar.proofs.Any.Records.{length-records}
-use Rattle.grammar.specs.Executable.Trees733.{Class, Atom, Quoted, At, LessThan, GreaterThan, Comma, Semicolon, Colon, Stray, Dot, Literal, Sym, of}
+use Rattle.grammar.specs.Executable.Trees733.{Class, Atom, At, Sym, of}
+use Rattle.grammar.specs.Believed.Rfc733.{sameClass}
 use Rattle.grammar.specs.Executable.Machine822.{start}
 use Rattle.grammar.proofs.Rfc822.Condition3.{decides}
 use Rattle.addresses.specs.Believed.Editions.{classIn822, takenIn822}
 use Rattle.addresses.specs.Ties.Steps.{symbolsFrom, lexemeAt, Faultless}
 use Rattle.addresses.specs.Ties.Whole.{IsListed, IsRefused}
-use Rattle.addresses.proofs.ClassCases.{tag}
+use Rattle.addresses.proofs.ClassCases.{tag, by-class-not}
 use Rattle.addresses.proofs.NextLaws.{NextIs}
 use Rattle.editions.specs.Believed.Outcome.{verdict822}
 use Rattle.editions.specs.Ties.Places.{Walked, stepFrom, ends, stops, walkFrom, endsAt, noGroup}
@@ -116,14 +117,4 @@ pub at-atom : (class : Class) (s e : ℕ) → class ≡ At → (e ≡ s + 1 → 
 at-atom class s e h k = rw (h, ne-eqb e (s + 1) k)
 
 pub other-class : (class : Class) (s e : ℕ) → OneOf (0 ∷ 1 ∷ 3 ∷ 4 ∷ 5 ∷ 6 ∷ 7 ∷ 8 ∷ 9 ∷ 10 ∷ []) (tag class) → class ≡ classIn822 class s e
-other-class Atom s e o = refl
-other-class Quoted s e o = refl
-other-class At s e o = absurd (miss (0 ∷ 1 ∷ 3 ∷ 4 ∷ 5 ∷ 6 ∷ 7 ∷ 8 ∷ 9 ∷ 10 ∷ []) 2 tt o)
-other-class LessThan s e o = refl
-other-class GreaterThan s e o = refl
-other-class Comma s e o = refl
-other-class Semicolon s e o = refl
-other-class Colon s e o = refl
-other-class Stray s e o = refl
-other-class Dot s e o = refl
-other-class Literal s e o = refl
+other-class class s e o = rw (by-class-not (0 ∷ 1 ∷ 3 ∷ 4 ∷ 5 ∷ 6 ∷ 7 ∷ 8 ∷ 9 ∷ 10 ∷ []) (sameClass At) tt class o)

@@ -9,10 +9,11 @@ use lib.Seq.{sets}
 use Rattle.octets.specs.Believed.Choice.{pick}
 use Rattle.octets.specs.Ties.Writing.{Wrote}
 use Rattle.grammar.specs.Believed.Rfc733.{sameClass}
+use Rattle.grammar.proofs.Symbols.{each-of}
 use Rattle.scanner.specs.Believed.Scanning.{scanBy, symbol}
 use Rattle.scanner.specs.Believed.Answers.{nextOf}
 use Rattle.scanner.specs.declared.Class.{Class}
-use Rattle.scanner.specs.declared.Class.the-variants.{Atom, Quoted, At, LessThan, GreaterThan, Comma, Semicolon, Colon, Stray, Dot, Literal}
+use Rattle.scanner.specs.declared.Class.the-variants.{Colon}
 use Rattle.scanner.specs.declared.Next.{Next}
 use Rattle.scanner.specs.declared.Next.the-variants.{Found}
 use Rattle.scanner.specs.Ties.Meanings.{meaningAt}
@@ -29,30 +30,18 @@ use Rattle.expansion.proofs.SeekSteps.{no-symbols, next-symbol}
 
 -- where an address ends no ":" stands
 colon-by : (x : Sym) (xs : List Sym) (c : Class) → colonNext (pick (ends c) [] (x ∷ xs)) ≡ pick (ends c) false (sameClass Colon (x .class))
-colon-by x xs Atom = refl
-colon-by x xs Quoted = refl
-colon-by x xs At = refl
-colon-by x xs LessThan = refl
-colon-by x xs GreaterThan = refl
-colon-by x xs Comma = refl
-colon-by x xs Semicolon = refl
-colon-by x xs Colon = refl
-colon-by x xs Stray = refl
-colon-by x xs Dot = refl
-colon-by x xs Literal = refl
+colon-by x xs c = by (ends c)
+  where
+    by : (b : Bool) → colonNext (pick b [] (x ∷ xs)) ≡ pick b false (sameClass Colon (x .class))
+    by true = refl
+    by false = refl
 
 colon-class : (c : Class) → pick (ends c) false (sameClass Colon c) ≡ sameClass Colon c
-colon-class Atom = refl
-colon-class Quoted = refl
-colon-class At = refl
-colon-class LessThan = refl
-colon-class GreaterThan = refl
-colon-class Comma = refl
-colon-class Semicolon = refl
-colon-class Colon = refl
-colon-class Stray = refl
-colon-class Dot = refl
-colon-class Literal = refl
+colon-class c = by (ends c) refl
+  where
+    by : (b : Bool) → ends c ≡ b → pick b false (sameClass Colon c) ≡ sameClass Colon c
+    by true e = each-of (λ d. false ≡ sameClass Colon d) ends (refl, (refl, (refl, tt))) c e
+    by false e = refl
 
 until-colon : (xs : List Sym) → colonNext (untilEnd xs) ≡ colonNext xs
 until-colon [] = refl

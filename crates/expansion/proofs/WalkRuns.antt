@@ -7,13 +7,13 @@ use mathlib.Core.List.{List, [], _∷_}
 use mathlib.Core.Option.{Option, none, some}
 use lib.ListN.{length}
 use Rattle.octets.specs.Believed.Choice.{pick}
+use Rattle.grammar.proofs.Symbols.{each-of}
 use Rattle.octets.specs.Believed.Classes.{classTable}
 use Rattle.octets.specs.Believed.Numbers.{messageLimit, levelLimit, openingLimit, storeRecordSize, leadsNowhere}
 use Rattle.octets.proofs.Writes.{wrote-both}
 use Rattle.scanner.specs.Believed.Scanning.{scan, scanBy, symbolsOf}
 use Rattle.scanner.specs.Believed.Answers.{nextOf}
 use Rattle.scanner.specs.declared.Class.{Class}
-use Rattle.scanner.specs.declared.Class.the-variants.{Atom, Quoted, At, LessThan, GreaterThan, Comma, Semicolon, Colon, Stray, Dot, Literal}
 use Rattle.scanner.specs.declared.Next.{Next}
 use Rattle.scanner.specs.declared.Next.the-variants.{Found, Ended, Fault}
 use Rattle.scanner.specs.Ties.Meanings.{meaningAt}
@@ -51,17 +51,7 @@ onward-then {c = c} x y =
 
 -- where an address ends no Include begins
 no-include : (c : Class) (place : Place) (xs : List Sym) → ends c ≡ true → includeHere c place xs ≡ false
-no-include Atom place xs e = refl
-no-include Quoted place xs e = refl
-no-include At place xs e = refl
-no-include LessThan place xs e = refl
-no-include GreaterThan place xs e = refl
-no-include Comma place xs e = refl
-no-include Semicolon place xs e = refl
-no-include Colon place xs e = absurd (let o : _≡_ {A = ℕ} 0 1 = cc in omega arith)
-no-include Stray place xs e = refl
-no-include Dot place xs e = refl
-no-include Literal place xs e = refl
+no-include c place xs e = each-of (λ d. includeHere d place xs ≡ false) ends (refl, (refl, (refl, tt))) c e
 
 outside : (inner e : Bool) → pick inner false e ≡ true → e ≡ true
 outside true e h = absurd (let o : _≡_ {A = ℕ} 0 1 = cc in omega arith)

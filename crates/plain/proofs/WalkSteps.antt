@@ -13,6 +13,7 @@ use Rattle.octets.proofs.Writes.{wrote-nothing, wrote-both}
 use Rattle.scanner.proofs.Class.{the-type as class-type}
 use Rattle.scanner.proofs.Next.{the-type as next-type}
 use Rattle.grammar.specs.Believed.Rfc733.{sameClass}
+use Rattle.addresses.proofs.ClassCases.{by-class-not}
 use Rattle.scanner.specs.Believed.Scanning.{Scanned, ended, next, faultAt, symbolsOf, scanBy}
 use Rattle.scanner.specs.Believed.Answers.{nextOf}
 use Rattle.scanner.specs.declared.Class.{Class}
@@ -37,17 +38,7 @@ colon-of (faultAt number p) = refl
 
 -- a class that is not ":"
 pub not-colon : (class : Class) → OneOf (0 ∷ 1 ∷ 2 ∷ 3 ∷ 4 ∷ 5 ∷ 6 ∷ 8 ∷ 9 ∷ 10 ∷ []) (tagOf class-type class) → false ≡ sameClass Colon class
-not-colon Atom o = refl
-not-colon Quoted o = refl
-not-colon At o = refl
-not-colon LessThan o = refl
-not-colon GreaterThan o = refl
-not-colon Comma o = refl
-not-colon Semicolon o = refl
-not-colon Colon o = absurd (miss (0 ∷ 1 ∷ 2 ∷ 3 ∷ 4 ∷ 5 ∷ 6 ∷ 8 ∷ 9 ∷ 10 ∷ []) 7 tt o)
-not-colon Stray o = refl
-not-colon Dot o = refl
-not-colon Literal o = refl
+not-colon class o = sym (by-class-not (0 ∷ 1 ∷ 2 ∷ 3 ∷ 4 ∷ 5 ∷ 6 ∷ 8 ∷ 9 ∷ 10 ∷ []) (sameClass Colon) tt class o)
 
 -- what fits no rule is not written, and the place stays
 pub unwritten : (class : Class) → OneOf (8 ∷ 9 ∷ 10 ∷ []) (tagOf class-type class) → (meaning : List ℕ) (place : Place) (colon : Bool) (out : List ℕ) (n : ℕ)

@@ -8,7 +8,7 @@ use Rattle.octets.specs.Believed.Classes.{classTable, classTable822}
 use Rattle.scanner.specs.Believed.Symbols.{Symbol}
 use Rattle.scanner.specs.Believed.Scanning.{scanBy, symbolsOf}
 use Rattle.scanner.specs.declared.Class.{Class}
-use Rattle.scanner.specs.declared.Class.the-variants.{Atom, Quoted, At, LessThan, GreaterThan, Comma, Semicolon, Colon, Stray, Dot, Literal}
+use Rattle.scanner.specs.declared.Class.the-variants.{Atom, At}
 use Rattle.grammar.specs.Believed.Grammar.{Grammar}
 use Rattle.grammar.specs.Believed.Rfc733 as of733
 use Rattle.grammar.specs.Believed.Rfc822 as of822
@@ -36,17 +36,7 @@ bodySymbols message start end = symbolsIn edition733 message start end
 
 -- RFC 822 has no rule of its own for the atom "at", which is an atom as any other; it has two bytes, and "@" one
 abbrev pub classIn822 : Class → ℕ → ℕ → Class
-classIn822 Atom start end = Atom
-classIn822 Quoted start end = Quoted
-classIn822 At start end = pick (eqb end (start + 1)) At Atom
-classIn822 LessThan start end = LessThan
-classIn822 GreaterThan start end = GreaterThan
-classIn822 Comma start end = Comma
-classIn822 Semicolon start end = Semicolon
-classIn822 Colon start end = Colon
-classIn822 Stray start end = Stray
-classIn822 Dot start end = Dot
-classIn822 Literal start end = Literal
+classIn822 class start end = pick (of733.sameClass At class) (pick (eqb end (start + 1)) At Atom) class
 
 abbrev pub takenIn822 : List (Symbol Class) → List (Symbol Class)
 takenIn822 [] = []

@@ -16,6 +16,7 @@ use Rattle.scanner.specs.declared.Class.{Class}
 use Rattle.scanner.specs.declared.Class.the-variants.{Atom, Quoted, At, LessThan, GreaterThan, Comma, Semicolon, Colon, Stray, Dot, Literal}
 use Rattle.grammar.specs.Believed.Grammar.{levels, begins}
 use Rattle.grammar.specs.Believed.Rfc733.{sameClass}
+use Rattle.grammar.specs.Executable.Trees733.{oneOf}
 use Rattle.plain.specs.Ties.Walking.{symbolText, after, afterAtom, afterComma, colonNext, walkText}
 use Rattle.plain.specs.declared.places.Place.{Place}
 use Rattle.plain.specs.declared.places.Place.the-variants.{Start, Bare, BareComma, Named, Typing, Word, Node, Closed, Parted}
@@ -95,17 +96,7 @@ levelsAfter Literal place colon s = s
 
 -- an address in a list ends before these
 abbrev pub ends : Class → Bool
-ends Atom = false
-ends Quoted = false
-ends At = false
-ends LessThan = false
-ends GreaterThan = true
-ends Comma = true
-ends Semicolon = true
-ends Colon = false
-ends Stray = false
-ends Dot = false
-ends Literal = false
+ends c = oneOf (GreaterThan ∷ Comma ∷ Semicolon ∷ []) c
 
 -- symbols up to the end of an address
 abbrev pub untilEnd : List Sym → List Sym

@@ -7,10 +7,10 @@ use lib.Dec.{eqb}
 use Rattle.octets.specs.Believed.Choice.{pick}
 use Rattle.scanner.specs.Believed.Symbols.{Symbol}
 use Rattle.scanner.specs.declared.Class.{Class}
-use Rattle.scanner.specs.declared.Class.the-variants.{Atom, Quoted, At, LessThan, GreaterThan, Comma, Semicolon, Colon, Stray, Dot, Literal}
+use Rattle.scanner.specs.declared.Class.the-variants.{Atom, Quoted}
 use Rattle.grammar.specs.Believed.Grammar.{Makes, nil, leaf, branch}
 use Rattle.grammar.specs.Believed.Records.{meaningOf, partOf, nameOf}
-use Rattle.grammar.specs.Believed.Rfc733.{Derivation, kindNumber, mailbox}
+use Rattle.grammar.specs.Believed.Rfc733.{sameClass, Derivation, kindNumber, mailbox}
 
 -- a word by its meaning: an atom and a quoted-string are never the same word
 pub data Word : Type 0 where
@@ -35,17 +35,7 @@ mutual
 
 -- words, and then a symbol if it is one
 abbrev pub andSymbol : Words → Class → List ℕ → Words
-andSymbol before Atom meaning = andWord before (atom meaning)
-andSymbol before Quoted meaning = andWord before (quotedString meaning)
-andSymbol before At meaning = before
-andSymbol before LessThan meaning = before
-andSymbol before GreaterThan meaning = before
-andSymbol before Comma meaning = before
-andSymbol before Semicolon meaning = before
-andSymbol before Colon meaning = before
-andSymbol before Stray meaning = before
-andSymbol before Dot meaning = before
-andSymbol before Literal meaning = before
+andSymbol before class meaning = pick (sameClass Atom class) (andWord before (atom meaning)) (pick (sameClass Quoted class) (andWord before (quotedString meaning)) before)
 
 -- words, and then those among symbols
 abbrev pub wordsAfter : Words → List (Symbol Class) → Words
