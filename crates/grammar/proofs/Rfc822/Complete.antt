@@ -309,4 +309,4 @@ ending n (closed r a) = ending-closed n r a
 -- ---- the machine of RFC 822
 
 pub machine : Machine DerivedList (λ k. 0) step finish start
-machine = any.machine sameClass same-class arrows stateThen kept DerivedList finish start (λ xs. refl) gives complete-read ending
+machine = any.machine sameClass same-class arrows stateThen DerivedList finish start kept (λ xs. refl) gives complete-read ending

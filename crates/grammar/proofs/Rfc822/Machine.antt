@@ -3,7 +3,8 @@ use mathlib.Core.Path.{refl}
 use mathlib.Core.List.{List, [], _∷_}
 use Rattle.grammar.specs.Executable.Trees822.{At, LessThan, Comma, Colon, Dot, Sym, of, spec, Mailbox, bare, idle, full, box, wordPiece, phrasePiece, domainPiece, localPiece, emptiesPiece, hopsPiece, routePiece, mailboxPiece, boxPlacePiece, addressPiece, placePiece}
 use Rattle.grammar.proofs.Any.Pieces.{seen}
-use Rattle.grammar.proofs.Any.Arrows.{Keeps, Gives}
+use Rattle.grammar.proofs.Any.Arrows.{Keeps}
+use Rattle.grammar.proofs.Any.Sound.{Given}
 use Rattle.grammar.proofs.Rfc822.Derivations.{DerivedList, row-derived}
 use Rattle.grammar.specs.Executable.Machine822.{Here, Open, In, Hop, Behind, State, arrows, boxEnds, finish, inList, inGroup, less, bareIn, angleIn, routeIn, firstAt, nextAt, ofSpec, ofHop, place, word, phrase, local, localDot, at, domain, domainDot, opened, hop, route, boxed, closed}
 
@@ -73,11 +74,11 @@ kept (closed r a) = (λ t xs. refl, tt)
 
 -- ---- what is given at the end is derived
 
-box-gives : (h : Here) (b : Mailbox) → Gives DerivedList (hereThen h (seen (mailboxPiece b) [])) (boxEnds h b)
+box-gives : (h : Here) (b : Mailbox) → Given (λ k. DerivedList k (hereThen h (seen (mailboxPiece b) []))) (boxEnds h b)
 box-gives (inList r) b = row-derived (full r (box b)) refl
 box-gives (inGroup r p c s) b = tt
 
-pub gives : (s : State) → Gives DerivedList (stateThen s []) (finish s)
+pub gives : (s : State) → Given (λ k. DerivedList k (stateThen s [])) (finish s)
 gives (place (inList r)) = row-derived (idle r) refl
 gives (place (inGroup r p c s)) = tt
 gives (word h w) = tt
