@@ -15,7 +15,7 @@ use Rattle.octets.specs.Believed.Octets.{plusByte, commaByte, minusByte, colonB
 use Rattle.dates.specs.Believed.Names.{dayNames, monthNames, zoneNames, zoneMinutes, place, ahead, behind}
 use Rattle.dates.specs.Believed.Parts.{Part}
 use Rattle.dates.specs.Believed.Grammar.{num, offsetOf, Digits, Name, DayNameIs, day-name, no-day-name, DashIs, dash, no-dash, DayIs, one-digit, two-digits, MonthIs, month, YearIs, short-year, full-year, HourIs, four, six, two-two, two-four, four-two, two-two-two, ZoneIs, zone-name, dashed-name, east, west, DateIs, date}
-use Rattle.dates.specs.Executable.Form.{firstKey, firstBytes, after, done, digitsOf, upToSix, moreDigits, pastMore, named, Hour, noHour, hour, secondFrom, secondAfter, minuteFrom, hourFrom, hourOf, Zoned, noZone, zoned, zoneFrom, zoneNamed, signedFrom, zoneOf, ended, zoneAfter, hourAfter, pastDash, yearFrom, yearAfter, monthFrom, monthAfter, dayFrom, dayAfter, readingFrom, readingOf, ReadsRight}
+use Rattle.dates.specs.Executable.Form.{firstKey, firstBytes, after, done, digitsOf, upToSix, moreDigits, pastMore, named, Hour, noHour, hour, secondFrom, secondAfter, minuteFrom, hourFrom, hourOf, Zoned, noZone, zoned, zoneFrom, zoneNamed, signedFrom, zoneOf, endAfter, zoneAfter, hourAfter, pastDash, yearFrom, yearAfter, monthFrom, monthAfter, dayFrom, dayAfter, readingFrom, readingOf, ReadsRight}
 use Rattle.dates.specs.declared.form.Offset.{Offset}
 use Rattle.dates.specs.declared.form.Offset.the-variants.{Minutes}
 use Rattle.dates.specs.declared.form.Written.{Written}
@@ -213,17 +213,17 @@ end-ok : (l : List Part) (name d m y : ℕ) (q : List Part) → Ends l name d m 
 unfolding hourAfter done
 end-ok l name d m y q f = go (hourOf q) (hour-ok q)
   where
-    last : (h mi s : ℕ) (r : List Part) → HourIs q h mi s r → (offset : Offset) (p : List Part) → (p ≡ [] → ZoneIs r offset) → ReadingOk l (ended name d m y h mi s (zoned offset p))
+    last : (h mi s : ℕ) (r : List Part) → HourIs q h mi s r → (offset : Offset) (p : List Part) → (p ≡ [] → ZoneIs r offset) → ReadingOk l (endAfter name d m y h mi s (zoned offset p))
     last h mi s r x offset [] z = f h mi s offset r x (z refl)
     last h mi s r x offset (a ∷ p) z = tt
 
-    behind-hour : (h mi s : ℕ) (r : List Part) → HourIs q h mi s r → (z : Zoned) → ZoneOk r z → ReadingOk l (ended name d m y h mi s z)
-    behind-hour h mi s r x noZone z = tt
-    behind-hour h mi s r x (zoned offset p) z = last h mi s r x offset p z
+    after-hour : (h mi s : ℕ) (r : List Part) → HourIs q h mi s r → (z : Zoned) → ZoneOk r z → ReadingOk l (endAfter name d m y h mi s z)
+    after-hour h mi s r x noZone z = tt
+    after-hour h mi s r x (zoned offset p) z = last h mi s r x offset p z
 
     go : (x : Hour) → HourOk q x → ReadingOk l (zoneAfter name d m y x)
     go noHour x = tt
-    go (hour h mi s r) x = behind-hour h mi s r x (zoneOf r) (zone-ok r)
+    go (hour h mi s r) x = after-hour h mi s r x (zoneOf r) (zone-ok r)
 
 year-ok : (l : List Part) (name d m : ℕ) (q : List Part) → ((y : ℕ) (r : List Part) → YearIs q y r → Ends l name d m y r) → ReadingOk l (yearAfter name d m q)
 unfolding yearAfter digitsOf firstKey firstBytes after

@@ -1,4 +1,4 @@
--- The laws of parts: longest runs, and the first part from a place on. Assumes nothing.
+-- The laws of parts: longest runs, and the first part from a spot on. Assumes nothing.
 use mathlib.Core.Path.{_≡_, refl, sym, ap, _∙_}
 use mathlib.Core.Bool.{Bool, true, false}
 use mathlib.Core.List.{List, [], _∷_, _++_}
@@ -96,7 +96,7 @@ module _ (classes text : List ℕ) (at end key : ℕ) (h : at < end) (w : end �
         rest-is = rw e;
         last = λ z. absurd (some-part classes (getD text at 0) (k ∙ z));
         order = a;
-        place = record { order = b; inside = w };
+        spot = record { order = b; inside = w };
       }
 
   whole : (n : ℕ) → at + 1 + n ≤ end → getD text at 0 ∷ take n (part text (at + 1) end) ≡ part text at (at + 1 + n)
@@ -120,7 +120,7 @@ module _ (classes text : List ℕ) (at end key : ℕ) (h : at < end) (w : end �
       let one : part text at (at + 1) ≡ getD text at 0 ∷ [] = part-cons text at (at + 1) (omega arith) (omega arith) ∙ rw (part-none text (at + 1) (at + 1) (omega arith)) in
       token (at + 1) (rw (part-cons text at end h w, k, alone classes key (getD text at 0) (runs classes (part text (at + 1) end)) r, one)) (omega arith) (omega arith)
 
--- ---- the first part behind a symbol
+-- ---- the first part after a symbol
 
 pub left-here : (classes text : List ℕ) (at end : ℕ) → end ≤ at → left classes text at end ≡ parts classes (scanBy classes text end)
 unfolding left runs
@@ -158,7 +158,7 @@ module _ (classes text : List ℕ) (at end : ℕ) (h : end ≤ at) where
         rest-is = rw (l, r);
         last = λ z. l;
         order = omega arith;
-        place = record { order = omega arith; inside = w };
+        spot = record { order = omega arith; inside = w };
       }
 
   pub part-ended : end ≤ length text → scanBy classes text end ≡ ended → TokenIs classes text (left classes text at end) (record { key = noPart; start = end; stop = end; end = end })
@@ -183,7 +183,7 @@ module _ (classes text : List ℕ) (at end : ℕ) (h : end ≤ at) where
         rest-is = rw l;
         last = λ z. absurd (omega arith);
         order = omega arith;
-        place = record { order = omega arith; inside = x .within };
+        spot = record { order = omega arith; inside = x .within };
       }
 
   pub part-unquoted : {class : Class} {start stop : ℕ} → SymbolAt classes text end class start stop → OneOf (0 ∷ 2 ∷ 3 ∷ 4 ∷ 5 ∷ 6 ∷ 7 ∷ 8 ∷ 9 ∷ []) (tagOf the-type class)

@@ -6,9 +6,9 @@ ghost use lib.ListN.{length};
 ghost use Rattle.octets.specs.Believed.Choice.{pick};
 ghost use Rattle.octets.specs.Believed.Text.{part};
 ghost use Rattle.dates.specs.Believed.Names.{ahead, behind};
-ghost use Rattle.dates.specs.Believed.Grammar.{number, offsetOf};
+ghost use Rattle.dates.specs.Believed.Grammar.{decimal, offsetOf};
 ghost use Rattle.dates.specs.Executable.Form.{digitsOf, after, moreDigits, pastMore, secondAfter, hourOf, zoneNamed, zoneOf, hourAfter, pastDash, yearAfter, monthAfter, dayAfter, readingOf};
-ghost use Rattle.dates.specs.Ties.Steps.{rows, ascend, Within, left, NumberIs, NamedIs, SpotIs, ClockIs, ZoneFoundIs};
+ghost use Rattle.dates.specs.Ties.Steps.{rows, ascend, Within, left, DigitRunIs, NamedIs, SpotIs, ClockIs, ZoneFoundIs};
 use crate::names::DAY_ENDS;
 use crate::names::DAYS;
 use crate::names::MONTH_ENDS;
@@ -48,7 +48,7 @@ pub(crate) enum Reading {
 }
 
 // A run of digits: how many, their value if they are at most six, and where the next part is.
-struct Number {
+struct DigitRun {
     count: usize,
     value: u64,
     at: usize,
@@ -75,13 +75,13 @@ enum Clock {
 }
 
 // A zone, and where the next part is.
-enum Zone {
+enum ZoneRead {
     NoZone,
     Found(Offset, usize, usize),
 }
 
 // The value of a digit.
-fn digit(b: u8) -> u64
+fn digit_value(b: u8) -> u64
     ensures { λ r. ⌜ (r ≡ b - 48) × (r < 256) ⌝ }
 {
     if b < b'0' {
@@ -91,29 +91,29 @@ fn digit(b: u8) -> u64
 }
 
 // The value of at most six digits.
-fn value(text: &[u8], start: usize, stop: usize) -> u64
+fn decimal(text: &[u8], start: usize, stop: usize) -> u64
     requires { ⌜ (start ≤ stop) × (stop ≤ start + 6) × (stop ≤ length (now text)) ⌝ }
-    ensures { λ r. ⌜ (r ≡ number (part (now (text .entry)) start stop)) × (r < 1000000000000000000) ⌝ }
+    ensures { λ r. ⌜ (r ≡ decimal (part (now (text .entry)) start stop)) × (r < 1000000000000000000) ⌝ }
 {
     let mut v: u64 = 0;
     let mut p = start;
     while p < stop {
-        v = v * 10 + digit(text[p]);
+        v = v * 10 + digit_value(text[p]);
         p += 1;
     }
     v
 }
 
-// The first part as a number.
-fn read_number(classes: &[u8; 256], text: &[u8], at: usize, end: usize) -> Number
+// The first part as a run of digits.
+fn read_digits(classes: &[u8; 256], text: &[u8], at: usize, end: usize) -> DigitRun
     requires { ⌜ Within (now text) at end ⌝ }
-    ensures { λ r. ⌜ NumberIs (now (classes .entry)) (now (text .entry)) (digitsOf (left (now (classes .entry)) (now (text .entry)) at end)) (after (left (now (classes .entry)) (now (text .entry)) at end)) r ⌝ }
+    ensures { λ r. ⌜ DigitRunIs (now (classes .entry)) (now (text .entry)) (digitsOf (left (now (classes .entry)) (now (text .entry)) at end)) (after (left (now (classes .entry)) (now (text .entry)) at end)) r ⌝ }
 {
     let t = crate::parts::next_part(classes, text, at, end);
     let start = t.start;
     let stop = t.stop;
     if t.key != DIGIT {
-        return Number {
+        return DigitRun {
             count: 0,
             value: 0,
             at: stop,
@@ -121,15 +121,15 @@ fn read_number(classes: &[u8; 256], text: &[u8], at: usize, end: usize) -> Numbe
         };
     }
     if 6 < stop - start {
-        return Number {
+        return DigitRun {
             count: stop - start,
             value: 0,
             at: stop,
             end: t.end,
         };
     }
-    let v = value(text, start, stop);
-    Number {
+    let v = decimal(text, start, stop);
+    DigitRun {
         count: stop - start,
         value: v,
         at: stop,
@@ -183,20 +183,20 @@ fn past_dash(classes: &[u8; 256], text: &[u8], at: usize, end: usize) -> Spot
 }
 
 // A colon and a run of digits: no digits, if there is no colon.
-fn more_digits(classes: &[u8; 256], text: &[u8], at: usize, end: usize) -> Number
+fn more_digits(classes: &[u8; 256], text: &[u8], at: usize, end: usize) -> DigitRun
     requires { ⌜ Within (now text) at end ⌝ }
-    ensures { λ r. ⌜ NumberIs (now (classes .entry)) (now (text .entry)) (moreDigits (left (now (classes .entry)) (now (text .entry)) at end)) (pastMore (left (now (classes .entry)) (now (text .entry)) at end)) r ⌝ }
+    ensures { λ r. ⌜ DigitRunIs (now (classes .entry)) (now (text .entry)) (moreDigits (left (now (classes .entry)) (now (text .entry)) at end)) (pastMore (left (now (classes .entry)) (now (text .entry)) at end)) r ⌝ }
 {
     let t = crate::parts::next_part(classes, text, at, end);
     if t.key != COLON {
-        return Number {
+        return DigitRun {
             count: 0,
             value: 0,
             at,
             end,
         };
     }
-    read_number(classes, text, t.stop, t.end)
+    read_digits(classes, text, t.stop, t.end)
 }
 
 // The second, a colon and two digits, or none.
@@ -223,7 +223,7 @@ fn read_hour(classes: &[u8; 256], text: &[u8], at: usize, end: usize) -> Clock
     requires { ⌜ Within (now text) at end ⌝ }
     ensures { λ r. ⌜ ClockIs (now (classes .entry)) (now (text .entry)) (hourOf (left (now (classes .entry)) (now (text .entry)) at end)) r ⌝ }
 {
-    let n = read_number(classes, text, at, end);
+    let n = read_digits(classes, text, at, end);
     let v = n.value;
     if n.count == 6 {
         return Clock::Time(v / 10000, v / 100 % 100, v % 100, n.at, n.end);
@@ -245,7 +245,7 @@ fn read_hour(classes: &[u8; 256], text: &[u8], at: usize, end: usize) -> Clock
     Clock::NoClock
 }
 
-// The offset of four digits behind a sign.
+// The offset of four digits after a sign.
 fn offset_of(minus: bool, hhmm: u64) -> Offset
     ensures { λ r. ⌜ r ≡ offsetOf (pick minus behind ahead) hhmm ⌝ }
 {
@@ -264,7 +264,7 @@ fn offset_of(minus: bool, hhmm: u64) -> Offset
 }
 
 // A zone of the table.
-fn zone_named(classes: &[u8; 256], text: &[u8], at: usize, end: usize) -> Zone
+fn zone_named(classes: &[u8; 256], text: &[u8], at: usize, end: usize) -> ZoneRead
     requires { ⌜ Within (now text) at end ⌝ }
     ensures { λ r. ⌜ ZoneFoundIs (now (classes .entry)) (now (text .entry)) (zoneNamed (left (now (classes .entry)) (now (text .entry)) at end)) r ⌝ }
 {
@@ -273,32 +273,32 @@ fn zone_named(classes: &[u8; 256], text: &[u8], at: usize, end: usize) -> Zone
     let n = read_name(classes, text, at, end, names, ends);
     let place = n.place;
     if 43 <= place {
-        return Zone::NoZone;
+        return ZoneRead::NoZone;
     }
-    Zone::Found(Offset::Minutes(ZONE_MINUTES[place]), n.at, n.end)
+    ZoneRead::Found(Offset::Minutes(ZONE_MINUTES[place]), n.at, n.end)
 }
 
 // The zone: a sign and four digits, or a name before which a "-" may stand.
-fn read_zone(classes: &[u8; 256], text: &[u8], at: usize, end: usize) -> Zone
+fn read_zone(classes: &[u8; 256], text: &[u8], at: usize, end: usize) -> ZoneRead
     requires { ⌜ Within (now text) at end ⌝ }
     ensures { λ r. ⌜ ZoneFoundIs (now (classes .entry)) (now (text .entry)) (zoneOf (left (now (classes .entry)) (now (text .entry)) at end)) r ⌝ }
 {
     let t = crate::parts::next_part(classes, text, at, end);
     if t.key == PLUS {
-        let n = read_number(classes, text, t.stop, t.end);
+        let n = read_digits(classes, text, t.stop, t.end);
         if n.count != 4 {
-            return Zone::NoZone;
+            return ZoneRead::NoZone;
         }
-        return Zone::Found(offset_of(false, n.value), n.at, n.end);
+        return ZoneRead::Found(offset_of(false, n.value), n.at, n.end);
     }
     if t.key != MINUS {
         return zone_named(classes, text, at, end);
     }
-    let n = read_number(classes, text, t.stop, t.end);
+    let n = read_digits(classes, text, t.stop, t.end);
     if n.count != 4 {
         return zone_named(classes, text, t.stop, t.end);
     }
-    Zone::Found(offset_of(true, n.value), n.at, n.end)
+    ZoneRead::Found(offset_of(true, n.value), n.at, n.end)
 }
 
 // The hour, the zone and the end, after the year.
@@ -318,7 +318,7 @@ fn hour_after(
     let Clock::Time(hour, minute, second, a, b) = read_hour(classes, text, at, end) else {
         return Reading::Wrong;
     };
-    let Zone::Found(zone, c, d) = read_zone(classes, text, a, b) else {
+    let ZoneRead::Found(zone, c, d) = read_zone(classes, text, a, b) else {
         return Reading::Wrong;
     };
     let t = crate::parts::next_part(classes, text, c, d);
@@ -337,7 +337,7 @@ fn hour_after(
     })
 }
 
-// The year and what comes behind it.
+// The year and what comes after it.
 fn year_after(
     classes: &[u8; 256],
     text: &[u8],
@@ -350,7 +350,7 @@ fn year_after(
     requires { ⌜ Within (now text) at end ⌝ }
     ensures { λ r. ⌜ r ≡ yearAfter name day month (left (now (classes .entry)) (now (text .entry)) at end) ⌝ }
 {
-    let n = read_number(classes, text, at, end);
+    let n = read_digits(classes, text, at, end);
     if n.count == 2 {
         return hour_after(classes, text, n.at, n.end, name, day, month, n.value + 1900);
     }
@@ -360,7 +360,7 @@ fn year_after(
     Reading::Wrong
 }
 
-// The month and what comes behind it.
+// The month and what comes after it.
 fn month_after(
     classes: &[u8; 256],
     text: &[u8],
@@ -383,12 +383,12 @@ fn month_after(
     year_after(classes, text, s.at, s.end, name, day, place)
 }
 
-// The day and what comes behind it.
+// The day and what comes after it.
 fn day_after(classes: &[u8; 256], text: &[u8], at: usize, end: usize, name: usize) -> Reading
     requires { ⌜ Within (now text) at end ⌝ }
     ensures { λ r. ⌜ r ≡ dayAfter name (left (now (classes .entry)) (now (text .entry)) at end) ⌝ }
 {
-    let n = read_number(classes, text, at, end);
+    let n = read_digits(classes, text, at, end);
     if n.count < 1 {
         return Reading::Wrong;
     }

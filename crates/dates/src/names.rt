@@ -5,7 +5,7 @@ ghost use lib.ListN.{length};
 ghost use Rattle.dates.specs.Believed.Names.{called as calledBy, place};
 ghost use Rattle.dates.specs.Ties.Steps.{rows, ascend};
 
-// The names of each table stand one behind the other; its ends say where each name ends.
+// The names of each table stand one after the other; its ends say where each name ends.
 pub(crate) const DAYS: [u8; 50] = *b"MondayTuesdayWednesdayThursdayFridaySaturdaySunday";
 
 pub(crate) const DAY_ENDS: [usize; 7] = [6, 13, 22, 30, 36, 44, 50];

@@ -22,7 +22,7 @@ pub(crate) const PLUS: u8 = b'+';
 
 pub(crate) const MINUS: u8 = b'-';
 
-// A part: its key, its place, and the end of the symbol that it stands in.
+// A part: its key, where it starts and stops, and the end of the symbol that it stands in.
 pub(crate) struct Token {
     pub key: u8,
     pub start: usize,
@@ -102,7 +102,7 @@ fn first_part(classes: &[u8; 256], text: &[u8], at: usize, end: usize) -> Token
     }
 }
 
-// The first part from a place on.
+// The first part from a spot on.
 pub(crate) fn next_part(classes: &[u8; 256], text: &[u8], at: usize, end: usize) -> Token
     requires { ⌜ Within (now text) at end ⌝ }
     ensures { λ r. ⌜ TokenIs (now (classes .entry)) (now (text .entry)) (left (now (classes .entry)) (now (text .entry)) at end) r ⌝ }

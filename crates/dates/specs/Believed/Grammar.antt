@@ -15,18 +15,18 @@ use Rattle.dates.specs.declared.form.Offset.the-variants.{Minutes, OutOf
 use Rattle.dates.specs.declared.form.Written.{Written}
 
 -- the decimal number whose digits are those of `high` and then these
-abbrev pub numberFrom : ℕ → List ℕ → ℕ
-numberFrom high [] = high
-numberFrom high (b ∷ rest) = numberFrom (high * 10 + (b - zeroByte)) rest
+abbrev pub decimalFrom : ℕ → List ℕ → ℕ
+decimalFrom high [] = high
+decimalFrom high (b ∷ rest) = decimalFrom (high * 10 + (b - zeroByte)) rest
 
-unfoldable pub number : List ℕ → ℕ
-number digits = numberFrom 0 digits
+unfoldable pub decimal : List ℕ → ℕ
+decimal digits = decimalFrom 0 digits
 
 -- the number that a run of digits writes
 abbrev pub num : Part → ℕ
-num p = number (p .bytes)
+num p = decimal (p .bytes)
 
--- HHMM behind a sign: up to 2359, with minutes to 59
+-- HHMM after a sign: up to 2359, with minutes to 59
 unfoldable pub offsetOf : (ℕ → ℕ → ℤ) → ℕ → Offset
 offsetOf direction hhmm =
     pick (both (leb (hhmm / 100) 23) (leb (hhmm % 100) 59)) (Minutes (direction (hhmm / 100) (hhmm % 100))) OutOfRange

@@ -12,7 +12,7 @@ use Rattle.octets.specs.Believed.Classes.{letter, digit}
 use Rattle.octets.specs.Believed.Octets.{plusByte, commaByte, minusByte, colonByte}
 use Rattle.dates.specs.Believed.Names.{dayNames, monthNames, zoneNames, zoneMinutes, place, ahead, behind}
 use Rattle.dates.specs.Believed.Parts.{Part, noPart}
-use Rattle.dates.specs.Believed.Grammar.{number, offsetOf, DateIs}
+use Rattle.dates.specs.Believed.Grammar.{decimal, offsetOf, DateIs}
 use Rattle.dates.specs.declared.form.Offset.{Offset}
 use Rattle.dates.specs.declared.form.Offset.the-variants.{Minutes}
 use Rattle.dates.specs.declared.form.Written.{Written}
@@ -29,7 +29,7 @@ unfoldable pub firstBytes : List Part → List ℕ
 firstBytes [] = []
 firstBytes (p ∷ rest) = p .bytes
 
--- the parts behind it
+-- the parts after it
 unfoldable pub after : List Part → List Part
 after [] = []
 after (p ∷ rest) = rest
@@ -44,7 +44,7 @@ digitsOf l = pick (eqb (firstKey l) digit) (firstBytes l) []
 
 -- their value, if they are at most six
 unfoldable pub upToSix : List ℕ → ℕ
-upToSix d = pick (ltb 6 (length d)) 0 (number d)
+upToSix d = pick (ltb 6 (length d)) 0 (decimal d)
 
 -- the digits after a colon; none, if the first part is no colon
 unfoldable pub moreDigits : List Part → List ℕ
@@ -58,7 +58,7 @@ pastMore l = pick (eqb (firstKey l) colonByte) (after (after l)) l
 unfoldable pub named : List (List ℕ) → List Part → ℕ
 named names l = pick (eqb (firstKey l) letter) (place names (firstBytes l)) (length names)
 
--- ---- the hour: hour, minute and second, and the parts behind it
+-- ---- the hour: hour, minute and second, and the parts after it
 
 pub data Hour : Type 0 where
   noHour : Hour
@@ -87,7 +87,7 @@ hourFrom d rest =
 unfoldable pub hourOf : List Part → Hour
 hourOf l = hourFrom (digitsOf l) (after l)
 
--- ---- the zone: local time minus GMT, and the parts behind it
+-- ---- the zone: local time minus GMT, and the parts after it
 
 pub data Zoned : Type 0 where
   noZone : Zoned
@@ -100,7 +100,7 @@ zoneFrom n rest = pick (ltb n (length zoneNames)) (zoned (Minutes (getD zoneMinu
 unfoldable pub zoneNamed : List Part → Zoned
 zoneNamed l = zoneFrom (named zoneNames l) (after l)
 
--- four digits behind a sign
+-- four digits after a sign
 abbrev pub signedFrom : (ℕ → ℕ → ℤ) → List ℕ → List Part → Zoned → Zoned
 signedFrom direction d rest otherwise = pick (eqb (length d) 4) (zoned (offsetOf direction (upToSix d)) rest) otherwise
 
@@ -111,15 +111,15 @@ zoneOf l =
 
 -- ---- the date: the place of the day's name, day, month and year come before the hour
 
-abbrev pub ended : ℕ → ℕ → ℕ → ℕ → ℕ → ℕ → ℕ → Zoned → Reading
-ended name day month year h m s noZone = Wrong
-ended name day month year h m s (zoned offset rest) =
+abbrev pub endAfter : ℕ → ℕ → ℕ → ℕ → ℕ → ℕ → ℕ → Zoned → Reading
+endAfter name day month year h m s noZone = Wrong
+endAfter name day month year h m s (zoned offset rest) =
     pick (done rest)
     (Right (record { name = name; day = day; month = month; year = year; hour = h; minute = m; second = s; zone = offset })) Wrong
 
 abbrev pub zoneAfter : ℕ → ℕ → ℕ → ℕ → Hour → Reading
 zoneAfter name day month year noHour = Wrong
-zoneAfter name day month year (hour h m s rest) = ended name day month year h m s (zoneOf rest)
+zoneAfter name day month year (hour h m s rest) = endAfter name day month year h m s (zoneOf rest)
 
 unfoldable pub hourAfter : ℕ → ℕ → ℕ → ℕ → List Part → Reading
 hourAfter name day month year l = zoneAfter name day month year (hourOf l)

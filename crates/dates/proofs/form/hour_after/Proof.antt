@@ -23,7 +23,7 @@ unfolding hourAfter
 returns c = let x : hourOf _ ≡ noHour = rw (c .enum-told .given .1) at (c .before .before .read-hour .ensures) in rw x
 
 read-zone-requires : tie.Need-read-zone-requires
-read-zone-requires c κs = the-hour (c .before) .place
+read-zone-requires c κs = the-hour (c .before) .spot
 
 returns-2 : tie.Need-returns-2
 unfolding hourAfter
@@ -33,7 +33,7 @@ returns-2 c =
     rw (the-hour (c .before .before .before .before) .is, y)
 
 next-part-requires : tie.Need-next-part-requires
-next-part-requires c κs = the-zone (c .before) .place
+next-part-requires c κs = the-zone (c .before) .spot
 
 returns-3 : tie.Need-returns-3
 unfolding hourAfter

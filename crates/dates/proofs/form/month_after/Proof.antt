@@ -20,10 +20,10 @@ returns c =
     rw (e, le-ltb _ 12 (c .if1 .taken))
 
 past-dash-requires : tie.Need-past-dash-requires
-past-dash-requires c κs = c .before .read-name .ensures .place
+past-dash-requires c κs = c .before .read-name .ensures .spot
 
 year-after-requires : tie.Need-year-after-requires
-year-after-requires c κs = c .past-dash .ensures .place
+year-after-requires c κs = c .past-dash .ensures .spot
 
 returns-2 : tie.Need-returns-2
 unfolding rows monthAfter

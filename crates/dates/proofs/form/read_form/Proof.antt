@@ -25,7 +25,7 @@ returns c =
     rw (e, le-ltb _ 7 (if1 .taken)) (c .day-after .ensures)
 
 next-part-requires : tie.Need-next-part-requires
-next-part-requires c κs = c .before .read-name .ensures .place
+next-part-requires c κs = c .before .read-name .ensures .spot
 
 returns-2 : tie.Need-returns-2
 unfolding rows readingOf
@@ -38,7 +38,7 @@ returns-2 c =
     rw (e, lt-ltb _ 7 (if1 .left), read-name .ensures .rest-is, next-part .ensures .key-is, ne-eqb _ _ (c .if2 .taken))
 
 day-after-requires-2 : tie.Need-day-after-requires-2
-day-after-requires-2 c κs = c .before .before .next-part .ensures .place
+day-after-requires-2 c κs = c .before .before .next-part .ensures .spot
 
 returns-3 : tie.Need-returns-3
 unfolding rows readingOf

@@ -22,7 +22,7 @@ part-find-start : tie.Need-part-find-start
 part-find-start c = c .before .before .next-part .ensures .order
 
 part-find-end : tie.Need-part-find-end
-part-find-end c = let x = c .before .before .next-part .ensures in omega (arith, x .place .order, x .place .inside)
+part-find-end c = let x = c .before .before .next-part .ensures in omega (arith, x .spot .order, x .spot .inside)
 
 find-requires : tie.Need-find-requires
 find-requires c κs = c .before .before .before .before .before .before .before .pre .1

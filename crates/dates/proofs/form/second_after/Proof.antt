@@ -9,13 +9,13 @@ returns : tie.Need-returns
 unfolding secondAfter
 returns c =
     let n = c .before .before .more-digits .ensures in
-    record { is = rw (n .count-is, eq-eqb _ _ (c .if1 .taken), n .value-is, n .rest-is); place = n .place }
+    record { is = rw (n .count-is, eq-eqb _ _ (c .if1 .taken), n .value-is, n .rest-is); spot = n .spot }
 
 returns-2 : tie.Need-returns-2
 unfolding secondAfter
 returns-2 c =
     let n = c .before .before .more-digits .ensures in
-    record { is = rw (n .count-is, ne-eqb _ _ (c .if1 .left)); place = c .before .before .before .before .pre }
+    record { is = rw (n .count-is, ne-eqb _ _ (c .if1 .left)); spot = c .before .before .before .before .pre }
 
 pub second-after-spec : {M : Type 1} → statement M
 second-after-spec = tie.close (tie.spec (λ c κs. search needs) returns returns-2)

@@ -25,7 +25,7 @@ returns-2 c =
     let if1 = c .before .if1 in
     let n = read-name .ensures in
     let e : named zoneNames _ ≡ read-name .result .place = n .place-is in
-    record { is = rw (e, lt-ltb _ 43 (if1 .left), n .rest-is, toZ-ofZ (minutes-fit (read-name .result .place) (if1 .left))); place = n .place }
+    record { is = rw (e, lt-ltb _ 43 (if1 .left), n .rest-is, toZ-ofZ (minutes-fit (read-name .result .place) (if1 .left))); spot = n .spot }
 
 pub zone-named-spec : {M : Type 1} → statement M
 zone-named-spec = tie.close (tie.spec read-name-requires returns (λ c. search needs) (λ c. search needs) returns-2)
