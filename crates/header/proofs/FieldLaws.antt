@@ -10,18 +10,18 @@ use lib.Dec.{eqb}
 use lib.ListN.{length, drop, getD}
 use Rattle.octets.specs.Believed.Classes.{isWhite}
 use Rattle.octets.specs.Believed.Octets.{colonByte}
-use Rattle.header.specs.Believed.Fields.{Field, fieldOf, Header, field, ended, fault, fieldsOf, Place, lineStart, inName, inBody, beforeLineFeed, nameHolds, nameStartsWith, crlf, endsBody, headerAt, headerOf}
+use Rattle.header.specs.Believed.Fields.{Field, fieldOf, Header, field, ended, fault, fieldsOf, State, lineStart, inName, inBody, beforeLineFeed, nameHolds, nameStartsWith, crlf, endsBody, headerAt, headerOf}
 use Rattle.header.proofs.ByteLaws.{crlf-last, body-other}
 use Rattle.header.proofs.HeaderLaws.{ends, moves, empty-line, name-starts, no-name, name-ends, name-fault, name-white, name-other, body-fault, body-goes, body-ends}
 
--- the positions of a field ascend, and the CRLF behind its body lies in the message
+-- the positions of a field ascend, and the CRLF after its body lies in the message
 pub record Ordered (message : List ℕ) (f : Field) : Type 0 where
   pub named : f .nameStart < f .nameEnd
   pub colon : f .nameEnd < f .bodyStart
   pub bodied : f .bodyStart ≤ f .bodyEnd
   pub within : f .bodyEnd + 2 ≤ length message
 
--- a field found at a line start: it starts there, and the header goes on behind its CRLF
+-- a field found at a line start: it starts there, and the header goes on after its CRLF
 pub record Found (message : List ℕ) (start : ℕ) (f : Field) (rest : Header) : Type 0 where
   pub starts : f .nameStart ≡ start
   pub ordered : Ordered message f
@@ -33,8 +33,8 @@ First message start (field f rest) = Found message start f rest
 First message start ended = Unit {0}
 First message start (fault number position) = Unit {0}
 
--- what holds of a place at a position, whose field started at `start`
-abbrev Fits : ℕ → ℕ → Place → Type 0
+-- what holds of a state at a position, whose field started at `start`
+abbrev Fits : ℕ → ℕ → State → Type 0
 Fits start at lineStart = start ≡ at
 Fits start at (inName s e) = (s ≡ start) × (s < e) × (e ≤ at)
 Fits start at (inBody s e b) = (s ≡ start) × (s < e) × (e < b) × (b ≤ at)
@@ -59,7 +59,7 @@ module _ (message : List ℕ) where
   body-crlf : (at : ℕ) → endsBody (drop at message) ≡ true → crlf (drop at message) ≡ true
   body-crlf at e = cases (crlf (drop at message)) (λ t. t) (λ n. absurd (false-true (sym (body-other message at n) ∙ e)))
 
-  -- behind a body's end the next line starts
+  -- after a body's end the next line starts
   next-line : (at : ℕ) → at + 1 < length message → headerAt message (at + 1) beforeLineFeed ≡ headerAt message (at + 2) lineStart
   next-line at h =
       let two : at + 1 + 1 ≡ at + 2 = omega arith in
@@ -70,14 +70,14 @@ module _ (message : List ℕ) where
     is e x = subst⁻¹ (λ (z : Header). First message start z) e x
 
     -- at the end of the message, and where `left` bytes are left
-    last : (at : ℕ) (place : Place) → length message ≤ at → First message start (headerAt message at place)
+    last : (at : ℕ) (state : State) → length message ≤ at → First message start (headerAt message at state)
     last at lineStart h = is (ends message at lineStart h) tt
     last at (inName s e) h = is (ends message at (inName s e) h) tt
     last at (inBody s e b) h = is (ends message at (inBody s e b) h) tt
     last at beforeLineFeed h = is (ends message at beforeLineFeed h) tt
 
-    from : (left at : ℕ) (place : Place) → length message ≡ at + left → Fits start at place → First message start (headerAt message at place)
-    from zero at place h fits = last at place (omega arith)
+    from : (left at : ℕ) (state : State) → length message ≡ at + left → Fits start at state → First message start (headerAt message at state)
+    from zero at state h fits = last at state (omega arith)
     from (suc left) at lineStart h fits =
         cases (crlf (drop at message))
         (λ e. is (empty-line message at (omega arith) e) tt)
@@ -138,15 +138,15 @@ module _ (message : List ℕ) where
   pub fields-ascend : Ascend message 0 (headerOf message)
   fields-ascend = ascend (headerOf message) 0 (omega arith) refl
 
-  at-place : (h : Header) (start : ℕ) → Ascend message start h → (n : ℕ) → n < length (fieldsOf h) → Ordered message (getD (fieldsOf h) n noField)
-  at-place (field f rest) start (x, more) zero l = x .ordered
-  at-place (field f rest) start (x, more) (suc n) l = at-place rest (f .bodyEnd + 2) more n (omega arith)
-  at-place ended start x n l = absurd (omega arith)
-  at-place (fault number position) start x n l = absurd (omega arith)
+  at-index : (h : Header) (start : ℕ) → Ascend message start h → (n : ℕ) → n < length (fieldsOf h) → Ordered message (getD (fieldsOf h) n noField)
+  at-index (field f rest) start (x, more) zero l = x .ordered
+  at-index (field f rest) start (x, more) (suc n) l = at-index rest (f .bodyEnd + 2) more n (omega arith)
+  at-index ended start x n l = absurd (omega arith)
+  at-index (fault number position) start x n l = absurd (omega arith)
 
   -- the positions of each are ordered and lie in the message
   pub fields-ordered : (n : ℕ) → n < length (fieldsOf (headerOf message)) → Ordered message (getD (fieldsOf (headerOf message)) n noField)
-  fields-ordered n l = at-place (headerOf message) 0 fields-ascend n l
+  fields-ordered n l = at-index (headerOf message) 0 fields-ascend n l
 
   four-each : (h : Header) (start : ℕ) → Ascend message start h → start + 4 * length (fieldsOf h) ≤ length message
   four-each (field f rest) start (x, more) = omega (arith, four-each rest (f .bodyEnd + 2) more, x .starts, x .ordered)

@@ -10,21 +10,21 @@ use lib.Seq.{drop-cons}
 use Rattle.octets.specs.Believed.Classes.{isWhite}
 use Rattle.octets.specs.Believed.Numbers.{nameFault, byteAbove127}
 use Rattle.octets.specs.Believed.Octets.{colonByte}
-use Rattle.header.specs.Believed.Fields.{fieldOf, field, ended, fault, Place, lineStart, inName, inBody, beforeLineFeed, nameHolds, nameStartsWith, crlf, endsBody, atLineStart, atName, atBody, move, atEnd, follow, headerFrom, headerAt}
+use Rattle.header.specs.Believed.Fields.{fieldOf, field, ended, fault, State, lineStart, inName, inBody, beforeLineFeed, nameHolds, nameStartsWith, crlf, endsBody, atLineStart, atName, atBody, move, atEnd, follow, headerFrom, headerAt}
 use Rattle.header.proofs.ByteLaws.{first-byte}
 
 module _ (message : List ℕ) where
   -- the message ends
-  pub ends : (at : ℕ) (place : Place) → length message ≤ at → headerAt message at place ≡ atEnd place at
+  pub ends : (at : ℕ) (state : State) → length message ≤ at → headerAt message at state ≡ atEnd state at
   unfolding headerFrom
-  ends at place h = rw (drop-of-length-le message h)
+  ends at state h = rw (drop-of-length-le message h)
 
   module _ (at : ℕ) (h : at < length message) where
     -- a byte makes its move
-    pub moves : (place : Place)
-        → headerAt message at place ≡ follow (move place (drop at message) at) (λ next. headerAt message (at + 1) next)
+    pub moves : (state : State)
+        → headerAt message at state ≡ follow (move state (drop at message) at) (λ next. headerAt message (at + 1) next)
     unfolding headerFrom
-    moves place = simp (add-one, drop-cons message at 0 h)
+    moves state = simp (add-one, drop-cons message at 0 h)
 
     -- at a line start
     pub empty-line : crlf (drop at message) ≡ true → headerAt message at lineStart ≡ ended

@@ -49,18 +49,18 @@ crlf bytes = both (eqb (getD bytes 0 0) returnByte) (eqb (getD bytes 1 0) lineFe
 unfoldable pub endsBody : List ℕ → Bool
 endsBody bytes = both (crlf bytes) (not (isWhite (getD bytes 2 0)))
 
--- what stands at a position: a line start; a name with its start and the end of its bytes so far that are no white space;
--- a body with the name's start and end and its own start; the LF of the CRLF that ended a body
-pub data Place : Type 0 where
-  lineStart : Place
-  inName : ℕ → ℕ → Place
-  inBody : ℕ → ℕ → ℕ → Place
-  beforeLineFeed : Place
+-- a state of splitting: at a line start; in a name with its start and the end of its bytes so far that are no white space;
+-- in a body with the name's start and end and its own start; before the LF of the CRLF that ended a body
+pub data State : Type 0 where
+  lineStart : State
+  inName : ℕ → ℕ → State
+  inBody : ℕ → ℕ → ℕ → State
+  beforeLineFeed : State
 
 -- what a byte does: it leads on; it ends a field and leads on; it ends the header; it is a fault
 pub data Move : Type 0 where
-  go : Place → Move
-  give : Field → Place → Move
+  go : State → Move
+  give : Field → State → Move
   stop : Move
   refuse : ℕ → ℕ → Move
 
@@ -82,35 +82,35 @@ atBody nameStart nameEnd bodyStart bytes at =
     (give (fieldOf nameStart nameEnd bodyStart at) beforeLineFeed)
     (go (inBody nameStart nameEnd bodyStart)))
 
--- what the first of these bytes does at each place
-abbrev pub move : Place → List ℕ → ℕ → Move
+-- what the first of these bytes does in each state
+abbrev pub move : State → List ℕ → ℕ → Move
 move lineStart bytes at = atLineStart bytes at
 move (inName nameStart nameEnd) bytes at = atName nameStart nameEnd bytes at
 move (inBody nameStart nameEnd bodyStart) bytes at = atBody nameStart nameEnd bodyStart bytes at
 move beforeLineFeed bytes at = go lineStart
 
 -- the message ends: at a line start the header ends with it, anywhere else without a CRLF
-abbrev pub atEnd : Place → ℕ → Header
+abbrev pub atEnd : State → ℕ → Header
 atEnd lineStart at = ended
 atEnd (inName nameStart nameEnd) at = fault headerNotEnded at
 atEnd (inBody nameStart nameEnd bodyStart) at = fault headerNotEnded at
 atEnd beforeLineFeed at = fault headerNotEnded at
 
 -- a move, and what the bytes after it hold
-abbrev pub follow : Move → (Place → Header) → Header
-follow (go place) rest = rest place
-follow (give f place) rest = field f (rest place)
+abbrev pub follow : Move → (State → Header) → Header
+follow (go state) rest = rest state
+follow (give f state) rest = field f (rest state)
 follow stop rest = ended
 follow (refuse number position) rest = fault number position
 
 -- what the bytes from position `at` on hold
-unfoldable pub headerFrom : List ℕ → ℕ → Place → Header
-headerFrom [] at place = atEnd place at
-headerFrom (b ∷ bytes) at place = follow (move place (b ∷ bytes) at) (λ next. headerFrom bytes (at + 1) next)
+unfoldable pub headerFrom : List ℕ → ℕ → State → Header
+headerFrom [] at state = atEnd state at
+headerFrom (b ∷ bytes) at state = follow (move state (b ∷ bytes) at) (λ next. headerFrom bytes (at + 1) next)
 
 -- what a message holds from position `at` on
-abbrev pub headerAt : List ℕ → ℕ → Place → Header
-headerAt message at place = headerFrom (drop at message) at place
+abbrev pub headerAt : List ℕ → ℕ → State → Header
+headerAt message at state = headerFrom (drop at message) at state
 
 -- the header of a message
 abbrev pub headerOf : List ℕ → Header

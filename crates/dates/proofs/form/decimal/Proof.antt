@@ -67,4 +67,5 @@ returns c =
 pub decimal-spec : {M : Type 1} → statement M
 decimal-spec =
     tie.close
-    (tie.spec Inv-loop μ-loop loop-holds mul-v shared-slice-read-digit-value (λ c κs. search needs) add-v (λ c. search needs) (λ c. search needs) loop-again returns)
+    (tie.spec Inv-loop μ-loop loop-holds mul-v shared-slice-read-digit-value (λ c κs. search needs) add-v (λ c. search needs) (λ c. search needs) loop-again
+    returns)

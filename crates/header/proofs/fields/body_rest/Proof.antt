@@ -31,9 +31,6 @@ returns c =
     let here = l .inv .1 ∙ p .ensures .same (a .name-start) (a .name-end) (a .body-start) in
     sym (ap firstOf (here ∙ ends (a .message .now) (p .result) (inBody (a .name-start) (a .name-end) (a .body-start)) (omega (arith, p .ensures .within))))
 
-shared-slice-read-if2 : tie.Need-shared-slice-read-if2 Inv-loop μ-loop
-shared-slice-read-if2 c = omega arith
-
 returns-2 : tie.Need-returns-2 Inv-loop μ-loop
 unfolding firstOf
 returns-2 c =
@@ -43,9 +40,6 @@ returns-2 c =
     let here = l .inv .1 ∙ p .ensures .same (a .name-start) (a .name-end) (a .body-start) in
     sym (ap firstOf (here ∙ body-fault (a .message .now) (p .result) (omega arith) (a .name-start) (a .name-end) (a .body-start) (omega arith)))
 
-ends-body-requires : tie.Need-ends-body-requires Inv-loop μ-loop
-ends-body-requires c κs = omega arith
-
 returns-3 : tie.Need-returns-3 Inv-loop μ-loop
 unfolding firstOf
 returns-3 c =
@@ -54,9 +48,6 @@ returns-3 c =
     let p = c .before .before .before .before .before .past-plain in
     let here = l .inv .1 ∙ p .ensures .same (a .name-start) (a .name-end) (a .body-start) in
     sym (ap firstOf (here ∙ body-ends (a .message .now) (p .result) (omega arith) (a .name-start) (a .name-end) (a .body-start) (omega arith) (sym (c .before .ends-body .ensures) ∙ c .if3 .taken)))
-
-add-at : tie.Need-add-at Inv-loop μ-loop
-add-at c = omega arith
 
 loop-less : tie.Need-loop-less Inv-loop μ-loop
 loop-less c = let p = c .before .before .before .before .before .past-plain in omega (arith, p .ensures .from)
@@ -72,16 +63,5 @@ loop-again c =
 pub body-rest-spec : {M : Type 1} → statement M
 body-rest-spec =
     tie.close
-    (tie.spec
-    Inv-loop
-    μ-loop
-    loop-holds
-    past-plain-requires
-    returns
-    shared-slice-read-if2
-    returns-2
-    ends-body-requires
-    returns-3
-    add-at
-    loop-less
+    (tie.spec Inv-loop μ-loop loop-holds past-plain-requires returns (λ c. omega arith) returns-2 (λ c κs. omega arith) returns-3 (λ c. omega arith) loop-less
     loop-again)

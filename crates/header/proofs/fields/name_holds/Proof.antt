@@ -6,9 +6,6 @@ use Rattle.header.proofs.ByteLaws.{holds-white, holds-below, holds-abov
 use Rattle.header.proofs.fields.name_holds.Statement.{statement}
 use Rattle.header.proofs.fields.name_holds.Tie as tie
 
-is-white-requires : tie.Need-is-white-requires
-is-white-requires c κs = search needs
-
 returns : tie.Need-returns
 returns c = sym (holds-white _ (sym (c .before .is-white .ensures) ∙ c .if1 .taken))
 
@@ -24,4 +21,4 @@ returns-4 c =
     (holds-between _ (sym (c .before .before .before .is-white .ensures) ∙ c .before .before .if1 .left) (omega arith) (omega arith))
 
 pub name-holds-spec : {M : Type 1} → statement M
-name-holds-spec = tie.close (tie.spec is-white-requires returns returns-2 returns-3 returns-4)
+name-holds-spec = tie.close (tie.spec (λ c κs. search needs) returns returns-2 returns-3 returns-4)

@@ -19,20 +19,8 @@ Inv-loop message start at₀ end₀ at end =
 abbrev μ-loop : tie.MeasureT-loop
 μ-loop message start at₀ end₀ at end = length message - at
 
-add-at : tie.Need-add-at Inv-loop μ-loop
-add-at c = omega arith
-
 loop-holds : tie.Need-loop-holds Inv-loop μ-loop
 loop-holds c = (omega arith, refl)
-
-shared-slice-read-b : tie.Need-shared-slice-read-b Inv-loop μ-loop
-shared-slice-read-b c = omega arith
-
-add-body-rest : tie.Need-add-body-rest Inv-loop μ-loop
-add-body-rest c = omega arith
-
-body-rest-requires : tie.Need-body-rest-requires Inv-loop μ-loop
-body-rest-requires c κs = omega arith
 
 returns : tie.Need-returns Inv-loop μ-loop
 returns c =
@@ -40,9 +28,6 @@ returns c =
     let a = c .before .before .before .before .before .before .args in
     c .body-rest .ensures
     ∙ sym (ap firstOf (l .inv .1 ∙ name-ends (a .message .now) (l .at) (omega arith) (a .start) (l .end) (c .before .if1 .taken)))
-
-name-holds-requires : tie.Need-name-holds-requires Inv-loop μ-loop
-name-holds-requires c κs = search needs
 
 returns-2 : tie.Need-returns-2 Inv-loop μ-loop
 unfolding firstOf
@@ -55,15 +40,6 @@ returns-2 c =
     ∙ name-fault (a .message .now) (l .at) (omega arith) (a .start) (l .end) (c .before .before .if1 .left)
     (sym (c .before .name-holds .ensures) ∙ not-true _ (c .if2 .taken))))
 
-add-at-2 : tie.Need-add-at-2 Inv-loop μ-loop
-add-at-2 c = omega arith
-
-is-white-requires : tie.Need-is-white-requires Inv-loop μ-loop
-is-white-requires c κs = search needs
-
-loop-less : tie.Need-loop-less Inv-loop μ-loop
-loop-less c = omega arith
-
 loop-again : tie.Need-loop-again Inv-loop μ-loop
 loop-again c =
     let l = c .before .before .before .before .before .before .before .loop in
@@ -74,9 +50,6 @@ loop-again c =
           (sym (c .before .before .before .name-holds .ensures) ∙ not-false _ (c .before .before .if2 .left))
           (sym (c .before .is-white .ensures) ∙ not-true _ (c .if3 .taken)),
     )
-
-loop-less-2 : tie.Need-loop-less-2 Inv-loop μ-loop
-loop-less-2 c = omega arith
 
 loop-again-2 : tie.Need-loop-again-2 Inv-loop μ-loop
 loop-again-2 c =
@@ -99,21 +72,5 @@ returns-3 c =
 pub name-rest-spec : {M : Type 1} → statement M
 name-rest-spec =
     tie.close
-    (tie.spec
-    Inv-loop
-    μ-loop
-    add-at
-    loop-holds
-    shared-slice-read-b
-    add-body-rest
-    body-rest-requires
-    returns
-    name-holds-requires
-    returns-2
-    add-at-2
-    is-white-requires
-    loop-less
-    loop-again
-    loop-less-2
-    loop-again-2
-    returns-3)
+    (tie.spec Inv-loop μ-loop (λ c. omega arith) loop-holds (λ c. omega arith) (λ c. omega arith) (λ c κs. omega arith) returns (λ c κs. search needs) returns-2
+    (λ c. omega arith) (λ c κs. search needs) (λ c. omega arith) loop-again (λ c. omega arith) loop-again-2 returns-3)

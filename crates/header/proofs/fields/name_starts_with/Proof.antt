@@ -5,17 +5,11 @@ use Rattle.header.proofs.ByteLaws.{starts-white, starts-else}
 use Rattle.header.proofs.fields.name_starts_with.Statement.{statement}
 use Rattle.header.proofs.fields.name_starts_with.Tie as tie
 
-is-white-requires : tie.Need-is-white-requires
-is-white-requires c κs = search needs
-
 returns : tie.Need-returns
 returns c = sym (starts-white _ (sym (c .before .is-white .ensures) ∙ c .if1 .taken))
-
-name-holds-requires : tie.Need-name-holds-requires
-name-holds-requires c κs = search needs
 
 returns-2 : tie.Need-returns-2
 returns-2 c = c .name-holds .ensures ∙ sym (starts-else _ (sym (c .before .before .is-white .ensures) ∙ c .before .if1 .left))
 
 pub name-starts-with-spec : {M : Type 1} → statement M
-name-starts-with-spec = tie.close (tie.spec is-white-requires returns name-holds-requires returns-2)
+name-starts-with-spec = tie.close (tie.spec (λ c κs. search needs) returns (λ c κs. search needs) returns-2)

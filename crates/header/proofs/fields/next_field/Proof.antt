@@ -14,23 +14,11 @@ returns c =
     let a = c .before .before .args in
     sym (ap firstOf (ends (a .message .now) (a .at) lineStart (omega arith)))
 
-is-crlf-requires : tie.Need-is-crlf-requires
-is-crlf-requires c κs = search needs
-
 returns-2 : tie.Need-returns-2
 unfolding firstOf
 returns-2 c =
     let a = c .before .before .before .before .args in
     sym (ap firstOf (empty-line (a .message .now) (a .at) (omega arith) (sym (c .before .is-crlf .ensures) ∙ c .if2 .taken)))
-
-shared-slice-read-name-starts-with : tie.Need-shared-slice-read-name-starts-with
-shared-slice-read-name-starts-with c = search needs
-
-name-starts-with-requires : tie.Need-name-starts-with-requires
-name-starts-with-requires c κs = search needs
-
-name-rest-requires : tie.Need-name-rest-requires
-name-rest-requires c κs = search needs
 
 returns-3 : tie.Need-returns-3
 returns-3 c =
@@ -55,12 +43,4 @@ returns-4 c =
 pub next-field-spec : {M : Type 1} → statement M
 next-field-spec =
     tie.close
-    (tie.spec
-    returns
-    is-crlf-requires
-    returns-2
-    shared-slice-read-name-starts-with
-    name-starts-with-requires
-    name-rest-requires
-    returns-3
-    returns-4)
+    (tie.spec returns (λ c κs. search needs) returns-2 (λ c. search needs) (λ c κs. search needs) (λ c κs. search needs) returns-3 returns-4)

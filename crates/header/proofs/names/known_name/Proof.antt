@@ -102,14 +102,8 @@ returns c =
     let n = c .before .names in
     sym (n .inv .1 ∙ none-left knownNames (c .before .before .before .args .name .now) (n .i) (omega (arith, six)))
 
-mul-if2 : tie.Need-mul-if2 Inv-loop μ-loop Inv-names μ-names
-mul-if2 c = omega arith
-
 array-read-if2 : tie.Need-array-read-if2 Inv-loop μ-loop Inv-names μ-names
 array-read-if2 c = omega (arith, c .before .names .inv .0, c .if1 .left)
-
-add-i : tie.Need-add-i Inv-loop μ-loop Inv-names μ-names
-add-i c = omega arith
 
 names-less : tie.Need-names-less Inv-loop μ-loop Inv-names μ-names
 names-less c = omega (arith, c .before .before .names .inv .0, c .before .if1 .left)
@@ -132,12 +126,6 @@ loop-holds c =
     let n = c .before .before .names in
     (refl, record { is-known = omega (arith, n .inv .0, c .before .if1 .left); sized = c .if2 .left; within = omega arith; searched = n .inv .1; letters = refl })
 
-shared-slice-read-same-letter : tie.Need-shared-slice-read-same-letter Inv-loop μ-loop Inv-names μ-names
-shared-slice-read-same-letter c = omega arith
-
-mul-same-letter : tie.Need-mul-same-letter Inv-loop μ-loop Inv-names μ-names
-mul-same-letter c = omega arith
-
 index-1-same-letter : tie.Need-index-1-same-letter Inv-loop μ-loop Inv-names μ-names
 index-1-same-letter c = c .before .before .loop .inv .1 .is-known
 
@@ -145,12 +133,6 @@ index-2-same-letter : tie.Need-index-2-same-letter Inv-loop μ-loop Inv-names μ
 index-2-same-letter c =
     let x = c .before .before .loop .inv .1 in
     omega (arith, x .sized, row _ (x .is-known) .fits)
-
-same-letter-requires : tie.Need-same-letter-requires Inv-loop μ-loop Inv-names μ-names
-same-letter-requires c κs = search needs
-
-add-i-2 : tie.Need-add-i-2 Inv-loop μ-loop Inv-names μ-names
-add-i-2 c = omega arith
 
 names-less-2 : tie.Need-names-less-2 Inv-loop μ-loop Inv-names μ-names
 names-less-2 c =
@@ -163,12 +145,6 @@ names-again-2 c =
     let l = c .before .before .before .before .before .loop in
     let name : List ℕ = c .before .before .before .before .before .before .before .before .before .before .args .name .now in
     (omega (arith, l .inv .1 .is-known), differs name (l .inv .1) (omega arith) (sym (c .before .same-letter .ensures) ∙ not-true _ (c .if3 .taken)))
-
-add-j : tie.Need-add-j Inv-loop μ-loop Inv-names μ-names
-add-j c = omega arith
-
-loop-less : tie.Need-loop-less Inv-loop μ-loop Inv-names μ-names
-loop-less c = omega arith
 
 loop-again : tie.Need-loop-again Inv-loop μ-loop Inv-names μ-names
 unfolding texts
@@ -189,29 +165,6 @@ returns-2 c =
 pub known-name-spec : {M : Type 1} → statement M
 known-name-spec =
     tie.close
-    (tie.spec
-    Inv-loop
-    μ-loop
-    Inv-names
-    μ-names
-    names-holds
-    returns
-    mul-if2
-    array-read-if2
-    add-i
-    names-less
-    names-again
-    loop-holds
-    shared-slice-read-same-letter
-    mul-same-letter
-    index-1-same-letter
-    index-2-same-letter
-    same-letter-requires
-    add-i-2
-    names-less-2
-    names-again-2
-    add-j
-    loop-less
-    loop-again
-    array-copy-out-result
-    returns-2)
+    (tie.spec Inv-loop μ-loop Inv-names μ-names names-holds returns (λ c. omega arith) array-read-if2 (λ c. omega arith) names-less names-again loop-holds
+    (λ c. omega arith) (λ c. omega arith) index-1-same-letter index-2-same-letter (λ c κs. search needs) (λ c. omega arith) names-less-2 names-again-2
+    (λ c. omega arith) (λ c. omega arith) loop-again array-copy-out-result returns-2)

@@ -5,14 +5,8 @@ use lib.Dec.{eqb}
 use Rattle.header.proofs.names.same_letter.Statement.{statement}
 use Rattle.header.proofs.names.same_letter.Tie as tie
 
-lower-requires : tie.Need-lower-requires
-lower-requires c κs = search needs
-
-lower-requires-2 : tie.Need-lower-requires-2
-lower-requires-2 c κs = search needs
-
 returns : tie.Need-returns
 returns c = ap₂ (λ x y. eqb x y) (c .before .lower .ensures) (c .lower2 .ensures)
 
 pub same-letter-spec : {M : Type 1} → statement M
-same-letter-spec = tie.close (tie.spec lower-requires lower-requires-2 returns)
+same-letter-spec = tie.close (tie.spec (λ c κs. search needs) (λ c κs. search needs) returns)
