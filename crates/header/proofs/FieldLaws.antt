@@ -2,7 +2,7 @@
 use mathlib.Core.Path.{_≡_, refl, sym, subst, subst⁻¹, _∙_}
 use mathlib.Core.Bool.{Bool, true, false}
 use mathlib.Core.List.{List}
-use Prim.Native.Nat.{ℕ, zero, suc, _+_, _*_, _-_, _≤_, _<_}
+use Prim.Native.Nat.{ℕ, zero, suc, _+_, _-_, _≤_, _<_}
 use native.Mathlib.Decide.{decLt}
 use native.Mathlib.Omega.{arith}
 use borrow.Author.Tests.{eqb-true, eqb-false}
@@ -147,12 +147,3 @@ module _ (message : List ℕ) where
   -- the positions of each are ordered and lie in the message
   pub fields-ordered : (n : ℕ) → n < length (fieldsOf (headerOf message)) → Ordered message (getD (fieldsOf (headerOf message)) n noField)
   fields-ordered n l = at-index (headerOf message) 0 fields-ascend n l
-
-  four-each : (h : Header) (start : ℕ) → Ascend message start h → start + 4 * length (fieldsOf h) ≤ length message
-  four-each (field f rest) start (x, more) = omega (arith, four-each rest (f .bodyEnd + 2) more, x .starts, x .ordered)
-  four-each ended start l = omega arith
-  four-each (fault number position) start l = omega arith
-
-  -- a field has at least four bytes, so there are at most a quarter as many fields as bytes
-  pub few-fields : 4 * length (fieldsOf (headerOf message)) ≤ length message
-  few-fields = omega (arith, four-each (headerOf message) 0 fields-ascend)
