@@ -10,6 +10,7 @@ use Rattle.octets.specs.Believed.Choice.{pick}
 use Rattle.octets.specs.Ties.Writing.{Wrote}
 use Rattle.grammar.specs.Believed.Rfc733.{sameClass}
 use Rattle.grammar.proofs.Symbols.{each-of}
+use Rattle.grammar.proofs.Readers.{endsAddress}
 use Rattle.scanner.specs.Believed.Scanning.{scanBy, symbol}
 use Rattle.scanner.specs.Believed.Answers.{nextOf}
 use Rattle.scanner.specs.declared.Class.{Class}
@@ -23,32 +24,25 @@ use Rattle.plain.specs.Ties.Writing.{textLimit, isColon}
 use Rattle.plain.specs.declared.places.Place.{Place}
 use Rattle.plain.specs.declared.places.Place.the-variants.{Start}
 use Rattle.plain.proofs.WalkSteps.{colon-of, NoneComes}
-use Rattle.expansion.specs.Ties.Walk.{Sym, ends, untilEnd}
+use Rattle.expansion.specs.Ties.Walk.{Sym, untilEnd}
 use Rattle.addresses.specs.Ties.Steps.{symbolsFrom}
 use Rattle.expansion.specs.Ties.Steps.{addressFrom}
 use Rattle.expansion.proofs.SeekSteps.{no-symbols, next-symbol}
+use Rattle.expansion.proofs.Seeking.{Ending, at-greater, at-comma, at-semicolon, ending}
 
 -- where an address ends no ":" stands
-colon-by : (x : Sym) (xs : List Sym) (c : Class) → colonNext (pick (ends c) [] (x ∷ xs)) ≡ pick (ends c) false (sameClass Colon (x .class))
-colon-by x xs c = by (ends c)
-  where
-    by : (b : Bool) → colonNext (pick b [] (x ∷ xs)) ≡ pick b false (sameClass Colon (x .class))
-    by true = refl
-    by false = refl
-
-colon-class : (c : Class) → pick (ends c) false (sameClass Colon c) ≡ sameClass Colon c
-colon-class c = by (ends c) refl
-  where
-    by : (b : Bool) → ends c ≡ b → pick b false (sameClass Colon c) ≡ sameClass Colon c
-    by true e = each-of (λ d. false ≡ sameClass Colon d) ends (refl, (refl, (refl, tt))) c e
-    by false e = refl
+no-colon : {c : Class} → Ending c → false ≡ sameClass Colon c
+no-colon at-greater = refl
+no-colon at-comma = refl
+no-colon at-semicolon = refl
 
 until-colon : (xs : List Sym) → colonNext (untilEnd xs) ≡ colonNext xs
 until-colon [] = refl
-until-colon (x ∷ xs) = colon-by x (untilEnd xs) (x .class) ∙ colon-class (x .class)
-
-abbrev untilFrom : List ℕ → List ℕ → Place → ℕ → List ℕ
-untilFrom classes text place at = walkText place (untilEnd (symbolsFrom classes text at))
+until-colon (x ∷ xs) = by (endsAddress (x .class)) refl
+  where
+    by : (z : Bool) → endsAddress (x .class) ≡ z → colonNext (pick z [] (x ∷ untilEnd xs)) ≡ sameClass Colon (x .class)
+    by true e = no-colon (ending (x .class) e)
+    by false e = refl
 
 -- n bytes are written, and the text from the next symbol on is left
 pub record Coming (classes text : List ℕ) (start : ℕ) (own₀ own : List ℕ) (n : ℕ) (place : Place) (coming : Next) : Type 0 where
@@ -73,23 +67,23 @@ module _ {classes text : List ℕ} {start : ℕ} {own₀ own : List ℕ} {n : �
   coming-none h = ended-with (ap (λ xs. walkText place (untilEnd xs)) (no-symbols classes text coming (l .at) (l .is) h))
 
   until-next : {class : Class} {first end : ℕ} → coming ≡ Found class first end
-      → untilEnd (symbolsFrom classes text (l .at)) ≡ pick (ends class) [] (symbol class first end (meaningAt classes text class first end) ∷ untilEnd (symbolsFrom classes text end))
+      → untilEnd (symbolsFrom classes text (l .at)) ≡ pick (endsAddress class) [] (symbol class first end (meaningAt classes text class first end) ∷ untilEnd (symbolsFrom classes text end))
   until-next e = ap untilEnd (next-symbol classes text (comes e))
 
-  pub coming-end : {class : Class} {first end : ℕ} {r : Bool} → coming ≡ Found class first end → r ≡ ends class → r ≡ true → (n ≡ length (addressFrom classes text start)) × (own ≡ sets own₀ 0 (addressFrom classes text start))
-  coming-end {class} {first} {end} e f g =
-      ended-with (ap (walkText place) (until-next e ∙ ap (λ z. pick z [] (symbol class first end (meaningAt classes text class first end) ∷ untilEnd (symbolsFrom classes text end))) (sym f ∙ g)))
+  pub coming-end : {class : Class} {first end : ℕ} → coming ≡ Found class first end → endsAddress class ≡ true → (n ≡ length (addressFrom classes text start)) × (own ≡ sets own₀ 0 (addressFrom classes text start))
+  coming-end {class} {first} {end} e g =
+      ended-with (ap (walkText place) (until-next e ∙ ap (λ z. pick z [] (symbol class first end (meaningAt classes text class first end) ∷ untilEnd (symbolsFrom classes text end))) g))
 
-  pub coming-next : {class : Class} {first end : ℕ} {r : Bool} {later : Next} {colon : Bool} {own′ : List ℕ} {n′ : ℕ} {place′ : Place} → coming ≡ Found class first end → r ≡ ends class → r ≡ false → length text ≤ textLimit
+  pub coming-next : {class : Class} {first end : ℕ} {later : Next} {colon : Bool} {own′ : List ℕ} {n′ : ℕ} {place′ : Place} → coming ≡ Found class first end → endsAddress class ≡ false → length text ≤ textLimit
       → later ≡ nextOf (scanBy classes text end) → colon ≡ isColon later → length own′ ≡ length own
       → Wrote (symbolText class (meaningAt classes text class first end) place colon) own n own′ n′ → n′ ≤ n + 2 * length text + 3 → place′ ≡ after class place colon
       → Coming classes text start own₀ own′ n′ place′ later
-  coming-next {class} {first} {end} {r} {later} {colon} {own′} {n′} {place′} e f g h k c s w b p =
+  coming-next {class} {first} {end} {later} {colon} {own′} {n′} {place′} e g h k c s w b p =
       let x = comes e in
       let ys : List Sym = untilEnd (symbolsFrom classes text end) in
       let q : colon ≡ colonNext ys = c ∙ ap isColon k ∙ colon-of (scanBy classes text end) ∙ sym (until-colon (symbolsFrom classes text end)) in
       let t : walkText place (untilEnd (symbolsFrom classes text (l .at))) ≡ symbolText class (meaningAt classes text class first end) place colon (walkText place′ ys) =
-      rw (p, q) (ap (walkText place) (until-next e ∙ ap (λ z. pick z [] (symbol class first end (meaningAt classes text class first end) ∷ ys)) (sym f ∙ g))) in
+      rw (p, q) (ap (walkText place) (until-next e ∙ ap (λ z. pick z [] (symbol class first end (meaningAt classes text class first end) ∷ ys)) g)) in
       record {
         at = end;
         is = k;

@@ -5,16 +5,22 @@ use mathlib.Core.Path.{_≡_, refl, sym, ap, _∙_}
 use mathlib.Core.Bool.{Bool, true, false}
 use mathlib.Core.List.{List, [], _∷_}
 use borrow.Author.Tests.{lt-ltb, le-ltb}
+use types.Run.{OneOf}
 use lib.ListN.{length}
 use Rattle.octets.specs.Believed.Choice.{pick}
 use Rattle.octets.specs.Believed.Numbers.{levelLimit}
 use Rattle.scanner.specs.declared.Class.{Class}
-use Rattle.scanner.specs.declared.Class.the-variants.{Atom, Colon}
+use Rattle.scanner.specs.declared.Class.the-variants.{Atom, Colon, LessThan, Comma}
+use Rattle.grammar.specs.Believed.Rfc733.{sameClass}
+use Rattle.grammar.proofs.Readers.{endsList}
+use Rattle.addresses.proofs.ClassCases.{tag, by-class, by-class-not}
 use Rattle.plain.specs.declared.places.Place.{Place}
+use Rattle.plain.specs.declared.places.Place.the-variants.{Typing}
 use Rattle.plain.specs.Ties.Walking.{afterAtom}
 use Rattle.expansion.specs.Ties.Walk.{isTyping, levelsAfter, withList, withTyped, withoutOne, withoutTyped}
 use Rattle.expansion.specs.Ties.Steps.{bitsOf, LevelsAre, Follows, LevelsAfter}
 use Rattle.expansion.specs.declared.Levels.{Levels}
+use Rattle.expansion.proofs.PlaceCases.{place-tag, by-place}
 
 -- 2 ^ n
 abbrev power : ℕ → ℕ
@@ -112,26 +118,39 @@ one-left s (true ∷ r) many typed a b c d h n = record { rest = r; many-is = om
 pub comes-next : {many₀ typed₀ : ℕ} (many typed : ℕ) → Comes many₀ typed₀ many typed → 0 < many → (typed % 2 ≡ 0 → ⊥) → Comes many₀ typed₀ (many - 1) (typed / 2)
 comes-next many typed h i n s a b c = let l = h s a b c in one-left s (l .rest) many typed (l .many-is) (l .typed-is) (l .few) (l .same) i n
 
--- ---- behind a symbol
+-- ---- after a symbol
 
-picks : (levels after : Levels) (f g : List Bool → List Bool) (z : Bool) (x : Bool) → x ≡ z → Follows levels after (λ s. pick z (f s) (g s)) → Follows levels after (λ s. pick x (f s) (g s))
-picks levels after f g z x e h = rw e h
+not-typing : (place : Place) → OneOf (0 ∷ 1 ∷ 2 ∷ 3 ∷ 5 ∷ 6 ∷ 7 ∷ 8 ∷ []) (place-tag place) → isTyping place ≡ false
+not-typing place o = by-place (λ p. isTyping p ≡ false) (0 ∷ 1 ∷ 2 ∷ 3 ∷ 5 ∷ 6 ∷ 7 ∷ 8 ∷ []) refl refl refl refl tt refl refl refl refl place o
 
-module _ {class : Class} (place : Place) (colon : Bool) (levels after : Levels) where
+picks : (levels after : Levels) (f g : List Bool → List Bool) {x : Bool} (z : Bool) → x ≡ z → Follows levels after (λ s. pick z (f s) (g s)) → Follows levels after (λ s. pick x (f s) (g s))
+picks levels after f g z e h = rw e h
+
+module _ (class : Class) (place : Place) (colon : Bool) (levels after : Levels) where
   pub as-class : (c : Class) → class ≡ c → Follows levels after (λ s. levelsAfter c place colon s) → LevelsAfter class place colon levels after
   as-class c e h = rw e h
 
-  pub atom-typed : {p : Place} {z : Bool} → class ≡ Atom → p ≡ afterAtom place colon → z ≡ isTyping p → z ≡ true → Follows levels after withTyped → LevelsAfter class place colon levels after
-  atom-typed e f g h i = as-class Atom e (picks levels after withTyped (λ s. s) true _ (ap isTyping (sym f) ∙ sym g ∙ h) i)
+  pub atom-typed : {p : Place} → class ≡ Atom → p ≡ afterAtom place colon → p ≡ Typing → Follows levels after withTyped → LevelsAfter class place colon levels after
+  atom-typed e f g h = as-class Atom e (picks levels after withTyped (λ s. s) true (ap isTyping (sym f ∙ g)) h)
 
-  pub atom-untyped : {p : Place} {z : Bool} → class ≡ Atom → p ≡ afterAtom place colon → z ≡ isTyping p → z ≡ false → Follows levels after (λ s. s) → LevelsAfter class place colon levels after
-  atom-untyped e f g h i = as-class Atom e (picks levels after withTyped (λ s. s) false _ (ap isTyping (sym f) ∙ sym g ∙ h) i)
+  pub atom-other : {p : Place} → class ≡ Atom → p ≡ afterAtom place colon → OneOf (0 ∷ 1 ∷ 2 ∷ 3 ∷ 5 ∷ 6 ∷ 7 ∷ 8 ∷ []) (place-tag p) → Follows levels after (λ s. s) → LevelsAfter class place colon levels after
+  atom-other {p} e f o h = as-class Atom e (picks levels after withTyped (λ s. s) false (ap isTyping (sym f) ∙ not-typing p o) h)
 
-  pub colon-typing : {z : Bool} → class ≡ Colon → z ≡ isTyping place → z ≡ true → Follows levels after (λ s. s) → LevelsAfter class place colon levels after
-  colon-typing e g h i = as-class Colon e (picks levels after (λ s. s) withList true _ (sym g ∙ h) i)
+  pub colon-typing : class ≡ Colon → place ≡ Typing → Follows levels after (λ s. s) → LevelsAfter class place colon levels after
+  colon-typing e f h = as-class Colon e (picks levels after (λ s. s) withList true (ap isTyping f) h)
 
-  pub colon-list : {z : Bool} → class ≡ Colon → z ≡ isTyping place → z ≡ false → Follows levels after withList → LevelsAfter class place colon levels after
-  colon-list e g h i = as-class Colon e (picks levels after (λ s. s) withList false _ (sym g ∙ h) i)
+  pub colon-list : class ≡ Colon → OneOf (0 ∷ 1 ∷ 2 ∷ 3 ∷ 5 ∷ 6 ∷ 7 ∷ 8 ∷ []) (place-tag place) → Follows levels after withList → LevelsAfter class place colon levels after
+  colon-list e o h = as-class Colon e (picks levels after (λ s. s) withList false (not-typing place o) h)
 
-pub follows-both : {levels between after : Levels} {f g : List Bool → List Bool} → Follows levels between f → Follows between after g → Follows levels after (λ s. g (f s))
-follows-both h k s i = k _ (h s i)
+  pub closes : OneOf (4 ∷ 6 ∷ []) (tag class) → Follows levels after (λ s. withoutOne (withoutTyped s)) → LevelsAfter class place colon levels after
+  closes o h = rw (by-class (4 ∷ 6 ∷ []) endsList tt class o) h
+
+  pub no-level : OneOf (1 ∷ 2 ∷ 8 ∷ 9 ∷ 10 ∷ []) (tag class) → Follows levels after (λ s. s) → LevelsAfter class place colon levels after
+  no-level o h =
+      rw (
+        by-class-not (1 ∷ 2 ∷ 8 ∷ 9 ∷ 10 ∷ []) endsList tt class o,
+        by-class-not (1 ∷ 2 ∷ 8 ∷ 9 ∷ 10 ∷ []) (sameClass Atom) tt class o,
+        by-class-not (1 ∷ 2 ∷ 8 ∷ 9 ∷ 10 ∷ []) (sameClass Colon) tt class o,
+        by-class-not (1 ∷ 2 ∷ 8 ∷ 9 ∷ 10 ∷ []) (sameClass LessThan) tt class o,
+        by-class-not (1 ∷ 2 ∷ 8 ∷ 9 ∷ 10 ∷ []) (sameClass Comma) tt class o,
+      ) h

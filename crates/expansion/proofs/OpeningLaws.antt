@@ -26,16 +26,16 @@ use Rattle.addresses.proofs.WithinLaws.{within-listed, within-not}
 use Rattle.plain.specs.declared.places.Place.{Place}
 use Rattle.expansion.specs.Believed.Store.{listIn}
 use Rattle.expansion.specs.Ties.Walk.{Trail, halted, walkWithin}
-use Rattle.expansion.specs.Ties.Steps.{Continuation, faultIn, walkSymbols, RecordOpens, OpeningIs}
+use Rattle.expansion.specs.Ties.Steps.{Continuation, faultIn, walkSymbols, RecordOpens, VerdictIs}
 use Rattle.expansion.specs.declared.Around.the-variants.{Inside}
-use Rattle.expansion.specs.declared.Opening.{Opening}
-use Rattle.expansion.specs.declared.Opening.the-variants.{Faulty}
+use Rattle.expansion.specs.declared.Verdict.{Verdict}
+use Rattle.expansion.specs.declared.Verdict.the-variants.{Faulty}
 
 -- ---- the fault of a list, by what the reader answers
 
 module _ (i position : ℕ) (list table : List ℕ) where
   pub fault-refused : (n p : ℕ) → Refused n p ≡ outcome list 0 (length list) table .answer → Faulty n i ≡ faultIn list i position
-  fault-refused n p e = sym (refused-told list 0 (length list) table n p e Opening (λ n p. Faulty n i) (λ k. Faulty tooManyLevels position))
+  fault-refused n p e = sym (refused-told list 0 (length list) table n p e Verdict (λ n p. Faulty n i) (λ k. Faulty tooManyLevels position))
 
   pub fault-levels : (r : Answer) → r ≡ outcome list 0 (length list) table .answer → OneOf (0 ∷ 2 ∷ []) (tagOf answer-declared.the-type r) → Faulty tooManyLevels position ≡ faultIn list i position
   fault-levels r e o = sym (listed-read (some-list list 0 (length list) table r e o .body) (λ n p. Faulty n i) (λ k. Faulty tooManyLevels position))
@@ -52,7 +52,7 @@ module _ (store : List ℕ) (i position depth openings : ℕ) where
       (walkSymbols store deep (Inside position depth) place [] (symbolsOf (scan (listIn store i) 0)) (suc openings) following)
 
   -- the 65th
-  pub too-many : openingLimit ≤ openings → OpeningIs store i position depth openings (Faulty tooManyOpenings position)
+  pub too-many : openingLimit ≤ openings → VerdictIs store i position depth openings (Faulty tooManyOpenings position)
   too-many h zero place following n = refl
   too-many h (suc deep) place following n =
       ap (λ z. pick z (halted tooManyOpenings position openings) (bodyRead refuse (derive deep place following) (listIn store i) 0 (length (listIn store i)))) (le-leb openingLimit openings h)
@@ -84,14 +84,14 @@ module _ (store : List ℕ) (i position depth openings : ℕ) where
     deeper k b false a e = omega (arith, leb-false depth levelLimit a)
 
     halts : (n p : ℕ) → ((deep : ℕ) (place : Place) (following : Continuation) → bodyRead refuse (derive deep place following) (listIn store i) 0 (length (listIn store i)) ≡ halted n p openings)
-        → OpeningIs store i position depth openings (Faulty n p)
+        → VerdictIs store i position depth openings (Faulty n p)
     halts n p f zero place following h = absurd (omega (arith, h, few))
     halts n p f (suc deep) place following h = reads deep place following ∙ f deep place following
 
-    pub at-fault : both (leb depth levelLimit) (listWithin (levelLimit - depth) (listIn store i)) ≡ false → (r : Opening) → r ≡ faultIn (listIn store i) i position → OpeningIs store i position depth openings r
+    pub at-fault : both (leb depth levelLimit) (listWithin (levelLimit - depth) (listIn store i)) ≡ false → (r : Verdict) → r ≡ faultIn (listIn store i) i position → VerdictIs store i position depth openings r
     at-fault e r g =
         elim (judged (listIn store i) 0 (length (listIn store i))) [
-          | refusedAt n p f ↦ rw (g ∙ f Opening (λ n p. Faulty n i) (λ k. Faulty tooManyLevels position)) (halts n i (λ deep place following. f Trail refuse (derive deep place following)))
+          | refusedAt n p f ↦ rw (g ∙ f Verdict (λ n p. Faulty n i) (λ k. Faulty tooManyLevels position)) (halts n i (λ deep place following. f Trail refuse (derive deep place following)))
           | listed k b ↦
               rw (g ∙ listed-read b (λ n p. Faulty n i) (λ k. Faulty tooManyLevels position))
               (halts tooManyLevels position (λ deep place following.

@@ -1,37 +1,33 @@
 -- Symbols sought one after the other, as the code goes. Assumes nothing.
-use Prim.Native.Nat.{ℕ, _-_, _≤_}
+use Prim.Native.Nat.{ℕ, _≤_}
 use native.Mathlib.Omega.{arith}
 use mathlib.Core.Path.{_≡_, refl, sym, ap, _∙_}
+use mathlib.Core.Bool.{Bool, true, false, not}
 use mathlib.Core.List.{List, [], _∷_}
+use mathlib.Core.Option.{Option, none, some}
+use types.Run.{OneOf}
+use Rattle.octets.specs.Believed.Choice.{pick, both}
 use Rattle.scanner.specs.Believed.Scanning.{Scanned, ended, next, faultAt, symbolsOf, scanBy, symbol}
 use Rattle.scanner.specs.Believed.Answers.{nextOf}
 use Rattle.scanner.specs.declared.Class.{Class}
-use Rattle.scanner.specs.declared.Class.the-variants.{Atom, Quoted, At, LessThan, GreaterThan, Comma, Semicolon, Colon, Stray, Dot, Literal}
+use Rattle.scanner.specs.declared.Class.the-variants.{At, LessThan, GreaterThan, Comma}
 use Rattle.scanner.specs.declared.Next.{Next}
 use Rattle.scanner.specs.Ties.Meanings.{meaningAt}
 use Rattle.scanner.proofs.Unfolding.{SymbolAt}
+use Rattle.grammar.specs.Believed.Rfc733.{sameClass}
+use Rattle.grammar.proofs.Readers.{endsAddress}
+use Rattle.addresses.specs.Ties.Steps.{symbolsFrom, isWord}
+use Rattle.addresses.proofs.ClassCases.{tag, by-class, by-class-not}
 use Rattle.plain.proofs.WalkSteps.{NoneComes}
-use mathlib.Core.Bool.{Bool, true, false}
-use Rattle.octets.specs.Believed.Choice.{pick, both}
-use Rattle.expansion.specs.Ties.Walk.{Sym, ends, innerAfter, single, neither, angled, heldFrom, heldBy, Phase, nothing, notWords, only, namedBy, firstFrom, firstOf, soughtBy, sought}
-use Rattle.addresses.specs.Ties.Steps.{symbolsFrom}
-use Rattle.expansion.specs.Ties.Steps.{asHeld, sortOf, skipTo, asPhase, onStep, OnlyIs, turnOf, onTurn, namedIf, asRecord}
-use mathlib.Core.Option.{Option, none, some}
 use Rattle.expansion.specs.Believed.Store.{orElse}
+use Rattle.expansion.specs.Ties.Walk.{Sym, innerAfter, single, neither, angled, heldFrom, heldBy, onlyFrom, only, namedBy, firstOf, soughtBy, sought}
 use Rattle.expansion.specs.Ties.Walk as seek
-use Rattle.expansion.proofs.StoreLaws.{InStore, lowest-in, else-in, pick-in}
-use Rattle.expansion.specs.declared.Turn.{Turn}
-use Rattle.expansion.specs.declared.Turn.the-variants.{Closes, Parts, Within}
+use Rattle.expansion.specs.Ties.Steps.{asHeld, skipTo, namedIf, asRecord}
 use Rattle.expansion.specs.declared.Record.{Record}
 use Rattle.expansion.specs.declared.Record.the-variants.{Stored, Nowhere}
-use Rattle.expansion.specs.declared.Only.{Only}
-use Rattle.expansion.specs.declared.Only.the-variants.{On, Done}
-use Rattle.expansion.specs.declared.Phase as code
-use Rattle.expansion.specs.declared.Sort.{Sort}
-use Rattle.expansion.specs.declared.Sort.the-variants.{Word, Less, Other}
-use Rattle.expansion.specs.declared.Sort.the-variants as sort
 use Rattle.expansion.specs.declared.Held.{Held}
 use Rattle.expansion.specs.declared.Held.the-variants.{Single, Angled, Neither}
+use Rattle.expansion.proofs.StoreLaws.{InStore, lowest-in, else-in, pick-in}
 
 none-of : (s : Scanned) → NoneComes (nextOf s) → symbolsOf s ≡ []
 unfolding symbolsOf
@@ -50,49 +46,25 @@ module _ (classes text : List ℕ) where
 
   -- ---- what an Include holds
 
-  pub held-next : {at : ℕ} {class : Class} {start end : ℕ} → SymbolAt classes text at class start end
-      → heldBy (symbolsFrom classes text at) ≡ heldFrom class (symbolsFrom classes text end) (heldBy (symbolsFrom classes text end))
-  held-next x = ap heldBy (next-symbol x)
-
-  -- by the sort of the symbol: what it holds, or that the rest tells
-  abbrev pub HeldSort : Sort → Class → ℕ → Type 0
-  HeldSort Word class end = heldFrom class (symbolsFrom classes text end) (heldBy (symbolsFrom classes text end)) ≡ heldBy (symbolsFrom classes text end)
-  HeldSort sort.At class end = heldFrom class (symbolsFrom classes text end) (heldBy (symbolsFrom classes text end)) ≡ single
-  HeldSort Less class end = heldFrom class (symbolsFrom classes text end) (heldBy (symbolsFrom classes text end)) ≡ angled (symbolsFrom classes text end)
-  HeldSort Other class end = heldFrom class (symbolsFrom classes text end) (heldBy (symbolsFrom classes text end)) ≡ neither
-
-  by-sort : (class : Class) (end : ℕ) → HeldSort (sortOf class) class end
-  by-sort Atom end = refl
-  by-sort Quoted end = refl
-  by-sort At end = refl
-  by-sort LessThan end = refl
-  by-sort GreaterThan end = refl
-  by-sort Comma end = refl
-  by-sort Semicolon end = refl
-  by-sort Colon end = refl
-  by-sort Stray end = refl
-  by-sort Dot end = refl
-  by-sort Literal end = refl
-
-  held-by-sort : (class : Class) (end : ℕ) (s t : Sort) → s ≡ sortOf class → t ≡ s → HeldSort t class end
-  held-by-sort class end s t e f = rw (f ∙ e) (by-sort class end)
-
   module _ (at p : ℕ) (i : heldBy (symbolsFrom classes text at) ≡ heldBy (symbolsFrom classes text p)) where
-    module _ {class : Class} {start end : ℕ} (x : SymbolAt classes text p class start end) (r : Sort) (e : r ≡ sortOf class) where
-      pub held-word : r ≡ Word → heldBy (symbolsFrom classes text at) ≡ heldBy (symbolsFrom classes text end)
-      held-word f = i ∙ held-next x ∙ held-by-sort class end r Word e (sym f)
-
-      pub held-at-sign : r ≡ sort.At → heldBy (symbolsFrom classes text at) ≡ single
-      held-at-sign f = i ∙ held-next x ∙ held-by-sort class end r sort.At e (sym f)
-
-      pub held-less : r ≡ Less → heldBy (symbolsFrom classes text at) ≡ angled (symbolsFrom classes text end)
-      held-less f = i ∙ held-next x ∙ held-by-sort class end r Less e (sym f)
-
-      pub held-other : r ≡ Other → heldBy (symbolsFrom classes text at) ≡ neither
-      held-other f = i ∙ held-next x ∙ held-by-sort class end r Other e (sym f)
-
     pub held-none : (coming : Next) → coming ≡ nextOf (scanBy classes text p) → NoneComes coming → heldBy (symbolsFrom classes text at) ≡ neither
     held-none coming e h = i ∙ ap heldBy (no-symbols coming p e h)
+
+    module _ {class : Class} {start end : ℕ} (x : SymbolAt classes text p class start end) where
+      pub held-as : (c : Class) → class ≡ c → heldBy (symbolsFrom classes text at) ≡ heldFrom c (symbolsFrom classes text end) (heldBy (symbolsFrom classes text end))
+      held-as c e = i ∙ ap heldBy (next-symbol x) ∙ ap (λ z. heldFrom z (symbolsFrom classes text end) (heldBy (symbolsFrom classes text end))) e
+
+      pub held-word : OneOf (0 ∷ 1 ∷ []) (tag class) → heldBy (symbolsFrom classes text at) ≡ heldBy (symbolsFrom classes text end)
+      held-word o = held-as class refl ∙ rw (by-class (0 ∷ 1 ∷ []) isWord tt class o)
+
+      pub held-other : OneOf (4 ∷ 5 ∷ 6 ∷ 7 ∷ 8 ∷ 9 ∷ 10 ∷ []) (tag class) → heldBy (symbolsFrom classes text at) ≡ neither
+      held-other o =
+          held-as class refl
+          ∙ rw (
+            by-class-not (4 ∷ 5 ∷ 6 ∷ 7 ∷ 8 ∷ 9 ∷ 10 ∷ []) isWord tt class o,
+            by-class-not (4 ∷ 5 ∷ 6 ∷ 7 ∷ 8 ∷ 9 ∷ 10 ∷ []) (sameClass At) tt class o,
+            by-class-not (4 ∷ 5 ∷ 6 ∷ 7 ∷ 8 ∷ 9 ∷ 10 ∷ []) (sameClass LessThan) tt class o,
+          )
 
   -- ---- where an Include ends
 
@@ -103,68 +75,85 @@ module _ (classes text : List ℕ) where
   pub skip-first : (at : ℕ) → Skipping at at false
   skip-first at = record { same = refl; from = omega arith }
 
-  nothing-skipped : (inner : Bool) → skipTo inner [] ≡ []
-  nothing-skipped inner = refl
-
   pub skip-none : (at p : ℕ) (inner : Bool) → Skipping at p inner → (coming : Next) → coming ≡ nextOf (scanBy classes text p) → NoneComes coming
       → (symbolsFrom classes text p ≡ skipTo false (symbolsFrom classes text at)) × (at ≤ p)
   skip-none at p inner i coming e h = let f = no-symbols coming p e h in (f ∙ sym (i .same ∙ ap (skipTo inner) f), i .from)
 
   module _ {class : Class} {start end : ℕ} (at p : ℕ) (inner : Bool) (i : Skipping at p inner) (x : SymbolAt classes text p class start end) where
-    one : skipTo inner (symbolsFrom classes text p)
-        ≡ pick (pick inner false (ends class)) (symbol class start end (meaningAt classes text class start end) ∷ symbolsFrom classes text end) (skipTo (innerAfter class inner) (symbolsFrom classes text end))
-    one = ap (skipTo inner) (next-symbol x)
+    one : skipTo inner (symbolsFrom classes text p) ≡ pick (pick inner false (endsAddress class)) (symbolsFrom classes text p) (skipTo (innerAfter class inner) (symbolsFrom classes text end))
+    one =
+        let n = next-symbol x in
+        ap (skipTo inner) n ∙ ap (λ ys. pick (pick inner false (endsAddress class)) ys (skipTo (innerAfter class inner) (symbolsFrom classes text end))) (sym n)
 
-    pub skip-stop : {r : Bool} → r ≡ pick inner false (ends class) → r ≡ true → (symbolsFrom classes text p ≡ skipTo false (symbolsFrom classes text at)) × (at ≤ p)
-    skip-stop e f =
-        (next-symbol x ∙ sym (i .same ∙ one ∙ ap (λ z. pick z (symbol class start end (meaningAt classes text class start end) ∷ symbolsFrom classes text end) (skipTo (innerAfter class inner) (symbolsFrom classes text end))) (sym e ∙ f)), i .from)
+    pub skip-stop : endsAddress class ≡ true → inner ≡ false → (symbolsFrom classes text p ≡ skipTo false (symbolsFrom classes text at)) × (at ≤ p)
+    skip-stop e f = (
+      sym (i .same ∙ one ∙ ap (λ z. pick z (symbolsFrom classes text p) (skipTo (innerAfter class inner) (symbolsFrom classes text end))) (ap (λ z. pick z false (endsAddress class)) f ∙ e)),
+      i .from,
+    )
 
-    pub skip-on : {r inner′ : Bool} → r ≡ pick inner false (ends class) → r ≡ false → inner′ ≡ innerAfter class inner → Skipping at end inner′
-    skip-on {r} {inner′} e f g =
+    skip-on : {inner′ : Bool} → pick inner false (endsAddress class) ≡ false → innerAfter class inner ≡ inner′ → Skipping at end inner′
+    skip-on e f =
         record {
-          same = i .same ∙ one ∙ ap (λ z. pick z (symbol class start end (meaningAt classes text class start end) ∷ symbolsFrom classes text end) (skipTo (innerAfter class inner) (symbolsFrom classes text end))) (sym e ∙ f) ∙ ap (λ z. skipTo z (symbolsFrom classes text end)) (sym g);
+          same = i .same ∙ one ∙ ap (λ z. pick z (symbolsFrom classes text p) (skipTo (innerAfter class inner) (symbolsFrom classes text end))) e ∙ ap (λ z. skipTo z (symbolsFrom classes text end)) f;
           from = omega (arith, i .from, x .from, x .starts);
         }
 
+    goes-on : (z e : Bool) → e ≡ false → pick z false e ≡ false
+    goes-on true e f = refl
+    goes-on false e f = f
+
+    pub skip-less : class ≡ LessThan → Skipping at end true
+    skip-less e = skip-on (goes-on inner _ (ap endsAddress e)) (ap (λ c. innerAfter c inner) e)
+
+    pub skip-greater : class ≡ GreaterThan → inner ≡ true → Skipping at end false
+    skip-greater e f = skip-on (ap (λ z. pick z false (endsAddress class)) f) (ap (λ c. innerAfter c inner) e)
+
+    pub skip-inner : OneOf (5 ∷ 6 ∷ []) (tag class) → inner ≡ true → Skipping at end inner
+    skip-inner o f =
+        skip-on (ap (λ z. pick z false (endsAddress class)) f) (rw (by-class-not (5 ∷ 6 ∷ []) (sameClass LessThan) tt class o, by-class-not (5 ∷ 6 ∷ []) (sameClass GreaterThan) tt class o))
+
+    pub skip-other : OneOf (0 ∷ 1 ∷ 2 ∷ 7 ∷ 8 ∷ 9 ∷ 10 ∷ []) (tag class) → Skipping at end inner
+    skip-other o =
+        skip-on (goes-on inner _ (by-class-not (0 ∷ 1 ∷ 2 ∷ 7 ∷ 8 ∷ 9 ∷ 10 ∷ []) endsAddress tt class o))
+        (rw (by-class-not (0 ∷ 1 ∷ 2 ∷ 7 ∷ 8 ∷ 9 ∷ 10 ∷ []) (sameClass LessThan) tt class o, by-class-not (0 ∷ 1 ∷ 2 ∷ 7 ∷ 8 ∷ 9 ∷ 10 ∷ []) (sameClass GreaterThan) tt class o))
+
   -- ---- mailboxes only
 
-  module _ (at p : ℕ) (phase : code.Phase) (i : only nothing (symbolsFrom classes text at) ≡ only (asPhase phase) (symbolsFrom classes text p)) where
-    pub only-none : (coming : Next) → coming ≡ nextOf (scanBy classes text p) → NoneComes coming → false ≡ only nothing (symbolsFrom classes text at)
-    only-none coming e h = sym (i ∙ ap (only (asPhase phase)) (no-symbols coming p e h))
+  module _ (at p : ℕ) (words nodes : Bool) (i : only false false (symbolsFrom classes text at) ≡ only words nodes (symbolsFrom classes text p)) where
+    pub only-none : (coming : Next) → coming ≡ nextOf (scanBy classes text p) → NoneComes coming → false ≡ only false false (symbolsFrom classes text at)
+    only-none coming e h = sym (i ∙ ap (only words nodes) (no-symbols coming p e h))
 
-    module _ {class : Class} {start end : ℕ} (x : SymbolAt classes text p class start end) (step : Only) (h : OnlyIs class phase step) where
-      step-is : only nothing (symbolsFrom classes text at) ≡ onStep step (λ phase′. only phase′ (symbolsFrom classes text end))
-      step-is = i ∙ ap (only (asPhase phase)) (next-symbol x) ∙ h (λ phase′. only phase′ (symbolsFrom classes text end))
+    module _ {class : Class} {start end : ℕ} (x : SymbolAt classes text p class start end) where
+      pub only-as : (c : Class) → class ≡ c → only false false (symbolsFrom classes text at) ≡ onlyFrom c words nodes (λ words′ nodes′. only words′ nodes′ (symbolsFrom classes text end))
+      only-as c e = i ∙ ap (only words nodes) (next-symbol x) ∙ ap (λ z. onlyFrom z words nodes (λ words′ nodes′. only words′ nodes′ (symbolsFrom classes text end))) e
 
-      pub only-settled : (settled : Bool) → step ≡ Done settled → settled ≡ only nothing (symbolsFrom classes text at)
-      only-settled settled e = sym (step-is ∙ ap (λ z. onStep z (λ phase′. only phase′ (symbolsFrom classes text end))) e)
+      pub only-word : OneOf (0 ∷ 1 ∷ []) (tag class) → only false false (symbolsFrom classes text at) ≡ only (not nodes) nodes (symbolsFrom classes text end)
+      only-word o = only-as class refl ∙ rw (by-class (0 ∷ 1 ∷ []) isWord tt class o)
 
-      pub only-on : (further : code.Phase) → step ≡ On further → only nothing (symbolsFrom classes text at) ≡ only (asPhase further) (symbolsFrom classes text end)
-      only-on further e = step-is ∙ ap (λ z. onStep z (λ phase′. only phase′ (symbolsFrom classes text end))) e
+      only-comma : (z : Bool) → class ≡ Comma → words ≡ z → only false false (symbolsFrom classes text at) ≡ both (not z) (only false false (symbolsFrom classes text end))
+      only-comma z e f = only-as Comma e ∙ ap (λ w. both (not w) (only false false (symbolsFrom classes text end))) f
 
-pub as-only : {class : Class} (c : Class) (phase : code.Phase) (step : Only) → class ≡ c → OnlyIs c phase step → OnlyIs class phase step
-as-only c phase step e h = rw e h
+      pub only-lone : class ≡ Comma → words ≡ true → false ≡ only false false (symbolsFrom classes text at)
+      only-lone e f = sym (only-comma true e f)
 
-pub comma-on : (phase further : code.Phase) {z : Bool} → z ≡ notWords (asPhase phase) → z ≡ true → asPhase further ≡ nothing → OnlyIs Comma phase (On further)
-comma-on phase further e f g rest = ap (λ z. both z (rest nothing)) (sym e ∙ f) ∙ ap rest (sym g)
+      pub only-next : class ≡ Comma → words ≡ false → only false false (symbolsFrom classes text at) ≡ only words false (symbolsFrom classes text end)
+      only-next e f = only-comma false e f ∙ ap (λ w. only w false (symbolsFrom classes text end)) (sym f)
 
-pub comma-done : (phase : code.Phase) {z : Bool} → z ≡ notWords (asPhase phase) → z ≡ false → OnlyIs Comma phase (Done false)
-comma-done phase e f rest = ap (λ z. both z (rest nothing)) (sym e ∙ f)
+      pub only-closed : class ≡ GreaterThan → not words ≡ only false false (symbolsFrom classes text at)
+      only-closed e = sym (only-as GreaterThan e)
+
+      pub only-other : OneOf (3 ∷ 6 ∷ 7 ∷ 8 ∷ 9 ∷ 10 ∷ []) (tag class) → false ≡ only false false (symbolsFrom classes text at)
+      only-other o =
+          sym
+          (only-as class refl
+          ∙ rw (
+            by-class-not (3 ∷ 6 ∷ 7 ∷ 8 ∷ 9 ∷ 10 ∷ []) isWord tt class o,
+            by-class-not (3 ∷ 6 ∷ 7 ∷ 8 ∷ 9 ∷ 10 ∷ []) (sameClass At) tt class o,
+            by-class-not (3 ∷ 6 ∷ 7 ∷ 8 ∷ 9 ∷ 10 ∷ []) (sameClass Comma) tt class o,
+            by-class-not (3 ∷ 6 ∷ 7 ∷ 8 ∷ 9 ∷ 10 ∷ []) (sameClass GreaterThan) tt class o,
+          ))
 
 -- ---- the first that is stored
-
-by-turn : (store : List ℕ) (c : Class) (here fresh rest : Option ℕ) → firstFrom store c here fresh rest ≡ onTurn (turnOf c) here fresh rest
-by-turn store Atom here fresh rest = refl
-by-turn store Quoted here fresh rest = refl
-by-turn store At here fresh rest = refl
-by-turn store LessThan here fresh rest = refl
-by-turn store GreaterThan here fresh rest = refl
-by-turn store Comma here fresh rest = refl
-by-turn store Semicolon here fresh rest = refl
-by-turn store Colon here fresh rest = refl
-by-turn store Stray here fresh rest = refl
-by-turn store Dot here fresh rest = refl
-by-turn store Literal here fresh rest = refl
 
 pub stored-is : (o : Option ℕ) (i : ℕ) → asRecord o ≡ Stored i → o ≡ some i
 stored-is none i e = absurd (let z : _≡_ {A = ℕ} 0 1 = cc in omega arith)
@@ -178,26 +167,30 @@ module _ (classes text store : List ℕ) (at p : ℕ) (starts : Bool) (i : first
   pub first-none : (coming : Next) → coming ≡ nextOf (scanBy classes text p) → NoneComes coming → Nowhere ≡ asRecord (firstOf store true (symbolsFrom classes text at))
   first-none coming e h = ap asRecord (sym (i ∙ ap (firstOf store starts) (no-symbols classes text coming p e h)))
 
-  module _ {class : Class} {start end : ℕ} (x : SymbolAt classes text p class start end) (r : Turn) (e : r ≡ turnOf class) where
-    turn-is : (t : Turn) → r ≡ t → firstOf store true (symbolsFrom classes text at) ≡ onTurn t (namedIf classes text p store starts) (firstOf store true (symbolsFrom classes text end)) (firstOf store false (symbolsFrom classes text end))
-    turn-is t f =
-        let n = next-symbol classes text x in
-        i ∙ ap (firstOf store starts) n
-        ∙ by-turn store class _ (firstOf store true (symbolsFrom classes text end)) (firstOf store false (symbolsFrom classes text end))
-        ∙ ap (λ ys. onTurn (turnOf class) (pick starts (namedBy store ys) none) (firstOf store true (symbolsFrom classes text end)) (firstOf store false (symbolsFrom classes text end))) (sym n)
-        ∙ ap (λ z. onTurn z (namedIf classes text p store starts) (firstOf store true (symbolsFrom classes text end)) (firstOf store false (symbolsFrom classes text end))) (sym e ∙ f)
+  module _ {class : Class} {start end : ℕ} (x : SymbolAt classes text p class start end) where
+    -- what is found, by the class of the symbol
+    abbrev from : Class → List Sym → Option ℕ
+    from c ys = pick (sameClass GreaterThan c) none (pick (sameClass Comma c) (firstOf store true (symbolsFrom classes text end)) (orElse (pick starts (namedBy store ys) none) (firstOf store false (symbolsFrom classes text end))))
 
-    pub first-closed : r ≡ Closes → Nowhere ≡ asRecord (firstOf store true (symbolsFrom classes text at))
-    first-closed f = ap asRecord (sym (turn-is Closes f))
+    first-as : (c : Class) → class ≡ c → firstOf store true (symbolsFrom classes text at) ≡ from c (symbolsFrom classes text p)
+    first-as c e = let n = next-symbol classes text x in i ∙ ap (firstOf store starts) n ∙ ap (from class) (sym n) ∙ ap (λ z. from z (symbolsFrom classes text p)) e
 
-    pub first-parts : r ≡ Parts → firstOf store true (symbolsFrom classes text at) ≡ firstOf store true (symbolsFrom classes text end)
-    first-parts f = turn-is Parts f
+    pub first-closed : class ≡ GreaterThan → Nowhere ≡ asRecord (firstOf store true (symbolsFrom classes text at))
+    first-closed e = ap asRecord (sym (first-as GreaterThan e))
 
-    pub first-found : (q : Record) (j : ℕ) → r ≡ Within → q ≡ asRecord (namedIf classes text p store starts) → q ≡ Stored j → Stored j ≡ asRecord (firstOf store true (symbolsFrom classes text at))
-    first-found q j f g h = ap asRecord (sym (turn-is Within f ∙ ap (λ o. orElse o (firstOf store false (symbolsFrom classes text end))) (stored-is (namedIf classes text p store starts) j (sym g ∙ h))))
+    pub first-parts : class ≡ Comma → firstOf store true (symbolsFrom classes text at) ≡ firstOf store true (symbolsFrom classes text end)
+    first-parts e = first-as Comma e
 
-    pub first-later : (q : Record) → r ≡ Within → q ≡ asRecord (namedIf classes text p store starts) → q ≡ Nowhere → firstOf store true (symbolsFrom classes text at) ≡ firstOf store false (symbolsFrom classes text end)
-    first-later q f g h = turn-is Within f ∙ ap (λ o. orElse o (firstOf store false (symbolsFrom classes text end))) (nowhere-is (namedIf classes text p store starts) (sym g ∙ h))
+    module _ (o : OneOf (0 ∷ 1 ∷ 2 ∷ 3 ∷ 6 ∷ 7 ∷ 8 ∷ 9 ∷ 10 ∷ []) (tag class)) where
+      within : firstOf store true (symbolsFrom classes text at) ≡ orElse (namedIf classes text p store starts) (firstOf store false (symbolsFrom classes text end))
+      within =
+          first-as class refl ∙ rw (by-class-not (0 ∷ 1 ∷ 2 ∷ 3 ∷ 6 ∷ 7 ∷ 8 ∷ 9 ∷ 10 ∷ []) (sameClass GreaterThan) tt class o, by-class-not (0 ∷ 1 ∷ 2 ∷ 3 ∷ 6 ∷ 7 ∷ 8 ∷ 9 ∷ 10 ∷ []) (sameClass Comma) tt class o)
+
+      pub first-found : (q : Record) (j : ℕ) → q ≡ asRecord (namedIf classes text p store starts) → q ≡ Stored j → Stored j ≡ asRecord (firstOf store true (symbolsFrom classes text at))
+      first-found q j g h = ap asRecord (sym (within ∙ ap (λ z. orElse z (firstOf store false (symbolsFrom classes text end))) (stored-is (namedIf classes text p store starts) j (sym g ∙ h))))
+
+      pub first-later : (q : Record) → q ≡ asRecord (namedIf classes text p store starts) → q ≡ Nowhere → firstOf store true (symbolsFrom classes text at) ≡ firstOf store false (symbolsFrom classes text end)
+      first-later q g h = within ∙ ap (λ z. orElse z (firstOf store false (symbolsFrom classes text end))) (nowhere-is (namedIf classes text p store starts) (sym g ∙ h))
 
 -- ---- what an Include leads to
 
@@ -211,7 +204,7 @@ module _ (classes text store : List ℕ) (at : ℕ) (r : Held) (e : heldBy (symb
   pub sought-single : (q : Record) → r ≡ Single → q ≡ asRecord (namedBy store (symbolsFrom classes text at)) → q ≡ asRecord (sought store (symbolsFrom classes text at))
   sought-single q f g = g ∙ ap asRecord (sym (held-is Single f))
 
-  module _ (behind : ℕ) (f : r ≡ Angled behind) (z : Bool) (g : z ≡ only nothing (symbolsFrom classes text behind)) where
+  module _ (behind : ℕ) (f : r ≡ Angled behind) (z : Bool) (g : z ≡ only false false (symbolsFrom classes text behind)) where
     angled-is : (b : Bool) → z ≡ b → sought store (symbolsFrom classes text at) ≡ pick b (firstOf store true (symbolsFrom classes text behind)) none
     angled-is b h = held-is (Angled behind) f ∙ ap (λ y. pick y (firstOf store true (symbolsFrom classes text behind)) none) (sym g ∙ h)
 
@@ -223,29 +216,19 @@ module _ (classes text store : List ℕ) (at : ℕ) (r : Held) (e : heldBy (symb
 
 -- ---- .. is a record of the store
 
-from-in : (store : List ℕ) (c : Class) (here fresh rest : Option ℕ) → InStore store here → InStore store fresh → InStore store rest → InStore store (firstFrom store c here fresh rest)
-from-in store Atom here fresh rest g h k = else-in store here rest g k
-from-in store Quoted here fresh rest g h k = else-in store here rest g k
-from-in store At here fresh rest g h k = else-in store here rest g k
-from-in store LessThan here fresh rest g h k = else-in store here rest g k
-from-in store GreaterThan here fresh rest g h k = tt
-from-in store Comma here fresh rest g h k = h
-from-in store Semicolon here fresh rest g h k = else-in store here rest g k
-from-in store Colon here fresh rest g h k = else-in store here rest g k
-from-in store Stray here fresh rest g h k = else-in store here rest g k
-from-in store Dot here fresh rest g h k = else-in store here rest g k
-from-in store Literal here fresh rest g h k = else-in store here rest g k
-
 first-in : (store : List ℕ) (starts : Bool) (xs : List Sym) → InStore store (firstOf store starts xs)
 first-in store starts [] = tt
 first-in store starts (x ∷ xs) =
-    from-in store (x .class) (pick starts (namedBy store (x ∷ xs)) none) (firstOf store true xs) (firstOf store false xs)
-    (pick-in store starts (namedBy store (x ∷ xs)) (lowest-in store _)) (first-in store true xs) (first-in store false xs)
+    let here : Option ℕ = pick starts (namedBy store (x ∷ xs)) none in
+    let rest : Option ℕ = orElse here (firstOf store false xs) in
+    pick-in store (sameClass GreaterThan (x .class)) none (pick (sameClass Comma (x .class)) (firstOf store true xs) rest) tt
+    (pick-in store (sameClass Comma (x .class)) (firstOf store true xs) rest (first-in store true xs)
+    (else-in store here (firstOf store false xs) (pick-in store starts (namedBy store (x ∷ xs)) none (lowest-in store _) tt) (first-in store false xs)))
 
 sought-by : (store : List ℕ) (h : seek.Held) (xs : List Sym) → InStore store (soughtBy store h xs)
 sought-by store single xs = lowest-in store _
 sought-by store neither xs = tt
-sought-by store (angled ys) xs = pick-in store (only nothing ys) (firstOf store true ys) (first-in store true ys)
+sought-by store (angled ys) xs = pick-in store (only false false ys) (firstOf store true ys) none (first-in store true ys) tt
 
 pub sought-in : (store : List ℕ) (xs : List Sym) → InStore store (sought store xs)
 sought-in store xs = sought-by store (heldBy xs) xs

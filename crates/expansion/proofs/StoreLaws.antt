@@ -148,14 +148,14 @@ abbrev pub InStore : List ℕ → Option ℕ → Type 0
 InStore store none = Unit {0}
 InStore store (some i) = i * storeRecordSize + storeRecordSize ≤ length store
 
-named-here-in : (store : List ℕ) (i : ℕ) (z : Bool) (o : Option ℕ) → i * storeRecordSize + storeRecordSize ≤ length store → InStore store o → InStore store (pick z (some i) o)
-named-here-in store i true o g h = g
-named-here-in store i false o g h = h
+pub pick-in : (store : List ℕ) (z : Bool) (a b : Option ℕ) → InStore store a → InStore store b → InStore store (pick z a b)
+pick-in store true a b g h = g
+pick-in store false a b g h = h
 
 named-in : (many : ℕ) (store name : List ℕ) (i : ℕ) → (i + many) * storeRecordSize ≤ length store → InStore store (firstNamed many store name i)
 named-in zero store name i h = tt
 named-in (suc many) store name i h =
-    named-here-in store i (sameBytes (nameIn store i) name) (firstNamed many store name (suc i)) (omega (arith, h)) (named-in many store name (suc i) (omega (arith, h)))
+    pick-in store (sameBytes (nameIn store i) name) (some i) (firstNamed many store name (suc i)) (omega (arith, h)) (named-in many store name (suc i) (omega (arith, h)))
 
 pub lowest-in : (store name : List ℕ) → InStore store (lowest store name)
 lowest-in store name = named-in (roomFor storeRecordSize store) store name 0 (omega arith)
@@ -163,7 +163,3 @@ lowest-in store name = named-in (roomFor storeRecordSize store) store name 0 (om
 pub else-in : (store : List ℕ) (a b : Option ℕ) → InStore store a → InStore store b → InStore store (orElse a b)
 else-in store none b g h = h
 else-in store (some i) b g h = g
-
-pub pick-in : (store : List ℕ) (z : Bool) (a : Option ℕ) → InStore store a → InStore store (pick z a none)
-pick-in store true a h = h
-pick-in store false a h = tt

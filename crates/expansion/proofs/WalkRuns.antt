@@ -18,23 +18,25 @@ use Rattle.scanner.specs.declared.Next.{Next}
 use Rattle.scanner.specs.declared.Next.the-variants.{Found, Ended, Fault}
 use Rattle.scanner.specs.Ties.Meanings.{meaningAt}
 use Rattle.scanner.proofs.Unfolding.{SymbolAt, found}
+use Rattle.grammar.proofs.Readers.{endsAddress}
 use Rattle.plain.specs.Ties.Walking.{symbolText, after, afterComma, colonNext}
 use Rattle.plain.specs.Ties.Writing.{isColon}
 use Rattle.plain.specs.declared.places.Place.{Place}
 use Rattle.plain.proofs.WalkSteps.{colon-of, NoneComes, behind, behind-falls}
 use Rattle.expansion.specs.Believed.Store.{listIn}
-use Rattle.expansion.specs.Ties.Walk.{Sym, Trail, halted, wrote, before, ends, includeHere, behindOne, inTyped, levelsAfter, innerAfter, WalkOpening, writing, skipping, sought, includeTrail, walk, walkWithin}
+use Rattle.expansion.specs.Ties.Walk.{Sym, Trail, halted, wrote, before, includeHere, afterOne, inTyped, levelsAfter, innerAfter, WalkOpening, writing, skipping, sought, includeTrail, walk, walkWithin}
 use Rattle.addresses.specs.Ties.Steps.{symbolsFrom}
-use Rattle.expansion.specs.Ties.Steps.{LevelsAre, LevelsAfter, skipTo, IncludeBegins, OpenedIs, placeOf, levelsAround, joinedStage, openedStage, WriteOnIs, Continuation, walkSymbols, RecordOpens, OpeningIs, Onward, symbolShare, textShare, Goes, Halts, RecordWalked, TextWalked}
+use Rattle.expansion.specs.Ties.Steps.{LevelsAre, LevelsAfter, skipTo, IncludeBegins, OpenedIs, placeOf, levelsAround, joinedStage, WriteOnIs, Continuation, walkSymbols, RecordOpens, VerdictIs, Onward, symbolShare, textShare, Goes, Halts, RecordWalked, TextWalked}
 use Rattle.expansion.specs.declared.Around.{Around}
 use Rattle.expansion.specs.declared.Around.the-variants.{Inside}
 use Rattle.expansion.specs.declared.Levels.{Levels}
-use Rattle.expansion.specs.declared.Opening.the-variants.{Faulty}
+use Rattle.expansion.specs.declared.Verdict.the-variants.{Faulty}
 use Rattle.expansion.specs.declared.Record.the-variants.{Stored, Nowhere}
 use Rattle.expansion.specs.declared.Stage.{Stage}
 use Rattle.expansion.specs.declared.Walked.{Walked}
 use Rattle.expansion.specs.declared.Walked.the-variants.{Went, Stopped}
 use Rattle.expansion.proofs.SeekSteps.{no-symbols, next-symbol, stored-is, nowhere-is, sought-in}
+use Rattle.expansion.proofs.Seeking.{Ending, at-greater, at-comma, at-semicolon, ending}
 use Rattle.expansion.proofs.StoreLaws.{InStore}
 use Rattle.expansion.proofs.WalkThrough.{twice, unmoved}
 
@@ -50,15 +52,17 @@ onward-then {c = c} x y =
 -- ---- an Include that is skipped
 
 -- where an address ends no Include begins
-no-include : (c : Class) (place : Place) (xs : List Sym) → ends c ≡ true → includeHere c place xs ≡ false
-no-include c place xs e = each-of (λ d. includeHere d place xs ≡ false) ends (refl, (refl, (refl, tt))) c e
+no-include : {c : Class} (place : Place) (xs : List Sym) → Ending c → includeHere c place xs ≡ false
+no-include place xs at-greater = refl
+no-include place xs at-comma = refl
+no-include place xs at-semicolon = refl
 
 outside : (inner e : Bool) → pick inner false e ≡ true → e ≡ true
 outside true e h = absurd (let o : _≡_ {A = ℕ} 0 1 = cc in omega arith)
 outside false e h = h
 
 module _ (store : List ℕ) (opening : WalkOpening) (place-of : ℕ → ℕ) (base : ℕ) where
-  skip-by : (x : Sym) (xs rest : List Sym) (place : Place) (s : List Bool) (u : ℕ) (k : Continuation) (t : Trail) (inner z : Bool) → pick inner false (ends (x .class)) ≡ z
+  skip-by : (x : Sym) (xs rest : List Sym) (place : Place) (s : List Bool) (u : ℕ) (k : Continuation) (t : Trail) (inner z : Bool) → pick inner false (endsAddress (x .class)) ≡ z
       → t ≡ walk store opening place-of base writing place s rest u k
       → pick z (before (λ r. symbolText (x .class) (x .lexeme .meaning) place (colonNext xs) r) (walk store opening place-of base writing (after (x .class) place (colonNext xs)) (levelsAfter (x .class) place (colonNext xs) s) xs u k)) t
       ≡ walk store opening place-of base writing place s (pick z (x ∷ xs) rest) u k
@@ -67,7 +71,7 @@ module _ (store : List ℕ) (opening : WalkOpening) (place-of : ℕ → ℕ) (ba
       (ap
       (λ z. pick z (includeTrail store opening (inTyped s) (place-of (x .lexeme .start)) (base + length s) place xs u (λ p v. walk store opening place-of base (skipping false) p s xs v k))
       (before (λ r. symbolText (x .class) (x .lexeme .meaning) place (colonNext xs) r) (walk store opening place-of base writing (after (x .class) place (colonNext xs)) (levelsAfter (x .class) place (colonNext xs) s) xs u k)))
-      (no-include (x .class) place xs (outside inner (ends (x .class)) e)))
+      (no-include place xs (ending (x .class) (outside inner (endsAddress (x .class)) e))))
   skip-by x xs rest place s u k t inner false e h = h
 
   pub skip-walk : (inner : Bool) (place : Place) (s : List Bool) (xs : List Sym) (u : ℕ) (k : Continuation)
@@ -79,7 +83,7 @@ module _ (store : List ℕ) (opening : WalkOpening) (place-of : ℕ → ℕ) (ba
 -- ---- a record
 
 module _ (store : List ℕ) (i position depth : ℕ) (stage : Stage) (out : List ℕ) where
-  pub record-faulty : {n p : ℕ} → OpeningIs store i position depth (stage .openings) (Faulty n p) → RecordWalked store i position depth stage out out (Stopped n p (stage .openings))
+  pub record-faulty : {n p : ℕ} → VerdictIs store i position depth (stage .openings) (Faulty n p) → RecordWalked store i position depth stage out out (Stopped n p (stage .openings))
   record-faulty f deep following h = f deep (afterComma (stage .place)) following h
 
   module _ (classes : List ℕ) (same : classes ≡ classTable) (o : RecordOpens store i position depth (stage .openings)) where
@@ -90,7 +94,7 @@ module _ (store : List ℕ) (i position depth : ℕ) (stage : Stage) (out : List
         → walkWithin store (suc deep) i position depth (afterComma (stage .place)) (stage .openings) k ≡ walkSymbols store deep (Inside position depth) (afterComma (stage .place)) [] (symbolsFrom classes (listIn store i) 0) (stage .openings + 1) k
     steps deep k = o .walks deep (afterComma (stage .place)) k ∙ ap (λ xs. walkSymbols store deep (Inside position depth) (afterComma (stage .place)) [] xs (stage .openings + 1) k) (sym symbols-are)
 
-    went : {out′ : List ℕ} {r : Stage} (g : Goes (λ deep k. walkSymbols store deep (Inside position depth) (afterComma (stage .place)) [] (symbolsFrom classes (listIn store i) 0) (stage .openings + 1) k) 1 (openedStage stage) out out′ r) (deep : ℕ) → openingLimit ≤ deep + stage .openings
+    went : {out′ : List ℕ} {r : Stage} (g : Goes (λ deep k. walkSymbols store deep (Inside position depth) (afterComma (stage .place)) [] (symbolsFrom classes (listIn store i) 0) (stage .openings + 1) k) 1 (joinedStage stage (stage .openings + 1)) out out′ r) (deep : ℕ) → openingLimit ≤ deep + stage .openings
         → Onward (λ k. walkWithin store deep i position depth (afterComma (stage .place)) (stage .openings) k) (λ k. k (r .place) (r .openings)) out (stage .written) out′ (r .written)
     went g zero h = absurd (omega (arith, h, o .few))
     went g (suc deep) h = let y = g .onward deep (omega (arith, h)) in record { put = y .put; same = λ k. steps deep k ∙ y .same k; wrote = y .wrote }
@@ -100,7 +104,7 @@ module _ (store : List ℕ) (i position depth : ℕ) (stage : Stage) (out : List
     halts n p u f zero k h = absurd (omega (arith, h, o .few))
     halts n p u f (suc deep) k h = steps deep k ∙ f deep k (omega (arith, h))
 
-    pub record-walked : (out′ : List ℕ) (r : Walked) → TextWalked classes store (listIn store i) 0 (Inside position depth) (openedStage stage) out out′ r → RecordWalked store i position depth stage out out′ r
+    pub record-walked : (out′ : List ℕ) (r : Walked) → TextWalked classes store (listIn store i) 0 (Inside position depth) (joinedStage stage (stage .openings + 1)) out out′ r → RecordWalked store i position depth stage out out′ r
     record-walked out′ (Went r) g = record { from = omega (arith, g .from); few = g .few; counted = omega (arith, g .counted); onward = went g }
     record-walked out′ (Stopped n p u) f = halts n p u f
 
@@ -145,7 +149,7 @@ module _ (classes store text : List ℕ) (start : ℕ) (around : Around) (stage 
 
   module _ {out : List ℕ} {here : Stage} {levels : Levels} {coming : Next} (l : Walking out here levels coming) where
     -- the walk ends
-    pub walking-none : NoneComes coming → Goes trails 1 stage out₀ out (joinedStage here)
+    pub walking-none : NoneComes coming → Goes trails 1 stage out₀ out (joinedStage here (here .openings))
     walking-none h =
         record {
           from = l .from;
@@ -234,7 +238,7 @@ module _ (classes store text : List ℕ) (start : ℕ) (around : Around) (stage 
               | some i ↦ walkWithin store deep i (z .1) (levelsAround around + length (l .s)) (afterComma (here .place)) (here .openings)
                   (λ p u. walk store (λ i p b q u n. walkWithin store deep i p b q u n) (placeOf around) (levelsAround around) (skipping false) p (l .s) (symbolsFrom classes text end) u k)
             ])
-            (ap (λ n. (led (behindOne (behindOne (symbolsFrom classes text end))), n)) (sym q) ∙ ap (λ n. (n, position)) (ap led (sym (b .rest)) ∙ g))
+            (ap (λ n. (led (afterOne (afterOne (symbolsFrom classes text end))), n)) (sym q) ∙ ap (λ n. (n, position)) (ap led (sym (b .rest)) ∙ g))
 
         -- it leads nowhere
         pub walking-nowhere : OpenedIs classes text behind′ levels store Nowhere → Halts trails (stage .openings) leadsNowhere position (here .openings)

@@ -10,12 +10,12 @@ use borrow.Author.Tests.{lt-ltb}
 use lib.ListN.{length}
 use Rattle.octets.specs.Believed.Choice.{pick, both}
 use Rattle.octets.proofs.ChoiceLaws.{both-parts}
-use Rattle.octets.specs.Believed.Letters.{sameLetters}
-use Rattle.octets.specs.Believed.Numbers.{levelLimit}
+use Rattle.octets.specs.Believed.Numbers.{levelLimit, leadsNowhere}
 use Rattle.octets.specs.Believed.Text.{bytes}
-use Rattle.grammar.specs.Believed.Rfc733.{sameClass, kindNumber, typedKind, include, postal, otherTyped}
+use Rattle.grammar.specs.Believed.Rfc733.{sameClass, kindNumber, typedKind, include}
 use Rattle.grammar.specs.Executable.Trees733.{Class, Atom, Quoted, At, LessThan, GreaterThan, Comma, Semicolon, Colon, Stray, Dot, Literal, Lexeme, Sym, of, atomWord, quotedWord, Phrase, one, more, Nodes, first, next, comma, AddressList, idle, full, mailbox, angle, group, quoted, typed}
 use Rattle.grammar.proofs.Rfc733.Trees.{wordSymbol, phraseThen, nodesThen, placeThen, listThen, addressThen, placeLawful, listLawful, addressLawful, placeLevels, listLevels, addressLevels}
+use Rattle.grammar.proofs.Readers.{endsAddress, AddressEnds}
 use Rattle.grammar.specs.Executable.Trees733 as trees
 use Rattle.grammar.proofs.Rfc733.HouseRule.{oneAtom, placeAtomGroup, listAtomGroup, atomColon-list, oneAtom-false, oneAtom-true}
 use Rattle.grammar.proofs.Rfc733.HouseRule as house
@@ -28,9 +28,9 @@ use Rattle.plain.proofs.TreeMeanings.{wordMeaning, phraseMeaning, nameMeaning, 
 use Rattle.plain.proofs.Walks.{space-behind, no-colon-nodes, Begin, plainly, barely, namely, front, spot, comma-spot, Opens, spot-opens, joint, front-named, front-bare, front-plain}
 use Rattle.expansion.specs.Believed.Store.{leadsTo, onlyMailboxes, isMailbox}
 use Rattle.expansion.specs.Believed.Expansion.{Expansion, stopped, reached, andThen, Opening, expandInclude}
-use Rattle.expansion.specs.Ties.Walk.{Trail, halted, wrote, before, withoutTyped, withTyped, inTyped, isTyping, withList, levelsAfter, ends, includeWord, includeNext, behindOne, opens, writing, skipping, innerAfter, WalkOpening, sought, walk}
+use Rattle.expansion.specs.Ties.Walk.{Trail, halted, wrote, before, withoutTyped, withTyped, inTyped, isTyping, withList, levelsAfter, includeWord, includeNext, afterOne, opens, writing, skipping, innerAfter, WalkOpening, sought, walk}
 use Rattle.expansion.proofs.TreeExpansion.{placeExpansion, listExpansion, addressExpansion}
-use Rattle.expansion.proofs.Seeking.{Joins, sought-address}
+use Rattle.expansion.proofs.Seeking.{Ending, at-greater, at-comma, at-semicolon, ending, no-mailbox, typed-no-mailbox, leads-typed, sought-address}
 
 -- ---- texts before a trail
 
@@ -70,15 +70,6 @@ abbrev pub listed : Begin → Addresses → List ℕ → List ℕ
 listed b m r = front b m (addressesText m r)
 
 -- ---- conditions
-
--- an Include by its letters
-include-letters : (letters : List ℕ) → eqb (kindNumber (typedKind letters)) (kindNumber include) ≡ sameLetters letters (bytes "Include")
-include-letters letters = by (sameLetters letters (bytes "Include")) (sameLetters letters (bytes "Postal"))
-  where
-    by : (x y : Bool) → eqb (kindNumber (pick x include (pick y postal otherTyped))) (kindNumber include) ≡ x
-    by true y = refl
-    by false true = refl
-    by false false = refl
 
 opens-true : (place : Place) → Opens place → opens place ≡ true
 opens-true Start h = refl
@@ -120,66 +111,50 @@ module _ (store : List ℕ) (opening : WalkOpening) (placeOf : ℕ → ℕ) (bas
 
   -- ---- where an address ends
 
-  joins-place : (xs : List Sym) → Joins xs → (p q : Place) → afterComma p ≡ afterComma q → (s : List Bool) (u : ℕ) (k : Place → ℕ → Trail) → W p s xs u k ≡ W q s xs u k
+  joins-place : (xs : List Sym) → AddressEnds xs → (p q : Place) → afterComma p ≡ afterComma q → (s : List Bool) (u : ℕ) (k : Place → ℕ → Trail) → W p s xs u k ≡ W q s xs u k
   joins-place [] j p q e s u k = ap (λ z. k z u) e
-  joins-place (x ∷ xs) j p q e s u k = by (x .class) j
+  joins-place (x ∷ xs) j p q e s u k = by (ending (x .class) j)
     where
       go : Place → Class → Trail
       go place c =
           pick (both (sameClass Colon c) (both (opens place) (includeNext xs)))
-          (elim (pick (inTyped s) none (sought store (behindOne (behindOne xs)))) [
-            | none ↦ halted 19 (placeOf (x .lexeme .start)) u
+          (elim (pick (inTyped s) none (sought store (afterOne (afterOne xs)))) [
+            | none ↦ halted leadsNowhere (placeOf (x .lexeme .start)) u
             | some i ↦ opening i (placeOf (x .lexeme .start)) (base + length s) (afterComma place) u (λ place′ u′. walk store opening placeOf base (skipping false) place′ s xs u′ k)
           ])
           (before (λ rest. symbolText c (x .lexeme .meaning) place (colonNext xs) rest) (W (after c place (colonNext xs)) (levelsAfter c place (colonNext xs) s) xs u k))
 
-      by : (c : Class) → ends c ≡ true → go p c ≡ go q c
-      by Atom e′ = absurd (let o : _≡_ {A = ℕ} 0 1 = cc in omega arith)
-      by Quoted e′ = absurd (let o : _≡_ {A = ℕ} 0 1 = cc in omega arith)
-      by At e′ = absurd (let o : _≡_ {A = ℕ} 0 1 = cc in omega arith)
-      by LessThan e′ = absurd (let o : _≡_ {A = ℕ} 0 1 = cc in omega arith)
-      by GreaterThan e′ = refl
-      by Comma e′ = ap (λ z. before (λ rest. rest) (W z (withoutTyped s) xs u k)) e
-      by Semicolon e′ = refl
-      by Colon e′ = absurd (let o : _≡_ {A = ℕ} 0 1 = cc in omega arith)
-      by Stray e′ = absurd (let o : _≡_ {A = ℕ} 0 1 = cc in omega arith)
-      by Dot e′ = absurd (let o : _≡_ {A = ℕ} 0 1 = cc in omega arith)
-      by Literal e′ = absurd (let o : _≡_ {A = ℕ} 0 1 = cc in omega arith)
+      by : {c : Class} → Ending c → go p c ≡ go q c
+      by at-greater = refl
+      by at-comma = ap (λ z. before (λ rest. rest) (W z (withoutTyped s) xs u k)) e
+      by at-semicolon = refl
 
-  joins-typed : (xs : List Sym) → Joins xs → (p : Place) (s : List Bool) (u : ℕ) (k : Place → ℕ → Trail) → W p (true ∷ s) xs u k ≡ W p s xs u k
+  joins-typed : (xs : List Sym) → AddressEnds xs → (p : Place) (s : List Bool) (u : ℕ) (k : Place → ℕ → Trail) → W p (true ∷ s) xs u k ≡ W p s xs u k
   joins-typed [] j p s u k = refl
-  joins-typed (x ∷ xs) j p s u k = by (x .class) j
+  joins-typed (x ∷ xs) j p s u k = by (ending (x .class) j)
     where
       go : List Bool → Class → Trail
       go s′ c =
           pick (both (sameClass Colon c) (both (opens p) (includeNext xs)))
-          (elim (pick (inTyped s′) none (sought store (behindOne (behindOne xs)))) [
-            | none ↦ halted 19 (placeOf (x .lexeme .start)) u
+          (elim (pick (inTyped s′) none (sought store (afterOne (afterOne xs)))) [
+            | none ↦ halted leadsNowhere (placeOf (x .lexeme .start)) u
             | some i ↦ opening i (placeOf (x .lexeme .start)) (base + length s′) (afterComma p) u (λ place′ u′. walk store opening placeOf base (skipping false) place′ s′ xs u′ k)
           ])
           (before (λ rest. symbolText c (x .lexeme .meaning) p (colonNext xs) rest) (W (after c p (colonNext xs)) (levelsAfter c p (colonNext xs) s′) xs u k))
 
-      by : (c : Class) → ends c ≡ true → go (true ∷ s) c ≡ go s c
-      by Atom e′ = absurd (let o : _≡_ {A = ℕ} 0 1 = cc in omega arith)
-      by Quoted e′ = absurd (let o : _≡_ {A = ℕ} 0 1 = cc in omega arith)
-      by At e′ = absurd (let o : _≡_ {A = ℕ} 0 1 = cc in omega arith)
-      by LessThan e′ = absurd (let o : _≡_ {A = ℕ} 0 1 = cc in omega arith)
-      by GreaterThan e′ = refl
-      by Comma e′ = refl
-      by Semicolon e′ = refl
-      by Colon e′ = absurd (let o : _≡_ {A = ℕ} 0 1 = cc in omega arith)
-      by Stray e′ = absurd (let o : _≡_ {A = ℕ} 0 1 = cc in omega arith)
-      by Dot e′ = absurd (let o : _≡_ {A = ℕ} 0 1 = cc in omega arith)
-      by Literal e′ = absurd (let o : _≡_ {A = ℕ} 0 1 = cc in omega arith)
+      by : {c : Class} → Ending c → go (true ∷ s) c ≡ go s c
+      by at-greater = refl
+      by at-comma = refl
+      by at-semicolon = refl
 
   -- ---- skipping an Include
 
   abbrev skip : Bool → Place → List Bool → List Sym → ℕ → (Place → ℕ → Trail) → Trail
   skip inner place s xs u k = walk store opening placeOf base (skipping inner) place s xs u k
 
-  joins-skip : (xs : List Sym) → Joins xs → (p : Place) (s : List Bool) (u : ℕ) (k : Place → ℕ → Trail) → skip false p s xs u k ≡ W p s xs u k
+  joins-skip : (xs : List Sym) → AddressEnds xs → (p : Place) (s : List Bool) (u : ℕ) (k : Place → ℕ → Trail) → skip false p s xs u k ≡ W p s xs u k
   joins-skip [] j p s u k = refl
-  joins-skip (x ∷ xs) j p s u k = by (x .class) j
+  joins-skip (x ∷ xs) j p s u k = by (ending (x .class) j)
     where
       written : Class → Trail
       written c = before (λ rest. symbolText c (x .lexeme .meaning) p (colonNext xs) rest) (W (after c p (colonNext xs)) (levelsAfter c p (colonNext xs) s) xs u k)
@@ -187,24 +162,16 @@ module _ (store : List ℕ) (opening : WalkOpening) (placeOf : ℕ → ℕ) (bas
       go : Class → Trail
       go c =
           pick (both (sameClass Colon c) (both (opens p) (includeNext xs)))
-          (elim (pick (inTyped s) none (sought store (behindOne (behindOne xs)))) [
-            | none ↦ halted 19 (placeOf (x .lexeme .start)) u
+          (elim (pick (inTyped s) none (sought store (afterOne (afterOne xs)))) [
+            | none ↦ halted leadsNowhere (placeOf (x .lexeme .start)) u
             | some i ↦ opening i (placeOf (x .lexeme .start)) (base + length s) (afterComma p) u (λ place′ u′. walk store opening placeOf base (skipping false) place′ s xs u′ k)
           ])
           (written c)
 
-      by : (c : Class) → ends c ≡ true → pick (ends c) (written c) (skip (innerAfter c false) p s xs u k) ≡ go c
-      by Atom e′ = absurd (let o : _≡_ {A = ℕ} 0 1 = cc in omega arith)
-      by Quoted e′ = absurd (let o : _≡_ {A = ℕ} 0 1 = cc in omega arith)
-      by At e′ = absurd (let o : _≡_ {A = ℕ} 0 1 = cc in omega arith)
-      by LessThan e′ = absurd (let o : _≡_ {A = ℕ} 0 1 = cc in omega arith)
-      by GreaterThan e′ = refl
-      by Comma e′ = refl
-      by Semicolon e′ = refl
-      by Colon e′ = absurd (let o : _≡_ {A = ℕ} 0 1 = cc in omega arith)
-      by Stray e′ = absurd (let o : _≡_ {A = ℕ} 0 1 = cc in omega arith)
-      by Dot e′ = absurd (let o : _≡_ {A = ℕ} 0 1 = cc in omega arith)
-      by Literal e′ = absurd (let o : _≡_ {A = ℕ} 0 1 = cc in omega arith)
+      by : {c : Class} → Ending c → pick (endsAddress c) (written c) (skip (innerAfter c false) p s xs u k) ≡ go c
+      by at-greater = refl
+      by at-comma = refl
+      by at-semicolon = refl
 
   module _ (p : Place) (s : List Bool) (u : ℕ) (k : Place → ℕ → Trail) where
     skip-phrase : (n : Phrase) (inner : Bool) (xs : List Sym) → skip inner p s (phraseThen n xs) u k ≡ skip inner p s xs u k
@@ -226,12 +193,6 @@ module _ (store : List ℕ) (opening : WalkOpening) (placeOf : ℕ → ℕ) (bas
     skip-nodes (next m t (atomWord w)) false xs = skip-nodes m false _
     skip-nodes (next m t (quotedWord w)) true xs = skip-nodes m true _
     skip-nodes (next m t (quotedWord w)) false xs = skip-nodes m false _
-
-    no-mailbox : {A : Type 0} → false ≡ true → A
-    no-mailbox e = absurd (let o : _≡_ {A = ℕ} 0 1 = cc in omega arith)
-
-    typed-no-mailbox : (letters : List ℕ) (a : Address) → isMailbox (typedMeaning letters a) ≡ false
-    typed-no-mailbox letters a = of-typed (λ kind. isMailbox (address kind (andWord noWord (atom letters)) noWord (andAddress noAddress a)) ≡ false) refl refl refl letters
 
     skip-mailbox : (a : trees.Address) (xs : List Sym) → isMailbox (addressMeaning a) ≡ true → skip true p s (addressThen a xs) u k ≡ skip true p s xs u k
     skip-mailbox (mailbox n m) xs e = skip-phrase n true _ ∙ skip-nodes m true xs
@@ -256,15 +217,14 @@ module _ (store : List ℕ) (opening : WalkOpening) (placeOf : ℕ → ℕ) (bas
     picked true o e = refl
     picked false o e = absurd (let q : _≡_ {A = ℕ} 0 1 = cc in omega arith)
 
-    skip-held : (a : trees.Address) (xs : List Sym) {i : ℕ} → Joins xs → leadsTo store (andAddress noAddress (addressMeaning a)) ≡ some i → skip false p s (addressThen a xs) u k ≡ W p s xs u k
+    skip-held : (a : trees.Address) (xs : List Sym) {i : ℕ} → AddressEnds xs → leadsTo store (andAddress noAddress (addressMeaning a)) ≡ some i → skip false p s (addressThen a xs) u k ≡ W p s xs u k
     skip-held (mailbox n m) xs j e = skip-phrase n false _ ∙ skip-nodes m false xs ∙ joins-skip xs j p s u k
     skip-held (angle none t l c) xs j e = skip-list l (of GreaterThan c ∷ xs) (picked (onlyMailboxes (listMeaning l)) _ e) ∙ joins-skip xs j p s u k
     skip-held (angle (some n) t l c) xs j e = skip-phrase n false _ ∙ skip-list l (of GreaterThan c ∷ xs) (picked (onlyMailboxes (listMeaning l)) _ e) ∙ joins-skip xs j p s u k
     skip-held (group o t l c) xs j e = absurd (let q : _≡_ {A = ℕ} 0 1 = cc in omega arith)
     skip-held (quoted t) xs j e = absurd (let q : _≡_ {A = ℕ} 0 1 = cc in omega arith)
     skip-held (typed t a c b) xs {i} j e =
-        let n = of-typed (λ kind. leadsTo store (andAddress noAddress (address kind (andWord noWord (atom (a .meaning))) noWord (andAddress noAddress (addressMeaning b)))) ≡ none) refl refl refl (a .meaning) in
-        let z : none ≡ some i = sym n ∙ e in
+        let z : none ≡ some i = sym (leads-typed store (a .meaning) (addressMeaning b)) ∙ e in
         absurd (let q : _≡_ {A = ℕ} 0 1 = cc in omega arith)
 
   one-level : (s : List Bool) → length s < levelLimit → withList s ≡ false ∷ s
@@ -329,12 +289,12 @@ module _ (store : List ℕ) (opening : WalkOpening) (placeOf : ℕ → ℕ) (bas
     abbrev opened-at : ℕ → Place → List Sym → Option ℕ → Trail
     opened-at position place xs o =
         elim o [
-          | none ↦ halted 19 position u
+          | none ↦ halted leadsNowhere position u
           | some i ↦ opening i position (base + length s) (afterComma place) u (λ place′ u′. skip false place′ s xs u′ k)
         ]
 
     walk-include : (place : Place) (t : Lexeme) (xs : List Sym) → Opens place → includeNext xs ≡ true
-        → W place s (of Colon t ∷ xs) u k ≡ opened-at (placeOf (t .start)) place xs (pick (inTyped s) none (sought store (behindOne (behindOne xs))))
+        → W place s (of Colon t ∷ xs) u k ≡ opened-at (placeOf (t .start)) place xs (pick (inTyped s) none (sought store (afterOne (afterOne xs))))
     walk-include place t xs h e = rw (opens-true place h, e)
 
   -- ---- lists and addresses
@@ -352,7 +312,7 @@ module _ (store : List ℕ) (opening : WalkOpening) (placeOf : ℕ → ℕ) (bas
 
   wrap : (b : Begin) (m : Addresses) (c : Bool) (a : Address) (g : Bool) → atomGroup a ≡ g → afterAtom (spot b m c) g ≡ Word
       → (f : List ℕ → List ℕ) → ((r : List ℕ) → f r ≡ gapText (gapBefore (spot b m c) g) (addressText a r))
-      → (xs : List Sym) → Joins xs → (place : Place) → afterComma place ≡ Parted → (s : List Bool) (v : ℕ) (k : Place → ℕ → Trail)
+      → (xs : List Sym) → AddressEnds xs → (place : Place) → afterComma place ≡ Parted → (s : List Bool) (v : ℕ) (k : Place → ℕ → Trail)
       → before (listed b m) (before f (W place s xs v k)) ≡ After b s xs k (andAddress m a) v
   wrap b m c a g q h f e xs j place z s v k =
       ap (before (listed b m)) (alike f (λ r. gapText (gapBefore (spot b m c) g) (addressText a r)) (W place s xs v k) e)
@@ -370,7 +330,7 @@ module _ (store : List ℕ) (opening : WalkOpening) (placeOf : ℕ → ℕ) (bas
     clear : afterAtom (spot b m c) group-named ≡ Word
     text : (l : Addresses) (r : List ℕ) → opening-text (listed begin l (closing-text r)) ≡ gapText (gapBefore (spot b m c) group-named) (addressText (made l) r)
 
-  enclosed : (b : Begin) (m : Addresses) (c : Bool) (q : Enclosure b m c) (xs : List Sym) → Joins xs → (s : List Bool) (k : Place → ℕ → Trail) (e : Expansion) (t : Trail)
+  enclosed : (b : Begin) (m : Addresses) (c : Bool) (q : Enclosure b m c) (xs : List Sym) → AddressEnds xs → (s : List Bool) (k : Place → ℕ → Trail) (e : Expansion) (t : Trail)
       → t ≡ onward e (λ l v. before (listed (q .begin) l) (before (q .closing-text) (W Closed s xs v k)))
       → before (listed b m) (before (q .opening-text) t) ≡ onward (andThen e (λ l v. reached (andAddress m (q .made l)) v)) (After b s xs k)
   enclosed b m c q xs j s k e t h =
@@ -394,9 +354,6 @@ module _ (store : List ℕ) (opening : WalkOpening) (placeOf : ℕ → ℕ) (bas
 
   after-spot : (b : Begin) (m : Addresses) (c : Bool) → afterComma (spot b m c) ≡ afterComma (spot b m true)
   after-spot b m c = comma-spot b m c ∙ sym (comma-spot b m true)
-
-  group-of : (b : Begin) (m : Addresses) (c x : Bool) → Clear b m c x → afterAtom (spot b m c) x ≡ Word
-  group-of = clear-word
 
   -- an opening of the walk does what one of the definition does
   module _ (o : Opening) (agree : (i p d : ℕ) (b : Begin) (m : Addresses) (u : ℕ) (k : Place → ℕ → Trail)
@@ -428,7 +385,7 @@ module _ (store : List ℕ) (opening : WalkOpening) (placeOf : ℕ → ℕ) (bas
 
     -- an Include
     through-include : (t a c : Lexeme) (held : trees.Address) (y : Bool) (b : Begin) (m : Addresses) (e : Bool) (d : ℕ) (s : List Bool) (xs : List Sym) (u : ℕ) (k : Place → ℕ → Trail)
-        → Joins xs → inTyped s ≡ y → d ≡ base + length s → sameLetters (a .meaning) (bytes "Include") ≡ true
+        → AddressEnds xs → inTyped s ≡ y → d ≡ base + length s → eqb (kindNumber (typedKind (a .meaning))) (kindNumber include) ≡ true
         → before (listed b m) (W (spot b m e) s (of Colon t ∷ of Atom a ∷ of Colon c ∷ addressThen held xs) u k)
         ≡ onward (expandInclude store o y (placeOf (t .start)) d (andAddress noAddress (addressMeaning held)) m u) (After b s xs k)
     through-include t a c held y b m e d s xs u k j w q z =
@@ -445,7 +402,7 @@ module _ (store : List ℕ) (opening : WalkOpening) (placeOf : ℕ → ℕ) (bas
 
         by : (f : Option ℕ) → pick y none (leadsTo store (andAddress noAddress (addressMeaning held))) ≡ f
             → before (listed b m) (opened-at s u k (placeOf (t .start)) (spot b m e) ys f)
-            ≡ onward (elim f [ none ↦ stopped 19 (placeOf (t .start)) u | some i ↦ o i (placeOf (t .start)) d m u ]) (After b s xs k)
+            ≡ onward (elim f [ none ↦ stopped leadsNowhere (placeOf (t .start)) u | some i ↦ o i (placeOf (t .start)) d m u ]) (After b s xs k)
         by none r = refl
         by (some i) r =
             ap₂ (λ n place. before (listed b m) (opening i (placeOf (t .start)) n place u (λ place′ u′. skip false place′ s ys u′ k))) (sym q) (comma-spot b m e)
@@ -455,7 +412,7 @@ module _ (store : List ℕ) (opening : WalkOpening) (placeOf : ℕ → ℕ) (bas
 
     -- another typed address
     through-typed : (t a c : Lexeme) (held : trees.Address) (b : Begin) (m : Addresses) (e : Bool) (d : ℕ) (s : List Bool) (xs : List Sym) (u : ℕ) (k : Place → ℕ → Trail)
-        → Joins xs → afterAtom (spot b m e) false ≡ Word → sameLetters (a .meaning) (bytes "Include") ≡ false → length s < levelLimit
+        → AddressEnds xs → afterAtom (spot b m e) false ≡ Word → eqb (kindNumber (typedKind (a .meaning))) (kindNumber include) ≡ false → length s < levelLimit
         → before (listed namely noAddress) (W Named (true ∷ s) (addressThen held xs) u k) ≡ onward (addressExpansion store o placeOf true (d + 1) held noAddress u) (After namely (true ∷ s) xs k)
         → before (listed b m) (W (spot b m e) s (of Colon t ∷ of Atom a ∷ of Colon c ∷ addressThen held xs) u k)
         ≡ onward (andThen (addressExpansion store o placeOf true (d + 1) held noAddress u) (λ l v. reached (andAddress m (address (kindNumber (typedKind (a .meaning))) (andWord noWord (atom (a .meaning))) noWord l)) v)) (After b s xs k)
@@ -499,23 +456,21 @@ module _ (store : List ℕ) (opening : WalkOpening) (placeOf : ℕ → ℕ) (bas
 
     -- an Include or not
     typed-by : (t a c : Lexeme) (held : trees.Address) (y : Bool) (b : Begin) (m : Addresses) (e : Bool) (d : ℕ) (s : List Bool) (xs : List Sym) (u : ℕ) (k : Place → ℕ → Trail)
-        → Joins xs → inTyped s ≡ y → d ≡ base + length s → afterAtom (spot b m e) false ≡ Word → length s < levelLimit → (z : Bool) → sameLetters (a .meaning) (bytes "Include") ≡ z
+        → AddressEnds xs → inTyped s ≡ y → d ≡ base + length s → afterAtom (spot b m e) false ≡ Word → length s < levelLimit → (z : Bool) → eqb (kindNumber (typedKind (a .meaning))) (kindNumber include) ≡ z
         → before (listed namely noAddress) (W Named (true ∷ s) (addressThen held xs) u k) ≡ onward (addressExpansion store o placeOf true (d + 1) held noAddress u) (After namely (true ∷ s) xs k)
         → before (listed b m) (W (spot b m e) s (of Colon t ∷ of Atom a ∷ of Colon c ∷ addressThen held xs) u k) ≡ onward (addressExpansion store o placeOf y d (typed t a c held) m u) (After b s xs k)
-    typed-by t a c held y b m e d s xs u k j w q h n true z i = through-include t a c held y b m e d s xs u k j w q z ∙ ap (λ f. onward (pick f included other) (After b s xs k)) (sym (include-letters (a .meaning) ∙ z))
+    typed-by t a c held y b m e d s xs u k j w q h n z f i = by z f ∙ ap (λ g. onward (pick g included other) (After b s xs k)) (sym f)
       where
         included : Expansion
         included = expandInclude store o y (placeOf (t .start)) d (andAddress noAddress (addressMeaning held)) m u
 
         other : Expansion
         other = andThen (addressExpansion store o placeOf true (d + 1) held noAddress u) (λ l v. reached (andAddress m (address (kindNumber (typedKind (a .meaning))) (andWord noWord (atom (a .meaning))) noWord l)) v)
-    typed-by t a c held y b m e d s xs u k j w q h n false z i = through-typed t a c held b m e d s xs u k j h z n i ∙ ap (λ f. onward (pick f included other) (After b s xs k)) (sym (include-letters (a .meaning) ∙ z))
-      where
-        included : Expansion
-        included = expandInclude store o y (placeOf (t .start)) d (andAddress noAddress (addressMeaning held)) m u
 
-        other : Expansion
-        other = andThen (addressExpansion store o placeOf true (d + 1) held noAddress u) (λ l v. reached (andAddress m (address (kindNumber (typedKind (a .meaning))) (andWord noWord (atom (a .meaning))) noWord l)) v)
+        by : (z : Bool) → eqb (kindNumber (typedKind (a .meaning))) (kindNumber include) ≡ z
+            → before (listed b m) (W (spot b m e) s (of Colon t ∷ of Atom a ∷ of Colon c ∷ addressThen held xs) u k) ≡ onward (pick z included other) (After b s xs k)
+        by true f = through-include t a c held y b m e d s xs u k j w q f
+        by false f = through-typed t a c held b m e d s xs u k j h f n i
 
     -- an address at a place
     full-by : (r : trees.Place) (a : trees.Address) (b : Begin) (m : Addresses) (c : Bool) (d : ℕ) (s : List Bool) (xs : List Sym) (u : ℕ) (k : Place → ℕ → Trail)
@@ -539,7 +494,7 @@ module _ (store : List ℕ) (opening : WalkOpening) (placeOf : ℕ → ℕ) (bas
           (λ m′ n. ap (before (listed b m′)) (unmoved (W (afterComma (spot b m′ true)) (withoutTyped s) ys n k) ∙ ap₂ (λ place z. W place z ys n k) (comma-spot b m′ true) (untyped s w)))
 
       pub through-list : (l : AddressList) (b : Begin) (m : Addresses) (c : Bool) (d : ℕ) (s : List Bool) (xs : List Sym) (u : ℕ) (k : Place → ℕ → Trail)
-          → listLawful l → Joins xs → inTyped s ≡ false → d ≡ base + length s → length s + listLevels l ≤ levelLimit → Clear b m c (listAtomGroup l)
+          → listLawful l → AddressEnds xs → inTyped s ≡ false → d ≡ base + length s → length s + listLevels l ≤ levelLimit → Clear b m c (listAtomGroup l)
           → before (listed b m) (W (spot b m c) s (listThen l xs) u k) ≡ onward (listExpansion store o placeOf d l m u) (After b s xs k)
       through-list (idle r) b m c d s xs u k lawful j w q v h =
           through-place r false b m c d s xs u k lawful w q v h
@@ -549,7 +504,7 @@ module _ (store : List ℕ) (opening : WalkOpening) (placeOf : ℕ → ℕ) (bas
           (λ m′ c′ n h′. through-address a false b m′ c′ d s xs n k (lawful .1) j w q (omega (arith, v)) h′)
 
       through-address : (a : trees.Address) (y : Bool) (b : Begin) (m : Addresses) (c : Bool) (d : ℕ) (s : List Bool) (xs : List Sym) (u : ℕ) (k : Place → ℕ → Trail)
-          → addressLawful a → Joins xs → inTyped s ≡ y → d ≡ base + length s → length s + addressLevels a ≤ levelLimit → Clear b m c (house.atomGroup a)
+          → addressLawful a → AddressEnds xs → inTyped s ≡ y → d ≡ base + length s → length s + addressLevels a ≤ levelLimit → Clear b m c (house.atomGroup a)
           → before (listed b m) (W (spot b m c) s (addressThen a xs) u k) ≡ onward (addressExpansion store o placeOf y d a m u) (After b s xs k)
       through-address (mailbox n p) y b m c d s xs u k lawful j w q v h =
           ap (before (listed b m))
@@ -628,5 +583,5 @@ module _ (store : List ℕ) (opening : WalkOpening) (placeOf : ℕ → ℕ) (bas
       through-address (quoted t) y b m c d s xs u k lawful j w q v h =
           wrap b m c (addressMeaning (quoted t)) false refl (clear-word b m c false h) (λ r. gapText (gapBefore (spot b m c) false) (addressText (addressMeaning (quoted t)) r)) (λ r. refl) xs j Word refl s u k
       through-address (typed t a e held) y b m c d s xs u k lawful j w q v h =
-          typed-by t a e held y b m c d s xs u k j w q (clear-word b m c false h) (omega (arith, v)) (sameLetters (a .meaning) (bytes "Include")) refl
+          typed-by t a e held y b m c d s xs u k j w q (clear-word b m c false h) (omega (arith, v)) (eqb (kindNumber (typedKind (a .meaning))) (kindNumber include)) refl
           (through-address held true namely noAddress false (d + 1) (true ∷ s) xs u k lawful j refl (omega (arith, q)) (omega (arith, v)) tt)

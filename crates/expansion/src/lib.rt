@@ -8,17 +8,15 @@ ghost use Prim.Native.Nat.{_+_, _*_, _-_, _≤_, _<_};
 ghost use lib.Dec.{leb};
 ghost use lib.ListN.{length, take};
 ghost use lib.Seq.{sets};
-ghost use Rattle.octets.specs.Believed.Choice.{pick, both};
+ghost use Rattle.octets.specs.Believed.Choice.{both};
 ghost use Rattle.octets.specs.Believed.Letters.{sameBytes};
-ghost use Rattle.octets.specs.Believed.Numbers.{levelLimit, openingLimit, storeRecordSize};
-ghost use Rattle.scanner.specs.declared.Class.the-variants.{Atom, Colon};
-ghost use Rattle.grammar.specs.Believed.Rfc733.{sameClass};
+ghost use Rattle.octets.specs.Believed.Numbers.{levelLimit, storeRecordSize};
 ghost use Rattle.addresses.specs.Believed.Within.{listWithin};
 ghost use Rattle.plain.specs.Ties.Writing.{textLimit, writtenLimit};
 ghost use Rattle.expansion.specs.Believed.Store.{withoutZeros, nameIn, lowest as lowestNamed};
-ghost use Rattle.expansion.specs.Ties.Walk.{ends, opens as opensAddress, isTyping, heldBy, nothing, withWord, notWords, only, firstOf, sought, withList, withTyped, withoutOne, withoutTyped, innerAfter};
+ghost use Rattle.expansion.specs.Ties.Walk.{heldBy, only, firstOf, withList, withTyped, withoutOne, withoutTyped};
 ghost use Rattle.addresses.specs.Ties.Steps.{symbolsFrom};
-ghost use Rattle.expansion.specs.Ties.Steps.{asRecord, asHeld, sortOf, Follows, LevelsAfter, skipTo, addressFrom, asPhase, OnlyIs, turnOf, namedIf, IncludeWordIs, IncludeIs, InTypedIs, OpenedIs, placeOf, levelsAround, joinedStage, openedStage, WriteOnIs, faultIn, OpeningIs, RecordReady, RecordWalked, WalkReady, TextWalked, BodyReady, BodyWalked, ListExpanded};
+ghost use Rattle.expansion.specs.Ties.Steps.{asRecord, asHeld, Follows, LevelsAfter, skipTo, addressFrom, namedIf, IncludeWordIs, IncludeIs, OpenedIs, placeOf, levelsAround, joinedStage, WriteOnIs, faultIn, VerdictIs, RecordReady, RecordWalked, WalkReady, TextWalked, BodyReady, BodyWalked, ListExpanded};
 ghost use Rattle.expansion.specs.Believed.Outcome.{AnsweredBy, expandOutcome};
 ghost use Rattle.expansion.specs.Believed.Promises.{Promises};
 use octets::answers::Answer;
@@ -155,73 +153,28 @@ fn without_typed(levels: Levels) -> Levels
     Levels { many, typed }
 }
 
-// Whether a place is behind the atom of a typed address.
-fn is_typing(place: Place) -> bool
-    ensures { λ r. ⌜ r ≡ isTyping place ⌝ }
-{
-    match place {
-        Place::Start => false,
-        Place::Bare => false,
-        Place::BareComma => false,
-        Place::Named => false,
-        Place::Typing => true,
-        Place::Word => false,
-        Place::Node => false,
-        Place::Closed => false,
-        Place::Parted => false,
-    }
-}
-
-// The levels behind a symbol.
+// The levels after a symbol.
 fn levels_after(class: Class, place: Place, colon: bool, levels: Levels) -> Levels
     requires { ⌜ levels .many ≤ levelLimit ⌝ }
     ensures { λ r. ⌜ LevelsAfter class place colon levels r ⌝ }
 {
     match class {
-        Class::Atom => {
-            if is_typing(plain::places::after_atom(place, colon)) {
-                return with_typed(levels);
-            }
-            levels
-        }
-        Class::Quoted => levels,
-        Class::At => levels,
+        Class::Atom => match plain::places::after_atom(place, colon) {
+            Place::Typing => with_typed(levels),
+            _ => levels,
+        },
+        Class::Colon => match place {
+            Place::Typing => levels,
+            _ => with_list(levels),
+        },
         Class::LessThan => with_list(levels),
-        Class::GreaterThan => without_one(without_typed(levels)),
         Class::Comma => without_typed(levels),
-        Class::Semicolon => without_one(without_typed(levels)),
-        Class::Colon => {
-            if is_typing(place) {
-                return levels;
-            }
-            with_list(levels)
-        }
-        Class::Stray => levels,
-        Class::Dot => levels,
-        Class::Literal => levels,
+        Class::GreaterThan | Class::Semicolon => without_one(without_typed(levels)),
+        _ => levels,
     }
 }
 
 // ---- what an Include leads to
-
-// Whether an address in a list ends before a symbol.
-fn ends_address(class: Class) -> bool
-    ensures { λ r. ⌜ r ≡ ends class ⌝ }
-{
-    match class {
-        Class::Atom => false,
-        Class::Quoted => false,
-        Class::At => false,
-        Class::LessThan => false,
-        Class::GreaterThan => true,
-        Class::Comma => true,
-        Class::Semicolon => true,
-        Class::Colon => false,
-        Class::Stray => false,
-        Class::Dot => false,
-        Class::Literal => false,
-    }
-}
 
 // The plain text of the address that starts at a position, as far as there is room: its length.
 fn address_text(classes: &[u8; 256], text: &[u8], at: usize, own: &mut [u8]) -> usize
@@ -235,13 +188,15 @@ fn address_text(classes: &[u8; 256], text: &[u8], at: usize, own: &mut [u8]) -> 
         let Next::Found(class, first, end) = coming else {
             return n;
         };
-        if ends_address(class) {
-            return n;
+        match class {
+            Class::GreaterThan | Class::Comma | Class::Semicolon => return n,
+            _ => {
+                coming = scanner::next_by(classes, text, end);
+                let colon = plain::is_colon(coming);
+                n = plain::write_symbol(classes, text, class, first, end, place, colon, own, n);
+                place = plain::places::after(class, place, colon);
+            }
         }
-        coming = scanner::next_by(classes, text, end);
-        let colon = plain::is_colon(coming);
-        n = plain::write_symbol(classes, text, class, first, end, place, colon, own, n);
-        place = plain::places::after(class, place, colon);
     }
 }
 
@@ -262,39 +217,12 @@ fn named_by(classes: &[u8; 256], text: &[u8], at: usize, store: &[u8]) -> Record
 enum Held {
     // A mailbox.
     Single,
-    // An angle list, from behind its "<".
+    // An angle list, from after its "<".
     Angled(usize),
     Neither,
 }
 
-// A symbol, as far as it tells what an Include holds: a word, "at", "<" or any other.
-enum Sort {
-    Word,
-    At,
-    Less,
-    Other,
-}
-
-// What a symbol is to what an Include holds.
-fn sort_of(class: Class) -> Sort
-    ensures { λ r. ⌜ r ≡ sortOf class ⌝ }
-{
-    match class {
-        Class::Atom => Sort::Word,
-        Class::Quoted => Sort::Word,
-        Class::At => Sort::At,
-        Class::LessThan => Sort::Less,
-        Class::GreaterThan => Sort::Other,
-        Class::Comma => Sort::Other,
-        Class::Semicolon => Sort::Other,
-        Class::Colon => Sort::Other,
-        Class::Stray => Sort::Other,
-        Class::Dot => Sort::Other,
-        Class::Literal => Sort::Other,
-    }
-}
-
-// What an Include holds, from behind its second ":".
+// What an Include holds, from after its second ":".
 fn held_at(classes: &[u8; 256], text: &[u8], at: usize) -> Held
     ensures { λ r. ⌜ heldBy (symbolsFrom (now (classes .entry)) (now (text .entry)) at) ≡ asHeld (now (classes .entry)) (now (text .entry)) r ⌝ }
 {
@@ -303,117 +231,47 @@ fn held_at(classes: &[u8; 256], text: &[u8], at: usize) -> Held
         let Next::Found(class, first, end) = scanner::next_by(classes, text, p) else {
             return Held::Neither;
         };
-        match sort_of(class) {
-            Sort::Word => p = end,
-            Sort::At => return Held::Single,
-            Sort::Less => return Held::Angled(end),
-            Sort::Other => return Held::Neither,
+        match class {
+            Class::Atom | Class::Quoted => p = end,
+            Class::At => return Held::Single,
+            Class::LessThan => return Held::Angled(end),
+            _ => return Held::Neither,
         }
-    }
-}
-
-// How far an address of an angle list is read.
-enum Phase {
-    Nothing,
-    Words,
-    Nodes,
-}
-
-// What a symbol does there: it is read on, or it is settled whether there are mailboxes only.
-enum Only {
-    On(Phase),
-    Done(bool),
-}
-
-// A word in an address.
-fn with_word(phase: Phase) -> Phase
-    ensures { λ r. ⌜ asPhase r ≡ withWord (asPhase phase) ⌝ }
-{
-    match phase {
-        Phase::Nothing => Phase::Words,
-        Phase::Words => Phase::Words,
-        Phase::Nodes => Phase::Nodes,
-    }
-}
-
-// Whether what was read may end: it is no name without nodes.
-fn not_words(phase: Phase) -> bool
-    ensures { λ r. ⌜ r ≡ notWords (asPhase phase) ⌝ }
-{
-    match phase {
-        Phase::Nothing => true,
-        Phase::Words => false,
-        Phase::Nodes => true,
-    }
-}
-
-// A symbol of an angle list that is to hold mailboxes only.
-fn only_step(class: Class, phase: Phase) -> Only
-    ensures { λ r. ⌜ OnlyIs class phase r ⌝ }
-{
-    match class {
-        Class::Atom => Only::On(with_word(phase)),
-        Class::Quoted => Only::On(with_word(phase)),
-        Class::At => Only::On(Phase::Nodes),
-        Class::LessThan => Only::Done(false),
-        Class::GreaterThan => Only::Done(not_words(phase)),
-        Class::Comma => {
-            if not_words(phase) {
-                return Only::On(Phase::Nothing);
-            }
-            Only::Done(false)
-        }
-        Class::Semicolon => Only::Done(false),
-        Class::Colon => Only::Done(false),
-        Class::Stray => Only::Done(false),
-        Class::Dot => Only::Done(false),
-        Class::Literal => Only::Done(false),
     }
 }
 
 // Whether the list of an angle list, from a position on, holds mailboxes only.
 fn only_mailboxes(classes: &[u8; 256], text: &[u8], at: usize) -> bool
-    ensures { λ r. ⌜ r ≡ only nothing (symbolsFrom (now (classes .entry)) (now (text .entry)) at) ⌝ }
+    ensures { λ r. ⌜ r ≡ only false false (symbolsFrom (now (classes .entry)) (now (text .entry)) at) ⌝ }
 {
     let mut p = at;
-    let mut phase = Phase::Nothing;
+    // An address is read so far: words without nodes, or nodes.
+    let mut words = false;
+    let mut nodes = false;
     loop {
         let Next::Found(class, first, end) = scanner::next_by(classes, text, p) else {
             return false;
         };
-        match only_step(class, phase) {
-            Only::Done(settled) => return settled,
-            Only::On(further) => {
-                phase = further;
+        match class {
+            Class::Atom | Class::Quoted => {
+                words = !nodes;
                 p = end;
             }
+            Class::At => {
+                words = false;
+                nodes = true;
+                p = end;
+            }
+            Class::Comma => {
+                if words {
+                    return false;
+                }
+                nodes = false;
+                p = end;
+            }
+            Class::GreaterThan => return !words,
+            _ => return false,
         }
-    }
-}
-
-// What a symbol is among the mailboxes of an angle list.
-enum Turn {
-    Closes,
-    Parts,
-    Within,
-}
-
-// What a symbol is among them.
-fn turn_of(class: Class) -> Turn
-    ensures { λ r. ⌜ r ≡ turnOf class ⌝ }
-{
-    match class {
-        Class::Atom => Turn::Within,
-        Class::Quoted => Turn::Within,
-        Class::At => Turn::Within,
-        Class::LessThan => Turn::Within,
-        Class::GreaterThan => Turn::Closes,
-        Class::Comma => Turn::Parts,
-        Class::Semicolon => Turn::Within,
-        Class::Colon => Turn::Within,
-        Class::Stray => Turn::Within,
-        Class::Dot => Turn::Within,
-        Class::Literal => Turn::Within,
     }
 }
 
@@ -439,13 +297,13 @@ fn first_stored(classes: &[u8; 256], text: &[u8], at: usize, store: &[u8]) -> Re
         let Next::Found(class, first, end) = scanner::next_by(classes, text, p) else {
             return Record::Nowhere;
         };
-        match turn_of(class) {
-            Turn::Closes => return Record::Nowhere,
-            Turn::Parts => {
+        match class {
+            Class::GreaterThan => return Record::Nowhere,
+            Class::Comma => {
                 starts = true;
                 p = end;
             }
-            Turn::Within => match named_if(classes, text, p, store, starts) {
+            _ => match named_if(classes, text, p, store, starts) {
                 Record::Stored(i) => return Record::Stored(i),
                 Record::Nowhere => {
                     starts = false;
@@ -456,11 +314,14 @@ fn first_stored(classes: &[u8; 256], text: &[u8], at: usize, store: &[u8]) -> Re
     }
 }
 
-// The record that an Include leads to, from behind its second ":".
-fn leads_to(classes: &[u8; 256], text: &[u8], at: usize, store: &[u8]) -> Record
+// The record that an Include leads to, from after its second ":"; one that stands directly in another typed address leads nowhere.
+fn leads_to(classes: &[u8; 256], text: &[u8], at: usize, levels: Levels, store: &[u8]) -> Record
     requires { ⌜ length (now text) ≤ textLimit ⌝ }
-    ensures { λ r. ⌜ r ≡ asRecord (sought (now (store .entry)) (symbolsFrom (now (classes .entry)) (now (text .entry)) at)) ⌝ }
+    ensures { λ r. ⌜ OpenedIs (now (classes .entry)) (now (text .entry)) at levels (now (store .entry)) r ⌝ }
 {
+    if levels.typed % 2 == 1 {
+        return Record::Nowhere;
+    }
     match held_at(classes, text, at) {
         Held::Neither => Record::Nowhere,
         Held::Single => named_by(classes, text, at, store),
@@ -475,156 +336,87 @@ fn leads_to(classes: &[u8; 256], text: &[u8], at: usize, store: &[u8]) -> Record
 
 // ---- where an Include begins and ends
 
-// An Include, from behind its second ":"; or none.
+// An Include, from after its second ":"; or none.
 enum Include {
     Behind(usize),
     Otherwise,
 }
 
-// Whether a symbol is ":".
-fn is_colon(class: Class) -> bool
-    ensures { λ r. ⌜ r ≡ sameClass Colon class ⌝ }
-{
-    match class {
-        Class::Colon => true,
-        _ => false,
-    }
-}
+// The kind of an Include.
+const INCLUDE: u8 = 5;
 
-// Whether a symbol is an atom.
-fn is_atom(class: Class) -> bool
-    ensures { λ r. ⌜ r ≡ sameClass Atom class ⌝ }
-{
-    match class {
-        Class::Atom => true,
-        _ => false,
-    }
-}
-
-// Whether an address can begin at a place.
-fn opens(place: Place) -> bool
-    ensures { λ r. ⌜ r ≡ opensAddress place ⌝ }
-{
-    match place {
-        Place::Start => true,
-        Place::Bare => true,
-        Place::BareComma => true,
-        Place::Named => true,
-        Place::Typing => false,
-        Place::Word => false,
-        Place::Node => false,
-        Place::Closed => false,
-        Place::Parted => true,
-    }
-}
-
-// Whether the atom "Include" and ":" come next, at or after a position.
+// Whether the atom of an Include and ":" come next, at or after a position.
 fn include_word(classes: &[u8; 256], text: &[u8], at: usize) -> Include
     ensures { λ r. ⌜ IncludeWordIs (now (classes .entry)) (now (text .entry)) at r ⌝ }
 {
     let Next::Found(word, first, end) = scanner::next_by(classes, text, at) else {
         return Include::Otherwise;
     };
-    if !is_atom(word) {
-        return Include::Otherwise;
+    match word {
+        Class::Atom => {
+            if grammar::typed_kind(&text[first..end]) != INCLUDE {
+                return Include::Otherwise;
+            }
+            let Next::Found(mark, place, behind) = scanner::next_by(classes, text, end) else {
+                return Include::Otherwise;
+            };
+            match mark {
+                Class::Colon => Include::Behind(behind),
+                _ => Include::Otherwise,
+            }
+        }
+        _ => Include::Otherwise,
     }
-    if !octets::letters::same_letters(&text[first..end], b"Include") {
-        return Include::Otherwise;
-    }
-    let Next::Found(mark, place, behind) = scanner::next_by(classes, text, end) else {
-        return Include::Otherwise;
-    };
-    if is_colon(mark) {
-        return Include::Behind(behind);
-    }
-    Include::Otherwise
 }
 
 // Whether an Include begins with a symbol that stands at a place and ends at a position.
 fn include_at(classes: &[u8; 256], text: &[u8], class: Class, place: Place, end: usize) -> Include
     ensures { λ r. ⌜ IncludeIs (now (classes .entry)) (now (text .entry)) class place end r ⌝ }
 {
-    if !is_colon(class) {
-        return Include::Otherwise;
-    }
-    if !opens(place) {
-        return Include::Otherwise;
-    }
-    include_word(classes, text, end)
-}
-
-// Whether an Include that is skipped ends before a symbol; inner: in its angle list.
-fn skip_ends(class: Class, inner: bool) -> bool
-    ensures { λ r. ⌜ r ≡ pick inner false (ends class) ⌝ }
-{
-    if inner {
-        return false;
-    }
-    ends_address(class)
-}
-
-// Whether what follows a symbol of an Include is in its angle list.
-fn inner_after(class: Class, inner: bool) -> bool
-    ensures { λ r. ⌜ r ≡ innerAfter class inner ⌝ }
-{
     match class {
-        Class::Atom => inner,
-        Class::Quoted => inner,
-        Class::At => inner,
-        Class::LessThan => true,
-        Class::GreaterThan => false,
-        Class::Comma => inner,
-        Class::Semicolon => inner,
-        Class::Colon => inner,
-        Class::Stray => inner,
-        Class::Dot => inner,
-        Class::Literal => inner,
+        Class::Colon => match place {
+            Place::Typing | Place::Word | Place::Node | Place::Closed => Include::Otherwise,
+            _ => include_word(classes, text, end),
+        },
+        _ => Include::Otherwise,
     }
 }
 
-// Where the symbols of an Include end, from behind its first ":" or further on.
+// Where the symbols of an Include end, from after its first ":" or further on.
 fn include_end(classes: &[u8; 256], text: &[u8], at: usize) -> usize
     ensures { λ r. ⌜ (symbolsFrom (now (classes .entry)) (now (text .entry)) r ≡ skipTo false (symbolsFrom (now (classes .entry)) (now (text .entry)) at)) × (at ≤ r) ⌝ }
 {
     let mut p = at;
+    // In the angle list of the Include.
     let mut inner = false;
     loop {
         let Next::Found(class, first, end) = scanner::next_by(classes, text, p) else {
             return p;
         };
-        if skip_ends(class, inner) {
-            return p;
+        match class {
+            Class::LessThan => {
+                inner = true;
+                p = end;
+            }
+            Class::GreaterThan => {
+                if !inner {
+                    return p;
+                }
+                inner = false;
+                p = end;
+            }
+            Class::Comma | Class::Semicolon => {
+                if !inner {
+                    return p;
+                }
+                p = end;
+            }
+            _ => p = end,
         }
-        inner = inner_after(class, inner);
-        p = end;
     }
 }
 
 // ---- openings
-
-// Whether the innermost level is a typed address.
-fn in_typed(levels: Levels) -> bool
-    ensures { λ r. ⌜ InTypedIs levels r ⌝ }
-{
-    levels.typed % 2 == 1
-}
-
-// The record that an Include leads to, from behind its second ":"; one that stands directly in another typed address leads nowhere.
-fn opened_by(
-    classes: &[u8; 256],
-    text: &[u8],
-    behind: usize,
-    levels: Levels,
-    store: &[u8],
-) -> Record
-    requires { ⌜ length (now text) ≤ textLimit ⌝ }
-    ensures { λ r. ⌜ OpenedIs (now (classes .entry)) (now (text .entry)) behind levels (now (store .entry)) r ⌝ }
-{
-    if in_typed(levels) {
-        return Record::Nowhere;
-    }
-    leads_to(classes, text, behind, store)
-}
 
 // Where an Include stands: the position in the body that counts for it, and the levels open around it.
 struct Spot {
@@ -633,7 +425,7 @@ struct Spot {
 }
 
 // What comes of a record that an Include leads to: it is opened; or the number and the position of the fault.
-enum Opening {
+enum Verdict {
     Opens,
     Faulty(u8, usize),
 }
@@ -649,28 +441,28 @@ fn fits_around(list: &[u8], depth: usize) -> bool
 }
 
 // The fault of a record's list that does not fit: its own number with the record's; or 10.
-fn fault_of(list: &[u8], i: usize, position: usize) -> Opening
+fn fault_of(list: &[u8], i: usize, position: usize) -> Verdict
     ensures { λ r. ⌜ r ≡ faultIn (now (list .entry)) i position ⌝ }
 {
     let mut none: [u8; 1] = [0; 1];
     match addresses::read_addresses(list, 0, list.len(), &mut none[..0]) {
-        Answer::Refused(number, place) => Opening::Faulty(number, i),
-        _ => Opening::Faulty(TOO_MANY_LEVELS, position),
+        Answer::Refused(number, place) => Verdict::Faulty(number, i),
+        _ => Verdict::Faulty(TOO_MANY_LEVELS, position),
     }
 }
 
 // Whether a record can be opened in place of an Include, after so many openings.
-fn opening_of(store: &[u8], i: usize, spot: Spot, openings: usize) -> Opening
+fn verdict_on(store: &[u8], i: usize, spot: Spot, openings: usize) -> Verdict
     requires { ⌜ i * storeRecordSize + storeRecordSize ≤ length (now store) ⌝ }
-    ensures { λ r. ⌜ OpeningIs (now (store .entry)) i (spot .position) (spot .depth) openings r ⌝ }
+    ensures { λ r. ⌜ VerdictIs (now (store .entry)) i (spot .position) (spot .depth) openings r ⌝ }
 {
     if OPENING_LIMIT <= openings {
-        return Opening::Faulty(TOO_MANY_OPENINGS, spot.position);
+        return Verdict::Faulty(TOO_MANY_OPENINGS, spot.position);
     }
     let at = i * STORE_RECORD_SIZE;
     let list = &store[at + STORE_NAME_SIZE..at + STORE_RECORD_SIZE];
     if fits_around(list, spot.depth) {
-        return Opening::Opens;
+        return Verdict::Opens;
     }
     fault_of(list, i, spot.position)
 }
@@ -683,34 +475,20 @@ enum Around {
     Inside(usize, usize),
 }
 
-// The position in the body that counts for an Include which starts at a position of a text.
-fn position_of(around: Around, start: usize) -> usize
-    ensures { λ r. ⌜ r ≡ placeOf around start ⌝ }
-{
-    match around {
-        Around::Body => start,
-        Around::Inside(position, depth) => position,
-    }
-}
-
-// The levels open around a text.
-fn levels_around(around: Around) -> usize
-    ensures { λ r. ⌜ r ≡ levelsAround around ⌝ }
-{
-    match around {
-        Around::Body => 0,
-        Around::Inside(position, depth) => depth,
-    }
-}
-
 // Where an Include stands which starts at a position of a text, with these levels open in that text.
 fn spot_of(around: Around, start: usize, levels: Levels) -> Spot
     requires { ⌜ (levelsAround around ≤ levelLimit) × (levels .many ≤ levelLimit) ⌝ }
     ensures { λ r. ⌜ (r .position ≡ placeOf around start) × (r .depth ≡ levelsAround around + levels .many) ⌝ }
 {
-    Spot {
-        position: position_of(around, start),
-        depth: levels_around(around) + levels.many,
+    match around {
+        Around::Body => Spot {
+            position: start,
+            depth: levels.many,
+        },
+        Around::Inside(position, depth) => Spot {
+            position,
+            depth: depth + levels.many,
+        },
     }
 }
 
@@ -721,32 +499,19 @@ struct Stage {
     written: usize,
 }
 
-// A stage, as a comma leaves it.
-fn joined(stage: Stage) -> Stage
-    ensures { λ r. ⌜ r ≡ joinedStage stage ⌝ }
+// A stage, as a comma leaves it, with so many openings.
+fn joined(stage: Stage, openings: usize) -> Stage
+    ensures { λ r. ⌜ r ≡ joinedStage stage openings ⌝ }
 {
     let place = stage.place;
     Stage {
         place: plain::places::after_comma(place),
-        openings: stage.openings,
+        openings,
         written: stage.written,
     }
 }
 
-// A stage, as a comma leaves it, with one opening more.
-fn opened(stage: Stage) -> Stage
-    requires { ⌜ stage .openings < openingLimit ⌝ }
-    ensures { λ r. ⌜ r ≡ openedStage stage ⌝ }
-{
-    let place = stage.place;
-    Stage {
-        place: plain::places::after_comma(place),
-        openings: stage.openings + 1,
-        written: stage.written,
-    }
-}
-
-// Write a symbol: the stage behind it.
+// Write a symbol: the stage after it.
 fn write_on(
     classes: &[u8; 256],
     text: &[u8],
@@ -797,13 +562,21 @@ fn walk_record(
     ensures { λ r. ⌜ RecordWalked (now (store .entry)) i (spot .position) (spot .depth) stage (now (out .entry)) (now (out .exit)) r ⌝ }
 {
     let openings = stage.openings;
-    match opening_of(store, i, spot, openings) {
-        Opening::Faulty(number, position) => Walked::Stopped(number, position, openings),
-        Opening::Opens => {
+    match verdict_on(store, i, spot, openings) {
+        Verdict::Faulty(number, position) => Walked::Stopped(number, position, openings),
+        Verdict::Opens => {
             let at = i * STORE_RECORD_SIZE;
             let list = &store[at + STORE_NAME_SIZE..at + STORE_RECORD_SIZE];
             let around = Around::Inside(spot.position, spot.depth);
-            walk(classes, store, list, 0, around, opened(stage), out)
+            walk(
+                classes,
+                store,
+                list,
+                0,
+                around,
+                joined(stage, openings + 1),
+                out,
+            )
         }
     }
 }
@@ -826,7 +599,8 @@ fn walk(
     let mut coming = scanner::next_by(classes, text, start);
     loop {
         let Next::Found(class, first, end) = coming else {
-            return Walked::Went(joined(here));
+            let openings = here.openings;
+            return Walked::Went(joined(here, openings));
         };
         let place = here.place;
         match include_at(classes, text, class, place, end) {
@@ -838,7 +612,7 @@ fn walk(
             }
             Include::Behind(behind) => {
                 let spot = spot_of(around, first, levels);
-                let Record::Stored(i) = opened_by(classes, text, behind, levels, store) else {
+                let Record::Stored(i) = leads_to(classes, text, behind, levels, store) else {
                     return Walked::Stopped(LEADS_NOWHERE, spot.position, here.openings);
                 };
                 let walked = walk_record(classes, store, i, spot, here, out);

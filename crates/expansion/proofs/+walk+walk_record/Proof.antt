@@ -21,10 +21,9 @@ use Rattle.expansion.proofs.+walk+walk_record.Lts-walk_record as walk-r
 use Rattle.expansion.proofs.include_at.Reads as include-at-reads
 use Rattle.expansion.proofs.include_end.Reads as include-end-reads
 use Rattle.expansion.proofs.joined.Reads as joined-reads
+use Rattle.expansion.proofs.leads_to.Reads as leads-to-reads
 use Rattle.expansion.proofs.levels_after.Reads as levels-after-reads
-use Rattle.expansion.proofs.opened.Reads as opened-reads
-use Rattle.expansion.proofs.opened_by.Reads as opened-by-reads
-use Rattle.expansion.proofs.opening_of.Reads as opening-of-reads
+use Rattle.expansion.proofs.verdict_on.Reads as verdict-on-reads
 use Rattle.expansion.proofs.spot_of.Reads as spot-of-reads
 use Rattle.expansion.proofs.write_on.Reads as write-on-reads
 use Rattle.plain.proofs.is_colon.Reads as is-colon-reads
@@ -69,8 +68,8 @@ walk-claims t = (
   write-on-reads.Learnt,
   spot-of-reads.Asked,
   spot-of-reads.Learnt,
-  opened-by-reads.Asked,
-  opened-by-reads.Learnt,
+  leads-to-reads.Asked,
+  leads-to-reads.Learnt,
   walk-record-below t,
   walk-record.Post,
   include-end-reads.Asked,
@@ -79,10 +78,10 @@ walk-claims t = (
 
 abbrev walk-record-claims : ℕ → walk-record-lts.Claims
 walk-record-claims t = (
-  opening-of-reads.Asked,
-  opening-of-reads.Learnt,
-  opened-reads.Asked,
-  opened-reads.Learnt,
+  verdict-on-reads.Asked,
+  verdict-on-reads.Learnt,
+  joined-reads.Asked,
+  joined-reads.Learnt,
   walk-below t,
   walk.Post,
 )
@@ -153,8 +152,8 @@ walk-enum-known-behind t c = search needs
 walk-spot-of-requires : (t : ℕ) → walk-lts.Need-spot-of-requires (walk-claims t) (walk-at t) walk.Post walk-Inv-loop walk-μ-loop
 walk-spot-of-requires t c κs = (c .before .before .before .before .before .before .before .before .before .before .before .before .pre .1 .low, low _ _ _ _ _ _ _ (c .before .before .before .before .before .before .before .loop .inv))
 
-walk-opened-by-requires : (t : ℕ) → walk-lts.Need-opened-by-requires (walk-claims t) (walk-at t) walk.Post walk-Inv-loop walk-μ-loop
-walk-opened-by-requires t c κs = omega (arith, c .before .before .before .before .before .before .before .before .before .before .before .before .before .pre .1 .short)
+walk-leads-to-requires : (t : ℕ) → walk-lts.Need-leads-to-requires (walk-claims t) (walk-at t) walk.Post walk-Inv-loop walk-μ-loop
+walk-leads-to-requires t c κs = omega (arith, c .before .before .before .before .before .before .before .before .before .before .before .before .before .pre .1 .short)
 
 walk-enum-known-i : (t : ℕ) → walk-lts.Need-enum-known-i (walk-claims t) (walk-at t) walk.Post walk-Inv-loop walk-μ-loop
 walk-enum-known-i t c = search needs
@@ -168,7 +167,7 @@ walk-same-length-2 t c = c .before .before .before .before .before .before .befo
 walk-returns-2 : (t : ℕ) → walk-lts.Need-returns-2 (walk-claims t) (walk-at t) walk.Post walk-Inv-loop walk-μ-loop
 walk-returns-2 t c =
     walking-nowhere _ _ _ _ _ _ _ (c .before .before .before .before .before .before .before .before .before .before .before .loop .inv) (c .before .before .before .before .before .before .before .before .before .coming .given .1) (rw (c .before .before .before .before .before .behind .given .1) at (c .before .before .before .before .before .before .before .include-at .ensures)) (c .before .before .before .spot-of .ensures .0)
-    (rw (c .enum-told2 .given .1) at (c .before .before .opened-by .ensures))
+    (rw (c .enum-told2 .given .1) at (c .before .before .leads-to .ensures))
 
 walk-walk-record-requires : (t : ℕ) → walk-lts.Need-walk-record-requires (walk-claims t) (walk-at t) walk.Post walk-Inv-loop walk-μ-loop
 walk-walk-record-requires t c κs =
@@ -179,7 +178,7 @@ walk-walk-record-requires t c κs =
         classes-are = p .1 .classes-are;
         inside =
             record-inside _ _ _ _ _ _ _ l (c .before .before .before .before .before .before .before .before .before .before .before .coming .given .1) (rw (c .before .before .before .before .before .before .before .behind .given .1) at (c .before .before .before .before .before .before .before .before .before .include-at .ensures)) (c .before .before .before .before .before .spot-of .ensures .0)
-            (rw (c .before .before .i .given .1) at (c .before .before .before .before .opened-by .ensures));
+            (rw (c .before .before .i .given .1) at (c .before .before .before .before .leads-to .ensures));
         few = l .few;
         counted = room _ _ _ _ _ _ _ l (p .1 .counted);
       },
@@ -198,7 +197,7 @@ walk-returns-3 : (t : ℕ) → walk-lts.Need-returns-3 (walk-claims t) (walk-at 
 walk-returns-3 t c =
     rw (c .enum-told3 .given .1)
     (walking-stopped _ _ _ _ _ _ _ (c .before .before .before .before .before .before .before .before .before .before .before .before .before .before .before .before .before .before .loop .inv) (c .before .before .before .before .before .before .before .before .before .before .before .before .before .before .before .before .coming .given .1) (rw (c .before .before .before .before .before .before .before .before .before .before .before .before .behind .given .1) at (c .before .before .before .before .before .before .before .before .before .before .before .before .before .before .include-at .ensures)) (c .before .before .before .before .before .before .before .before .before .before .spot-of .ensures .0)
-    (rw (c .before .before .before .before .before .before .before .i .given .1) at (c .before .before .before .before .before .before .before .before .before .opened-by .ensures)) (c .before .before .before .before .before .before .before .before .before .before .spot-of .ensures .1) (rw (c .enum-told3 .given .1) at (c .before .before .before .before .walk-record .ensures)))
+    (rw (c .before .before .before .before .before .before .before .i .given .1) at (c .before .before .before .before .before .before .before .before .before .leads-to .ensures)) (c .before .before .before .before .before .before .before .before .before .before .spot-of .ensures .1) (rw (c .enum-told3 .given .1) at (c .before .before .before .before .walk-record .ensures)))
 
 walk-include-end-requires : (t : ℕ) → walk-lts.Need-include-end-requires (walk-claims t) (walk-at t) walk.Post walk-Inv-loop walk-μ-loop
 walk-include-end-requires t c κs = search needs
@@ -214,11 +213,11 @@ walk-loop-less-2 t c =
 walk-loop-again-2 : (t : ℕ) → walk-lts.Need-loop-again-2 (walk-claims t) (walk-at t) walk.Post walk-Inv-loop walk-μ-loop
 walk-loop-again-2 t c =
     walking-opened _ _ _ _ _ _ _ (c .before .before .before .before .before .before .before .before .before .before .before .before .before .before .before .before .before .before .before .before .before .loop .inv) (c .before .before .before .before .before .before .before .before .before .before .before .before .before .before .before .before .before .before .before .coming .given .1) (rw (c .before .before .before .before .before .before .before .before .before .before .before .before .before .before .before .behind .given .1) at (c .before .before .before .before .before .before .before .before .before .before .before .before .before .before .before .before .before .include-at .ensures)) (c .before .before .before .before .before .before .before .before .before .before .before .before .before .spot-of .ensures .0)
-    (rw (c .before .before .before .before .before .before .before .before .before .before .i .given .1) at (c .before .before .before .before .before .before .before .before .before .before .before .before .opened-by .ensures)) (c .before .before .before .before .before .before .before .before .before .before .before .before .before .spot-of .ensures .1) (rw (c .before .before .before .walked .given .1) at (c .before .before .before .before .before .before .before .walk-record .ensures))
+    (rw (c .before .before .before .before .before .before .before .before .before .before .i .given .1) at (c .before .before .before .before .before .before .before .before .before .before .before .before .leads-to .ensures)) (c .before .before .before .before .before .before .before .before .before .before .before .before .before .spot-of .ensures .1) (rw (c .before .before .before .walked .given .1) at (c .before .before .before .before .before .before .before .walk-record .ensures))
     (c .before .before .before .before .before .before .before .walk-record .kept .1 .1 .1 .1 .1 .0) (c .before .include-end .ensures) (c .next-by3 .ensures)
 
-walk-record-opening-of-requires : (t : ℕ) → walk-record-lts.Need-opening-of-requires (walk-record-claims t) (walk-record-at t) walk-record.Post
-walk-record-opening-of-requires t c κs = search needs
+walk-record-verdict-on-requires : (t : ℕ) → walk-record-lts.Need-verdict-on-requires (walk-record-claims t) (walk-record-at t) walk-record.Post
+walk-record-verdict-on-requires t c κs = search needs
 
 walk-record-enum-known-number : (t : ℕ) → walk-record-lts.Need-enum-known-number (walk-record-claims t) (walk-record-at t) walk-record.Post
 walk-record-enum-known-number t c = search needs
@@ -244,22 +243,25 @@ walk-record-part-list-start t c = search needs
 walk-record-part-list-end : (t : ℕ) → walk-record-lts.Need-part-list-end (walk-record-claims t) (walk-record-at t) walk-record.Post
 walk-record-part-list-end t c = search needs
 
-walk-record-opened-requires : (t : ℕ) → walk-record-lts.Need-opened-requires (walk-record-claims t) (walk-record-at t) walk-record.Post
-walk-record-opened-requires t c κs = (rw (c .before .enum-told .given .1) at (c .before .before .before .opening-of .ensures)) .few
+walk-record-add-joined : (t : ℕ) → walk-record-lts.Need-add-joined (walk-record-claims t) (walk-record-at t) walk-record.Post
+walk-record-add-joined t c = search needs
+
+walk-record-joined-requires : (t : ℕ) → walk-record-lts.Need-joined-requires (walk-record-claims t) (walk-record-at t) walk-record.Post
+walk-record-joined-requires t c κs = search needs
 
 walk-record-walk-requires : (t : ℕ) → walk-record-lts.Need-walk-requires (walk-record-claims t) (walk-record-at t) walk-record.Post
 walk-record-walk-requires t c κs =
     let p = c .before .before .before .before .before .before .before .before .pre in
     let a = c .before .before .before .before .before .before .before .before .args in
-    let o : RecordOpens (a .store .now) (a .i) (a .spot .position) (a .spot .depth) (a .stage .openings) = rw (c .before .before .before .enum-told .given .1) at (c .before .before .before .before .before .opening-of .ensures) in
-    let e = c .before .opened .ensures in
+    let o : RecordOpens (a .store .now) (a .i) (a .spot .position) (a .spot .depth) (a .stage .openings) = rw (c .before .before .before .enum-told .given .1) at (c .before .before .before .before .before .verdict-on .ensures) in
+    let e = c .before .joined .ensures in
     rw e (
       omega (arith, p .0, o .few),
       record { classes-are = p .1 .classes-are; short = omega (arith, part-length (a .store .now) (a .i * storeRecordSize + storeNameSize) (a .i * storeRecordSize + storeRecordSize) (p .1 .inside)); low = o .low; few = omega (arith, o .few); counted = p .1 .counted },
     )
 
 walk-record-returns : (t : ℕ) → walk-record-lts.Need-returns (walk-record-claims t) (walk-record-at t) walk-record.Post
-walk-record-returns t c = let a = c .before .before .before .before .before .before .args in record-faulty (a .store .now) (a .i) (a .spot .position) (a .spot .depth) (a .stage) (a .out .now) (rw (c .before .number .given .1) at (c .before .before .before .opening-of .ensures))
+walk-record-returns t c = let a = c .before .before .before .before .before .before .args in record-faulty (a .store .now) (a .i) (a .spot .position) (a .spot .depth) (a .stage) (a .out .now) (rw (c .before .number .given .1) at (c .before .before .before .verdict-on .ensures))
 
 walk-record-same-length : (t : ℕ) → walk-record-lts.Need-same-length (walk-record-claims t) (walk-record-at t) walk-record.Post
 walk-record-same-length t c = search needs
@@ -267,8 +269,8 @@ walk-record-same-length t c = search needs
 walk-record-returns-2 : (t : ℕ) → walk-record-lts.Need-returns-2 (walk-record-claims t) (walk-record-at t) walk-record.Post
 walk-record-returns-2 t c =
     let a = c .before .before .before .before .before .before .before .before .before .before .before .args in
-    record-walked (a .store .now) (a .i) (a .spot .position) (a .spot .depth) (a .stage) (a .out .now) (a .classes .now) (c .before .before .before .before .before .before .before .before .before .before .before .pre .1 .classes-are) (rw (c .before .before .before .before .before .before .enum-told .given .1) at (c .before .before .before .before .before .before .before .before .opening-of .ensures)) _ (c .before .before .walk .result)
-    (rw (c .before .before .before .before .opened .ensures) at (c .before .before .walk .ensures))
+    record-walked (a .store .now) (a .i) (a .spot .position) (a .spot .depth) (a .stage) (a .out .now) (a .classes .now) (c .before .before .before .before .before .before .before .before .before .before .before .pre .1 .classes-are) (rw (c .before .before .before .before .before .before .enum-told .given .1) at (c .before .before .before .before .before .before .before .before .verdict-on .ensures)) _ (c .before .before .walk .result)
+    (rw (c .before .before .before .before .joined .ensures) at (c .before .before .walk .ensures))
 
 pub +walk+walk-record-spec : {M : Type 1} → statement M
 +walk+walk-record-spec = close μ-walk μ-walk-record (λ t. walk-lts.spec (walk-claims t)
@@ -292,7 +294,7 @@ pub +walk+walk-record-spec : {M : Type 1} → statement M
     (walk-loop-again t)
     (walk-enum-known-behind t)
     (walk-spot-of-requires t)
-    (walk-opened-by-requires t)
+    (walk-leads-to-requires t)
     (walk-enum-known-i t)
     (walk-enum-told-2 t)
     (walk-same-length-2 t)
@@ -309,7 +311,7 @@ pub +walk+walk-record-spec : {M : Type 1} → statement M
     λ t. walk-record-lts.spec (walk-record-claims t)
     (walk-record-at t)
     walk-record.Post
-    (walk-record-opening-of-requires t)
+    (walk-record-verdict-on-requires t)
     (walk-record-enum-known-number t)
     (walk-record-enum-told t)
     (walk-record-mul-at t)
@@ -318,7 +320,8 @@ pub +walk+walk-record-spec : {M : Type 1} → statement M
     (walk-record-sub-list t)
     (walk-record-part-list-start t)
     (walk-record-part-list-end t)
-    (walk-record-opened-requires t)
+    (walk-record-add-joined t)
+    (walk-record-joined-requires t)
     (walk-record-walk-requires t)
     (walk-record-returns t)
     (walk-record-same-length t)

@@ -10,26 +10,19 @@ use Rattle.octets.specs.Believed.Classes.{classTable}
 use Rattle.octets.specs.Believed.Numbers.{messageLimit, levelLimit, openingLimit, storeRecordSize, tooManyLevels}
 use Rattle.scanner.specs.Believed.Scanning.{scan, symbolsOf}
 use Rattle.addresses.specs.Believed.Outcome.{bodyRead}
+use Rattle.grammar.proofs.Readers.{endsAddress}
 use Rattle.addresses.specs.Ties.Steps.{symbolsFrom}
 use Rattle.octets.specs.Believed.Choice.{pick}
-use Rattle.expansion.specs.Believed.Store.{orElse, listIn}
+use Rattle.expansion.specs.Believed.Store.{listIn}
 use Rattle.plain.specs.declared.places.Place.{Place}
 use Rattle.octets.specs.Ties.Writing.{Wrote}
 use Rattle.scanner.specs.Ties.Meanings.{meaningAt}
 use Rattle.plain.specs.Ties.Walking.{walkText, symbolText, after, afterComma}
 use Rattle.plain.specs.declared.places.Place.the-variants.{Start}
-use Rattle.expansion.specs.Ties.Walk.{Sym, untilEnd, ends, innerAfter, levelsAfter, includeNext, includeHere, behindOne, inTyped, sought, Trail, halted, wrote, before, writing, walk, walkWithin, walked, Phase, nothing, words, nodes, onlyFrom, namedBy}
+use Rattle.expansion.specs.Ties.Walk.{Sym, untilEnd, innerAfter, levelsAfter, includeNext, includeHere, afterOne, inTyped, sought, Trail, halted, wrote, before, writing, walk, walkWithin, walked, namedBy}
 use Rattle.expansion.specs.Ties.Walk as seek
 use Rattle.scanner.specs.declared.Class.{Class}
-use Rattle.scanner.specs.declared.Class.the-variants.{Atom, Quoted, At, LessThan, GreaterThan, Comma, Semicolon, Colon, Stray, Dot, Literal}
-use Rattle.expansion.specs.declared.Sort.{Sort}
-use Rattle.expansion.specs.declared.Sort.the-variants.{Word, Less, Other}
-use Rattle.expansion.specs.declared.Sort.the-variants as sort
 use Rattle.expansion.specs.declared.Levels.{Levels}
-use Rattle.expansion.specs.declared.Only.{Only}
-use Rattle.expansion.specs.declared.Only.the-variants.{On, Done}
-use Rattle.expansion.specs.declared.Phase as code
-use Rattle.expansion.specs.declared.Phase.the-variants.{Nothing, Words, Nodes}
 use Rattle.expansion.specs.declared.Include.{Include}
 use Rattle.expansion.specs.declared.Include.the-variants.{Behind, Otherwise}
 use Rattle.expansion.specs.declared.Around.{Around}
@@ -37,12 +30,10 @@ use Rattle.expansion.specs.declared.Around.the-variants.{Body, Inside}
 use Rattle.expansion.specs.declared.Stage.{Stage}
 use Rattle.expansion.specs.declared.Expanded.{Expanded}
 use Rattle.expansion.specs.Believed.Outcome.{Outcome, refusal, fitted, AnsweredBy}
-use Rattle.expansion.specs.declared.Opening.{Opening}
-use Rattle.expansion.specs.declared.Opening.the-variants.{Opens, Faulty}
+use Rattle.expansion.specs.declared.Verdict.{Verdict}
+use Rattle.expansion.specs.declared.Verdict.the-variants.{Opens, Faulty}
 use Rattle.expansion.specs.declared.Walked.{Walked}
 use Rattle.expansion.specs.declared.Walked.the-variants.{Went, Stopped}
-use Rattle.expansion.specs.declared.Turn.{Turn}
-use Rattle.expansion.specs.declared.Turn.the-variants.{Closes, Parts, Within}
 use Rattle.expansion.specs.declared.Record.{Record}
 use Rattle.expansion.specs.declared.Record.the-variants.{Stored, Nowhere}
 use Rattle.expansion.specs.declared.Held.{Held}
@@ -58,20 +49,6 @@ abbrev pub asHeld : List ℕ → List ℕ → Held → seek.Held
 asHeld classes text Single = seek.single
 asHeld classes text (Angled behind) = seek.angled (symbolsFrom classes text behind)
 asHeld classes text Neither = seek.neither
-
--- what a symbol is to it
-abbrev pub sortOf : Class → Sort
-sortOf Atom = Word
-sortOf Quoted = Word
-sortOf At = sort.At
-sortOf LessThan = Less
-sortOf GreaterThan = Other
-sortOf Comma = Other
-sortOf Semicolon = Other
-sortOf Colon = Other
-sortOf Stray = Other
-sortOf Dot = Other
-sortOf Literal = Other
 
 -- levels as bits, the innermost the lowest
 abbrev pub bitsOf : List Bool → ℕ
@@ -89,53 +66,18 @@ pub record LevelsAre (levels : Levels) (s : List Bool) : Type 0 where
 abbrev pub Follows : Levels → Levels → (List Bool → List Bool) → Type 0
 Follows levels after change = (s : List Bool) → LevelsAre levels s → LevelsAre after (change s)
 
--- .. behind a symbol
+-- .. after a symbol
 abbrev pub LevelsAfter : Class → Place → Bool → Levels → Levels → Type 0
 LevelsAfter class place colon levels after = Follows levels after (λ s. levelsAfter class place colon s)
 
--- symbols behind an Include that is skipped
+-- symbols after an Include that is skipped
 abbrev pub skipTo : Bool → List Sym → List Sym
 skipTo inner [] = []
-skipTo inner (x ∷ xs) = pick (pick inner false (ends (x .class))) (x ∷ xs) (skipTo (innerAfter (x .class) inner) xs)
+skipTo inner (x ∷ xs) = pick (pick inner false (endsAddress (x .class))) (x ∷ xs) (skipTo (innerAfter (x .class) inner) xs)
 
 -- the text of the address that starts at a position
 abbrev pub addressFrom : List ℕ → List ℕ → ℕ → List ℕ
 addressFrom classes text at = walkText Start (untilEnd (symbolsFrom classes text at))
-
--- how far an address of an angle list is read
-abbrev pub asPhase : code.Phase → Phase
-asPhase Nothing = nothing
-asPhase Words = words
-asPhase Nodes = nodes
-
--- what a symbol of an angle list settles, or leaves to the rest
-abbrev pub onStep : Only → (Phase → Bool) → Bool
-onStep (On phase) rest = rest (asPhase phase)
-onStep (Done settled) rest = settled
-
--- .. for any rest
-abbrev pub OnlyIs : Class → code.Phase → Only → Type 0
-OnlyIs class phase step = (rest : Phase → Bool) → onlyFrom class (asPhase phase) rest ≡ onStep step rest
-
--- a symbol among the mailboxes of an angle list
-abbrev pub turnOf : Class → Turn
-turnOf Atom = Within
-turnOf Quoted = Within
-turnOf At = Within
-turnOf LessThan = Within
-turnOf GreaterThan = Closes
-turnOf Comma = Parts
-turnOf Semicolon = Within
-turnOf Colon = Within
-turnOf Stray = Within
-turnOf Dot = Within
-turnOf Literal = Within
-
--- what is found at it
-abbrev pub onTurn : Turn → Option ℕ → Option ℕ → Option ℕ → Option ℕ
-onTurn Closes here fresh rest = none
-onTurn Parts here fresh rest = fresh
-onTurn Within here fresh rest = orElse here rest
 
 -- the record named at a position, if an address starts there
 abbrev pub namedIf : List ℕ → List ℕ → ℕ → List ℕ → Bool → Option ℕ
@@ -144,10 +86,10 @@ namedIf classes text at store starts = pick starts (namedBy store (symbolsFrom c
 -- ---- an Include
 
 module _ (classes text : List ℕ) where
-  -- the atom "Include" and ":" come next, and these symbols behind them
+  -- the atom "Include" and ":" come next, and these symbols after them
   pub record IncludeComes (at behind : ℕ) : Type 0 where
     pub is : includeNext (symbolsFrom classes text at) ≡ true
-    pub rest : symbolsFrom classes text behind ≡ behindOne (behindOne (symbolsFrom classes text at))
+    pub rest : symbolsFrom classes text behind ≡ afterOne (afterOne (symbolsFrom classes text at))
 
   -- .. or they do not
   abbrev pub IncludeWordIs : ℕ → Include → Type 0
@@ -157,7 +99,7 @@ module _ (classes text : List ℕ) where
   -- an Include begins with a symbol of this class at this place, which ends at a position
   pub record IncludeBegins (class : Class) (place : Place) (end behind : ℕ) : Type 0 where
     pub is : includeHere class place (symbolsFrom classes text end) ≡ true
-    pub rest : symbolsFrom classes text behind ≡ behindOne (behindOne (symbolsFrom classes text end))
+    pub rest : symbolsFrom classes text behind ≡ afterOne (afterOne (symbolsFrom classes text end))
 
   -- .. or none does
   abbrev pub IncludeIs : Class → Place → ℕ → Include → Type 0
@@ -167,10 +109,6 @@ module _ (classes text : List ℕ) where
   -- where it leads, for any levels that are open so
   abbrev pub OpenedIs : ℕ → Levels → List ℕ → Record → Type 0
   OpenedIs behind levels store r = (s : List Bool) → LevelsAre levels s → r ≡ asRecord (pick (inTyped s) none (sought store (symbolsFrom classes text behind)))
-
--- the innermost level is a typed address, for any levels that are open so
-abbrev pub InTypedIs : Levels → Bool → Type 0
-InTypedIs levels r = (s : List Bool) → LevelsAre levels s → r ≡ inTyped s
 
 -- ---- the walk
 
@@ -184,13 +122,9 @@ abbrev pub levelsAround : Around → ℕ
 levelsAround Body = 0
 levelsAround (Inside position levels) = levels
 
--- a stage, as a comma leaves it
-abbrev pub joinedStage : Stage → Stage
-joinedStage stage = record { place = afterComma (stage .place); openings = stage .openings; written = stage .written }
-
--- .. with one opening more
-abbrev pub openedStage : Stage → Stage
-openedStage stage = record { place = afterComma (stage .place); openings = stage .openings + 1; written = stage .written }
+-- a stage, as a comma leaves it, with so many openings
+abbrev pub joinedStage : Stage → ℕ → Stage
+joinedStage stage openings = record { place = afterComma (stage .place); openings = openings; written = stage .written }
 
 module _ (classes text : List ℕ) where
   -- a symbol is written
@@ -203,7 +137,7 @@ module _ (classes text : List ℕ) where
 -- ---- a record that is opened
 
 -- what is wrong with the list of a record that does not fit
-abbrev pub faultIn : List ℕ → ℕ → ℕ → Opening
+abbrev pub faultIn : List ℕ → ℕ → ℕ → Verdict
 faultIn list i position = bodyRead (λ n p. Faulty n i) (λ k. Faulty tooManyLevels position) list 0 (length list)
 
 -- what follows a walk
@@ -224,9 +158,9 @@ module _ (store : List ℕ) where
         → walkWithin store (suc deep) i position depth place openings following ≡ walkSymbols deep (Inside position depth) place [] (symbolsOf (scan (listIn store i) 0)) (openings + 1) following
 
   -- .. or it halts, however deep openings may lie in each other
-  abbrev pub OpeningIs : ℕ → ℕ → ℕ → ℕ → Opening → Type 0
-  OpeningIs i position depth openings Opens = RecordOpens i position depth openings
-  OpeningIs i position depth openings (Faulty n p) =
+  abbrev pub VerdictIs : ℕ → ℕ → ℕ → ℕ → Verdict → Type 0
+  VerdictIs i position depth openings Opens = RecordOpens i position depth openings
+  VerdictIs i position depth openings (Faulty n p) =
       (deep : ℕ) (place : Place) (following : Continuation) → openingLimit ≤ deep + openings → walkWithin store deep i position depth place openings following ≡ halted n p openings
 
 -- ---- the walk

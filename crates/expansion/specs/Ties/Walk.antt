@@ -1,27 +1,27 @@
 -- The text of an expanded list by one walk over symbols that goes on through stored lists, each of them as if it stood between two commas.
 -- Nothing here needs to be believed: it is proved to be the plain text of the expansion.
 use Prim.Native.Nat.{ℕ, zero, suc, _+_}
-use mathlib.Core.Bool.{Bool, true, false}
+use mathlib.Core.Bool.{Bool, true, false, not}
 use mathlib.Core.List.{List, [], _∷_}
 use mathlib.Core.Option.{Option, none, some}
-use lib.Dec.{ltb, leb}
+use lib.Dec.{eqb, ltb, leb}
 use lib.ListN.{length}
 use Rattle.octets.specs.Believed.Choice.{pick, both}
-use Rattle.octets.specs.Believed.Letters.{sameLetters}
 use Rattle.octets.specs.Believed.Numbers.{levelLimit, openingLimit, tooManyLevels, leadsNowhere, tooManyOpenings}
-use Rattle.octets.specs.Believed.Text.{bytes}
 use Rattle.scanner.specs.Believed.Symbols.{Symbol}
 use Rattle.scanner.specs.Believed.Scanning.{scan, symbolsOf}
 use Rattle.scanner.specs.declared.Class.{Class}
-use Rattle.scanner.specs.declared.Class.the-variants.{Atom, Quoted, At, LessThan, GreaterThan, Comma, Semicolon, Colon, Stray, Dot, Literal}
+use Rattle.scanner.specs.declared.Class.the-variants.{Atom, At, LessThan, GreaterThan, Comma, Colon}
 use Rattle.grammar.specs.Believed.Grammar.{levels, begins}
-use Rattle.grammar.specs.Believed.Rfc733.{sameClass}
+use Rattle.grammar.specs.Believed.Rfc733.{sameClass, kindNumber, typedKind, include}
 use Rattle.grammar.specs.Executable.Trees733.{oneOf}
+use Rattle.grammar.proofs.Readers.{endsAddress, endsList}
 use Rattle.plain.specs.Ties.Walking.{symbolText, after, afterAtom, afterComma, colonNext, walkText}
 use Rattle.plain.specs.declared.places.Place.{Place}
 use Rattle.plain.specs.declared.places.Place.the-variants.{Start, Bare, BareComma, Named, Typing, Word, Node, Closed, Parted}
 use Rattle.expansion.specs.Believed.Store.{lowest, orElse, listIn}
 use Rattle.addresses.specs.Believed.Outcome.{bodyRead}
+use Rattle.addresses.specs.Ties.Steps.{isWord}
 
 -- a symbol
 abbrev pub Sym : Type 0
@@ -66,7 +66,7 @@ abbrev pub inTyped : List Bool → Bool
 inTyped [] = false
 inTyped (x ∷ s) = x
 
--- behind the atom of a typed address
+-- after the atom of a typed address
 abbrev pub isTyping : Place → Bool
 isTyping Start = false
 isTyping Bare = false
@@ -78,96 +78,54 @@ isTyping Node = false
 isTyping Closed = false
 isTyping Parted = false
 
--- the levels behind a symbol
+-- the levels after a symbol
 abbrev pub levelsAfter : Class → Place → Bool → List Bool → List Bool
-levelsAfter Atom place colon s = pick (isTyping (afterAtom place colon)) (withTyped s) s
-levelsAfter Quoted place colon s = s
-levelsAfter At place colon s = s
-levelsAfter LessThan place colon s = withList s
-levelsAfter GreaterThan place colon s = withoutOne (withoutTyped s)
-levelsAfter Comma place colon s = withoutTyped s
-levelsAfter Semicolon place colon s = withoutOne (withoutTyped s)
-levelsAfter Colon place colon s = pick (isTyping place) s (withList s)
-levelsAfter Stray place colon s = s
-levelsAfter Dot place colon s = s
-levelsAfter Literal place colon s = s
+levelsAfter class place colon s =
+    pick (endsList class) (withoutOne (withoutTyped s))
+    (pick (sameClass Atom class) (pick (isTyping (afterAtom place colon)) (withTyped s) s)
+    (pick (sameClass Colon class) (pick (isTyping place) s (withList s))
+    (pick (sameClass LessThan class) (withList s)
+    (pick (sameClass Comma class) (withoutTyped s) s))))
 
 -- ---- what an Include leads to
-
--- an address in a list ends before these
-abbrev pub ends : Class → Bool
-ends c = oneOf (GreaterThan ∷ Comma ∷ Semicolon ∷ []) c
 
 -- symbols up to the end of an address
 abbrev pub untilEnd : List Sym → List Sym
 untilEnd [] = []
-untilEnd (x ∷ xs) = pick (ends (x .class)) [] (x ∷ untilEnd xs)
+untilEnd (x ∷ xs) = pick (endsAddress (x .class)) [] (x ∷ untilEnd xs)
 
--- what an Include holds: a mailbox, an angle list from behind its "<", or neither
+-- what an Include holds: a mailbox, an angle list from after its "<", or neither
 pub data Held : Type 0 where
   single neither : Held
   angled : List Sym → Held
 
--- .. by the class of a symbol, the symbols behind it, and what these say
+-- .. by the class of a symbol, the symbols after it, and what these say
 abbrev pub heldFrom : Class → List Sym → Held → Held
-heldFrom Atom xs r = r
-heldFrom Quoted xs r = r
-heldFrom At xs r = single
-heldFrom LessThan xs r = angled xs
-heldFrom GreaterThan xs r = neither
-heldFrom Comma xs r = neither
-heldFrom Semicolon xs r = neither
-heldFrom Colon xs r = neither
-heldFrom Stray xs r = neither
-heldFrom Dot xs r = neither
-heldFrom Literal xs r = neither
+heldFrom class xs r = pick (isWord class) r (pick (sameClass At class) single (pick (sameClass LessThan class) (angled xs) neither))
 
--- .. by the symbols behind its second ":"
+-- .. by the symbols after its second ":"
 abbrev pub heldBy : List Sym → Held
 heldBy [] = neither
 heldBy (x ∷ xs) = heldFrom (x .class) xs (heldBy xs)
 
--- how far an address of an angle list is read: nothing, words, nodes
-pub data Phase : Type 0 where
-  nothing words nodes : Phase
-
--- it is no name without nodes
-abbrev pub notWords : Phase → Bool
-notWords nothing = true
-notWords words = false
-notWords nodes = true
-
--- a word comes
-abbrev pub withWord : Phase → Phase
-withWord nothing = words
-withWord words = words
-withWord nodes = nodes
-
--- a symbol, and whether the rest holds mailboxes only
-abbrev pub onlyFrom : Class → Phase → (Phase → Bool) → Bool
-onlyFrom Atom phase rest = rest (withWord phase)
-onlyFrom Quoted phase rest = rest (withWord phase)
-onlyFrom At phase rest = rest nodes
-onlyFrom LessThan phase rest = false
-onlyFrom GreaterThan phase rest = notWords phase
-onlyFrom Comma phase rest = both (notWords phase) (rest nothing)
-onlyFrom Semicolon phase rest = false
-onlyFrom Colon phase rest = false
-onlyFrom Stray phase rest = false
-onlyFrom Dot phase rest = false
-onlyFrom Literal phase rest = false
+-- a symbol of an angle list, and whether the rest holds mailboxes only. An address of it is read so far: `words` without nodes, or `nodes`
+abbrev pub onlyFrom : Class → Bool → Bool → (Bool → Bool → Bool) → Bool
+onlyFrom class words nodes rest =
+    pick (isWord class) (rest (not nodes) nodes)
+    (pick (sameClass At class) (rest false true)
+    (pick (sameClass Comma class) (both (not words) (rest false false)) (both (sameClass GreaterThan class) (not words))))
 
 -- mailboxes only, up to ">"
-abbrev pub only : Phase → List Sym → Bool
-only phase [] = false
-only phase (x ∷ xs) = onlyFrom (x .class) phase (λ phase′. only phase′ xs)
+abbrev pub only : Bool → Bool → List Sym → Bool
+only words nodes [] = false
+only words nodes (x ∷ xs) = onlyFrom (x .class) words nodes (λ words′ nodes′. only words′ nodes′ xs)
 
--- the first symbol has the letters of Include
+-- the first symbol is the atom of an Include
 abbrev pub includeWord : List Sym → Bool
 includeWord [] = false
-includeWord (x ∷ xs) = sameLetters (x .lexeme .meaning) (bytes "Include")
+includeWord (x ∷ xs) = eqb (kindNumber (typedKind (x .lexeme .meaning))) (kindNumber include)
 
--- an atom with these letters and ":" come next
+-- it is an atom, and ":" comes next
 abbrev pub includeNext : List Sym → Bool
 includeNext xs = both (begins sameClass (Atom ∷ Colon ∷ []) xs) (includeWord xs)
 
@@ -188,9 +146,9 @@ abbrev pub includeHere : Class → Place → List Sym → Bool
 includeHere class place xs = both (sameClass Colon class) (both (opens place) (includeNext xs))
 
 -- all but the first
-abbrev pub behindOne : List Sym → List Sym
-behindOne [] = []
-behindOne (x ∷ xs) = xs
+abbrev pub afterOne : List Sym → List Sym
+afterOne [] = []
+afterOne (x ∷ xs) = xs
 
 -- what a walk does with symbols: it writes them, or skips those of an Include that was opened, in its angle list or not
 pub data Mode : Type 0 where
@@ -199,17 +157,7 @@ pub data Mode : Type 0 where
 
 -- what follows a symbol of an Include is in its angle list
 abbrev pub innerAfter : Class → Bool → Bool
-innerAfter Atom inner = inner
-innerAfter Quoted inner = inner
-innerAfter At inner = inner
-innerAfter LessThan inner = true
-innerAfter GreaterThan inner = false
-innerAfter Comma inner = inner
-innerAfter Semicolon inner = inner
-innerAfter Colon inner = inner
-innerAfter Stray inner = inner
-innerAfter Dot inner = inner
-innerAfter Literal inner = inner
+innerAfter class inner = pick (sameClass LessThan class) true (pick (sameClass GreaterThan class) false inner)
 
 -- the opening of a record: its number, the position and the levels around, the place, the openings, and what follows
 abbrev pub WalkOpening : Type 0
@@ -220,39 +168,26 @@ module _ (store : List ℕ) where
   abbrev pub namedBy : List Sym → Option ℕ
   namedBy xs = lowest store (walkText Start (untilEnd xs))
 
-  -- a symbol among addresses: what it names if an address begins with it, what is found if one begins behind it, and if none does
-  abbrev pub firstFrom : Class → Option ℕ → Option ℕ → Option ℕ → Option ℕ
-  firstFrom Atom here fresh rest = orElse here rest
-  firstFrom Quoted here fresh rest = orElse here rest
-  firstFrom At here fresh rest = orElse here rest
-  firstFrom LessThan here fresh rest = orElse here rest
-  firstFrom GreaterThan here fresh rest = none
-  firstFrom Comma here fresh rest = fresh
-  firstFrom Semicolon here fresh rest = orElse here rest
-  firstFrom Colon here fresh rest = orElse here rest
-  firstFrom Stray here fresh rest = orElse here rest
-  firstFrom Dot here fresh rest = orElse here rest
-  firstFrom Literal here fresh rest = orElse here rest
-
   -- of the addresses up to ">" the first that is a record's name; `starts`: an address begins here
   abbrev pub firstOf : Bool → List Sym → Option ℕ
   firstOf starts [] = none
-  firstOf starts (x ∷ xs) = firstFrom (x .class) (pick starts (namedBy (x ∷ xs)) none) (firstOf true xs) (firstOf false xs)
+  firstOf starts (x ∷ xs) =
+      pick (sameClass GreaterThan (x .class)) none (pick (sameClass Comma (x .class)) (firstOf true xs) (orElse (pick starts (namedBy (x ∷ xs)) none) (firstOf false xs)))
 
   -- the record that an Include leads to, by what it holds
   abbrev pub soughtBy : Held → List Sym → Option ℕ
   soughtBy single xs = namedBy xs
   soughtBy neither xs = none
-  soughtBy (angled ys) xs = pick (only nothing ys) (firstOf true ys) none
+  soughtBy (angled ys) xs = pick (only false false ys) (firstOf true ys) none
 
-  -- .. by the symbols behind its second ":"
+  -- .. by the symbols after its second ":"
   abbrev pub sought : List Sym → Option ℕ
   sought xs = soughtBy (heldBy xs) xs
 
   -- an Include before these symbols: the record that it leads to is opened
   abbrev pub includeTrail : WalkOpening → Bool → ℕ → ℕ → Place → List Sym → ℕ → (Place → ℕ → Trail) → Trail
   includeTrail opening typed position depth place xs u next =
-      elim (pick typed none (sought (behindOne (behindOne xs)))) [ none ↦ halted leadsNowhere position u | some i ↦ opening i position depth (afterComma place) u next ]
+      elim (pick typed none (sought (afterOne (afterOne xs)))) [ none ↦ halted leadsNowhere position u | some i ↦ opening i position depth (afterComma place) u next ]
 
   module _ (opening : WalkOpening) (placeOf : ℕ → ℕ) (base : ℕ) where
     -- a walk over symbols from a place on, with these levels open in this text and `base` around it
@@ -264,7 +199,7 @@ module _ (store : List ℕ) where
         (before (λ rest. symbolText (x .class) (x .lexeme .meaning) place (colonNext xs) rest)
         (walk writing (after (x .class) place (colonNext xs)) (levelsAfter (x .class) place (colonNext xs) s) xs u next))
     walk (skipping inner) place s (x ∷ xs) u next =
-        pick (pick inner false (ends (x .class)))
+        pick (pick inner false (endsAddress (x .class)))
         (before (λ rest. symbolText (x .class) (x .lexeme .meaning) place (colonNext xs) rest)
         (walk writing (after (x .class) place (colonNext xs)) (levelsAfter (x .class) place (colonNext xs) s) xs u next))
         (walk (skipping (innerAfter (x .class) inner)) place s xs u next)

@@ -1,10 +1,10 @@
--- `expansion::opening_of` meets its contract. Assumes nothing.
+-- `expansion::verdict_on` meets its contract. Assumes nothing.
 use native.Mathlib.Omega.{arith}
 use mathlib.Core.Path.{sym, _∙_}
 use Rattle.expansion.proofs.OpeningLaws.{too-many, opens, at-fault}
 use borrow.Author.Needs.{needs}
-use Rattle.expansion.proofs.opening_of.Statement.{statement}
-use Rattle.expansion.proofs.opening_of.Tie as tie
+use Rattle.expansion.proofs.verdict_on.Statement.{statement}
+use Rattle.expansion.proofs.verdict_on.Tie as tie
 
 returns : tie.Need-returns
 returns c = let a = c .before .before .args in too-many (a .store .now) (a .i) (a .spot .position) (a .spot .depth) (a .openings) (omega arith)
@@ -39,8 +39,8 @@ fault-of-requires c κs = search needs
 returns-3 : tie.Need-returns-3
 returns-3 c = let a = c .before .before .before .before .before .before .args in at-fault (a .store .now) (a .i) (a .spot .position) (a .spot .depth) (a .openings) (omega arith) (sym (c .before .before .fits-around .ensures) ∙ c .before .if2 .left) (c .fault-of .result) (c .fault-of .ensures)
 
-pub opening-of-spec : {M : Type 1} → statement M
-opening-of-spec =
+pub verdict-on-spec : {M : Type 1} → statement M
+verdict-on-spec =
     tie.close
     (tie.spec
     returns
