@@ -1,6 +1,6 @@
 -- A line is written part by part. Assumes nothing.
 use mathlib.Core.Path.{_≡_}
-use mathlib.Core.List.{List, [], _∷_, _++_}
+use mathlib.Core.List.{List, _∷_, _++_}
 use Prim.Native.Nat.{ℕ, _+_, _*_}
 use native.Mathlib.Omega.{arith}
 use Rattle.octets.specs.Believed.Numbers.{fieldRecordSize, addressRecordSize}

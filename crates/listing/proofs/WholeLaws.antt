@@ -1,7 +1,7 @@
 -- What is printed of a message, from the table of its fields. Assumes nothing.
-use mathlib.Core.Path.{_≡_, refl, sym, ap, _∙_}
+use mathlib.Core.Path.{_≡_, sym, ap, _∙_}
 use mathlib.Core.List.{List, []}
-use Prim.Native.Nat.{ℕ, _+_, _*_, _/_, _≤_, _<_}
+use Prim.Native.Nat.{ℕ, _+_, _*_, _<_}
 use native.Mathlib.Omega.{arith}
 use lib.ListN.{length, getD, drop}
 use lib.Seq.{sets}
@@ -14,7 +14,7 @@ use Rattle.header.specs.Believed.Fields.{Field, fieldsOf, headerOf}
 use Rattle.header.specs.Believed.Split.{answerFor, splitAnswer, splitTable}
 use Rattle.header.proofs.FieldLaws.{noField, fields-ordered}
 use Rattle.header.proofs.ReadBack.{Stands, accept}
-use Rattle.listing.specs.Ties.Putting.{tabulate, fieldIn, Named, Holds, Fits}
+use Rattle.listing.specs.Ties.Putting.{tabulate, fieldIn, Holds, Fits}
 use Rattle.listing.proofs.TableLaws.{tabulated}
 
 -- a text that is written from its start on

@@ -1,7 +1,7 @@
 -- `reply::reply_body` meets its contract. Assumes nothing.
 use borrow.Author.Needs.{needs}
 use mathlib.Core.Path.{_≡_, sym, _∙_}
-use mathlib.Core.Bool.{Bool, true, false}
+use mathlib.Core.Bool.{true, false}
 use Rattle.reply.specs.Believed.Reply.{leftForFrom}
 use Rattle.reply.proofs.reply_body.Statement.{statement}
 use Rattle.reply.proofs.reply_body.Tie as tie
