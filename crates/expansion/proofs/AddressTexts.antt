@@ -2,7 +2,7 @@
 use mathlib.Core.Path.{_≡_, refl, sym, ap, _∙_}
 use mathlib.Core.Bool.{Bool, true, false}
 use mathlib.Core.List.{List, [], _∷_}
-use Prim.Native.Nat.{ℕ, _+_, _*_, _-_, _≤_}
+use Prim.Native.Nat.{ℕ, _+_, _*_, _≤_}
 use native.Mathlib.Omega.{arith}
 use lib.ListN.{length}
 use lib.Seq.{sets}
@@ -48,7 +48,7 @@ until-colon (x ∷ xs) = by (endsAddress (x .class)) refl
 pub record Coming (classes text : List ℕ) (start : ℕ) (own₀ own : List ℕ) (n : ℕ) (place : Place) (coming : Next) : Type 0 where
   pub at : ℕ
   pub is : coming ≡ nextOf (scanBy classes text at)
-  pub counted : n ≤ 4294967296 * at
+  pub counted : n ≤ 4 * textLimit * at
   pub same-length : length own ≡ length own₀
   pub same : sets own₀ 0 (addressFrom classes text start) ≡ sets own n (walkText place (untilEnd (symbolsFrom classes text at)))
   pub count : length (addressFrom classes text start) ≡ n + length (walkText place (untilEnd (symbolsFrom classes text at)))

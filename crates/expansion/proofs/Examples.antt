@@ -1,13 +1,14 @@
--- The examples of the request, in one table with one statement over its rows. Assumes nothing.
-use Prim.Native.Nat.{ℕ, zero, suc, _-_}
+-- Examples of the request, in one table with one statement over its rows; `check_expansion` runs these and more. Assumes nothing.
+use Prim.Native.Nat.{ℕ, _-_}
 use mathlib.Core.Path.{_≡_, refl}
 use mathlib.Core.Bool.{Bool, true}
 use mathlib.Core.List.{List, [], _∷_, _++_}
 use lib.Dec.{eqb}
-use lib.ListN.{length, replicate, take}
+use lib.ListN.{length, replicate}
 use Rattle.octets.specs.Believed.Choice.{both}
 use Rattle.octets.specs.Believed.Classes.{classOf, classTable}
 use Rattle.octets.specs.Believed.Letters.{lower, same, sameBytes}
+use Rattle.octets.specs.Believed.Numbers.{storeRecordSize, storeNameSize}
 use Rattle.octets.specs.Believed.Text.{bytes}
 use Rattle.octets.specs.Believed.Answers.{numberOf, positionOf, countOf}
 use Rattle.scanner.specs.Believed.Kinds.{kindOf}
@@ -18,11 +19,7 @@ use Rattle.expansion.specs.Believed.Outcome.{expandOutcome}
 
 -- a record of a store: its name padded with zeros, its list with spaces
 abbrev stored : List ℕ → List ℕ → List ℕ
-stored name list = name ++ (replicate (64 - length name) 0 ++ (list ++ replicate (448 - length list) 32))
-
-abbrev many : ℕ → List ℕ → List ℕ
-many zero x = []
-many (suc n) x = x ++ many n x
+stored name list = name ++ (replicate (storeNameSize - length name) 0 ++ (list ++ replicate (storeRecordSize - storeNameSize - length list) 32))
 
 abbrev X : List ℕ
 X = bytes ":Include: a at x"
@@ -37,9 +34,6 @@ record Row : Type 0 where
   count : ℕ
   text : List ℕ
   openings : ℕ
-
-abbrev front : ℕ → List ℕ → List ℕ
-front n xs = take n xs
 
 abbrev right : Row → Bool
 right r =
@@ -80,22 +74,10 @@ rows =
     ∷ refuses X (stored (bytes "a at x") (bytes "m@h" ++ (0 ∷ []))) 7 0 0
     ∷ gives (bytes ":Include: " ++ (replicate 59 97 ++ bytes " at x")) (stored (replicate 59 97 ++ bytes " at x") (bytes "m@h")) (bytes "m at h") 1
     ∷ refuses X (stored (bytes "a at x ") []) 19 0 0
+    ∷ refuses X (stored (bytes "a at x") X) 20 0 64
     ∷ record { body = X; store = stored (bytes "a at x") (bytes "m@h"); room = 5; number = 11; position = 0; count = 6; text = []; openings = 1 }
     ∷ []
 
 pub examples-hold : all rows ≡ true
 unfolding kindOf classTable classOf charactersFrom scanFrom symbolsOf unlessFault lower same
 examples-hold = refl
-
--- openings up to the budget
-abbrev long : List Row
-long =
-    refuses X (stored (bytes "a at x") X) 20 0 64
-    ∷ refuses (bytes "\"\", " ++ X) (stored (bytes "a at x") (bytes "<" ++ (X ++ bytes ">"))) 10 4 63
-    ∷ refuses (many 64 (X ++ bytes ",") ++ bytes ":Include:q@q") (stored (bytes "a at x") []) 19 1088 64
-    ∷ refuses (many 64 (X ++ bytes ",") ++ bytes ":Include:b@y") (stored (bytes "a at x") [] ++ stored (bytes "b at y") (bytes "(")) 20 1088 64
-    ∷ []
-
-pub long-hold : all long ≡ true
-unfolding kindOf classTable classOf charactersFrom scanFrom symbolsOf unlessFault lower same
-long-hold = refl

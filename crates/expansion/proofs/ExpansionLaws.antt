@@ -10,7 +10,7 @@ use lib.Dec.{eqb, ltb, leb}
 use lib.ListN.{length, take}
 use lib.Seq.{take-length}
 use Rattle.octets.specs.Believed.Choice.{pick}
-use Rattle.octets.specs.Believed.Numbers.{levelLimit, messageLimit, openingLimit}
+use Rattle.octets.specs.Believed.Numbers.{levelLimit, messageLimit, openingLimit, tooManyLevels, leadsNowhere, tooManyOpenings}
 use Rattle.octets.specs.declared.answers.Answer.the-variants.{Refused}
 use Rattle.scanner.specs.Believed.Scanning.{scan, symbolsOf}
 use Rattle.scanner.specs.Believed.Answers.{faultOf}
@@ -36,23 +36,23 @@ use Rattle.expansion.specs.Believed.Promises.{NoInclude, NotInclude, Rea
 use Rattle.expansion.proofs.TreeExpansion.{placeExpansion, listExpansion, addressExpansion, row-expansion}
 use Rattle.addresses.proofs.Judgements.{Judged, refusedAt, listed, judged, listed-read}
 
--- ---- the symbols behind a tree
+-- ---- the symbols after a tree
 
 mutual
-  behind-place : (r : Place) (xs : List Sym) → WritableSymbols (placeThen r xs) → WritableSymbols xs
-  behind-place empty xs g = g
-  behind-place (comma l t) xs g = behind-list l (of Comma t ∷ xs) g .1
+  after-place : (r : Place) (xs : List Sym) → WritableSymbols (placeThen r xs) → WritableSymbols xs
+  after-place empty xs g = g
+  after-place (comma l t) xs g = after-list l (of Comma t ∷ xs) g .1
 
-  behind-list : (l : AddressList) (xs : List Sym) → WritableSymbols (listThen l xs) → WritableSymbols xs
-  behind-list (idle r) xs g = behind-place r xs g
-  behind-list (full r a) xs g = behind-address a xs (behind-place r (addressThen a xs) g)
+  after-list : (l : AddressList) (xs : List Sym) → WritableSymbols (listThen l xs) → WritableSymbols xs
+  after-list (idle r) xs g = after-place r xs g
+  after-list (full r a) xs g = after-address a xs (after-place r (addressThen a xs) g)
 
-  behind-address : (a : trees.Address) (xs : List Sym) → WritableSymbols (addressThen a xs) → WritableSymbols xs
-  behind-address (mailbox p m) xs g = nodes-fine m xs (phrase-fine p (nodesThen m xs) g .2) .2
-  behind-address (angle o t l u) xs g = behind-list l (of GreaterThan u ∷ xs) (name-fine o (of LessThan t ∷ listThen l (of GreaterThan u ∷ xs)) g .1 .1) .1
-  behind-address (group o t l u) xs g = behind-list l (of Semicolon u ∷ xs) (name-fine o (of Colon t ∷ listThen l (of Semicolon u ∷ xs)) g .1 .1) .1
-  behind-address (quoted t) xs g = g .1
-  behind-address (typed t a u b) xs g = behind-address b xs (g .1 .1 .1)
+  after-address : (a : trees.Address) (xs : List Sym) → WritableSymbols (addressThen a xs) → WritableSymbols xs
+  after-address (mailbox p m) xs g = nodes-fine m xs (phrase-fine p (nodesThen m xs) g .2) .2
+  after-address (angle o t l u) xs g = after-list l (of GreaterThan u ∷ xs) (name-fine o (of LessThan t ∷ listThen l (of GreaterThan u ∷ xs)) g .1 .1) .1
+  after-address (group o t l u) xs g = after-list l (of Semicolon u ∷ xs) (name-fine o (of Colon t ∷ listThen l (of Semicolon u ∷ xs)) g .1 .1) .1
+  after-address (quoted t) xs g = g .1
+  after-address (typed t a u b) xs g = after-address b xs (g .1 .1 .1)
 
 -- ---- fine addresses, with so many levels open around them
 
@@ -142,7 +142,7 @@ module _ (store : List ℕ) (opening : Opening) (good : GoodOpening opening) (pl
   include-fine true p d held before u f h = h
   include-fine false p d held before u f h = by (leadsTo store held)
     where
-      by : (o : Option ℕ) → FineEnd d (elim o [ none ↦ stopped 19 p u | some i ↦ opening i p d before u ])
+      by : (o : Option ℕ) → FineEnd d (elim o [ none ↦ stopped leadsNowhere p u | some i ↦ opening i p d before u ])
       by none = h
       by (some i) = good i p d before u f h
 
@@ -158,7 +158,7 @@ module _ (store : List ℕ) (opening : Opening) (good : GoodOpening opening) (pl
     list-fine (full r a) d xs before u g n f h =
         fine-then d (placeExpansion store opening placeOf d r before u) (λ b v. addressExpansion store opening placeOf false d a b v)
         (place-fine r d (addressThen a xs) before u g (omega (arith, n)) f h)
-        (λ b v i j. address-fine a false d xs b v (behind-place r (addressThen a xs) g) (omega (arith, n)) i j)
+        (λ b v i j. address-fine a false d xs b v (after-place r (addressThen a xs) g) (omega (arith, n)) i j)
 
     address-fine : (a : trees.Address) (y : Bool) (d : ℕ) (xs : List Sym) (before : Addresses) (u : ℕ) → WritableSymbols (addressThen a xs) → d + addressLevels a ≤ levelLimit → Fine d before → u ≤ openingLimit
         → Ends y d before (addressExpansion store opening placeOf y d a before u)
@@ -210,10 +210,10 @@ module _ (store : List ℕ) where
       refuse n q = stopped n i u
 
       derive : Derivation → Expansion
-      derive k = pick (ltb levelLimit (d + levels k)) (stopped 10 p u) (expandRow store opening (λ start. p) false d k before (suc u))
+      derive k = pick (ltb levelLimit (d + levels k)) (stopped tooManyLevels p u) (expandRow store opening (λ start. p) false d k before (suc u))
 
       joined : (k : Derivation) (z : Bool) → ltb levelLimit (d + levels k) ≡ z → DerivedList k (symbolsOf (scan (take (length text) text) 0))
-          → FineEnd d (pick z (stopped 10 p u) (expandRow store opening (λ start. p) false d k before (suc u)))
+          → FineEnd d (pick z (stopped tooManyLevels p u) (expandRow store opening (λ start. p) false d k before (suc u)))
       joined k true z e = omega (arith, h)
       joined k false z e = row-fine store opening good (λ start. p) (take (length text) text) 0 k d before (suc u) e (ltb-false _ _ z) f h
 
@@ -221,7 +221,7 @@ module _ (store : List ℕ) where
       by (refusedAt n q e) = rw (e Expansion refuse derive) (omega (arith, h))
       by (listed k b) = rw (listed-read b refuse derive) (joined k _ refl (b .list .derived))
 
-  within-budget : (p d u : ℕ) (e : Expansion) (z : Bool) → leb openingLimit u ≡ z → u ≤ openingLimit → (suc u ≤ openingLimit → FineEnd d e) → FineEnd d (pick z (stopped 20 p u) e)
+  within-budget : (p d u : ℕ) (e : Expansion) (z : Bool) → leb openingLimit u ≡ z → u ≤ openingLimit → (suc u ≤ openingLimit → FineEnd d e) → FineEnd d (pick z (stopped tooManyOpenings p u) e)
   within-budget p d u e true z h k = h
   within-budget p d u e false z h k = k (leb-false _ _ z)
 

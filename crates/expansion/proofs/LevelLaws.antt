@@ -37,10 +37,10 @@ power-more : (n m : ℕ) → power n ≤ power (m + n)
 power-more n zero = let e : 0 + n ≡ n = omega arith in rw e (omega arith)
 power-more n (suc m) = let e : suc m + n ≡ suc (m + n) = omega arith in rw e (omega (arith, power-more n m))
 
-power-63 : (n : ℕ) → n < 64 → power n ≤ 9223372036854775808
+power-63 : (n : ℕ) → n < levelLimit → power n ≤ 9223372036854775808
 power-63 n h = let e : (63 - n) + n ≡ 63 = omega (arith, h) in let f : power n ≤ power ((63 - n) + n) = power-more n (63 - n) in rw e at f
 
-pub bits-fit : (s : List Bool) → length s < 64 → bitsOf s < 9223372036854775808
+pub bits-fit : (s : List Bool) → length s < levelLimit → bitsOf s < 9223372036854775808
 bits-fit s h = omega (arith, bits-low s, power-63 (length s) h)
 
 module _ (levels after : Levels) where

@@ -8,7 +8,7 @@ use lib.Dec.{ltb, leb}
 use lib.ListN.{length}
 use lib.Seq.{take-length}
 use Rattle.octets.specs.Believed.Choice.{pick}
-use Rattle.octets.specs.Believed.Numbers.{levelLimit, openingLimit}
+use Rattle.octets.specs.Believed.Numbers.{levelLimit, openingLimit, tooManyLevels, tooManyOpenings}
 use Rattle.scanner.specs.Believed.Scanning.{scan, symbolsOf}
 use Rattle.grammar.specs.Believed.Grammar.{levels}
 use Rattle.grammar.specs.Believed.Rfc733.{Derivation, DerivedList}
@@ -61,12 +61,12 @@ module _ (store : List ℕ) where
       ∙ ap (λ f. onward f (λ m′ v. before (listed b m′) (k (spot b m′ true) v))) (sym (ap (λ r. expandRow store o placeOf false base r m u) e ∙ row-expansion store o placeOf t base m u))
 
   within-list : (deep : ℕ) → Agree deep → (i p d : ℕ) (b : Begin) (m : Addresses) (u : ℕ) (k : Place → ℕ → Trail) (l : Derivation) → DerivedList l (symbolsOf (scan (listIn store i) 0)) → levels l ≤ levelLimit → (z : Bool)
-      → before (listed b m) (pick z (halted 10 p u) (walk store (λ i′ p′ b′ l′ u′ n′. walkWithin store deep i′ p′ b′ l′ u′ n′) (λ start. p) d writing (spot b m true) [] (symbolsOf (scan (listIn store i) 0)) (suc u) k))
-      ≡ onward (pick z (stopped 10 p u) (expandRow store (λ i′ p′ d′ m′ u′. openedWithin store deep i′ p′ d′ m′ u′) (λ start. p) false d l m (suc u))) (λ m′ v. before (listed b m′) (k (spot b m′ true) v))
+      → before (listed b m) (pick z (halted tooManyLevels p u) (walk store (λ i′ p′ b′ l′ u′ n′. walkWithin store deep i′ p′ b′ l′ u′ n′) (λ start. p) d writing (spot b m true) [] (symbolsOf (scan (listIn store i) 0)) (suc u) k))
+      ≡ onward (pick z (stopped tooManyLevels p u) (expandRow store (λ i′ p′ d′ m′ u′. openedWithin store deep i′ p′ d′ m′ u′) (λ start. p) false d l m (suc u))) (λ m′ v. before (listed b m′) (k (spot b m′ true) v))
   within-list deep agree i p d b m u k l derived n true = refl
   within-list deep agree i p d b m u k l derived n false = from-list deep agree (λ start. p) d l (symbolsOf (scan (listIn store i) 0)) derived n b m (suc u) k
 
-  budget : (z : Bool) (p u : ℕ) (f : List ℕ → List ℕ) (t : Trail) (e : Expansion) (g : Addresses → ℕ → Trail) → before f t ≡ onward e g → before f (pick z (halted 20 p u) t) ≡ onward (pick z (stopped 20 p u) e) g
+  budget : (z : Bool) (p u : ℕ) (f : List ℕ → List ℕ) (t : Trail) (e : Expansion) (g : Addresses → ℕ → Trail) → before f t ≡ onward e g → before f (pick z (halted tooManyOpenings p u) t) ≡ onward (pick z (stopped tooManyOpenings p u) e) g
   budget true p u f t e g h = refl
   budget false p u f t e g h = h
 
@@ -76,9 +76,9 @@ module _ (store : List ℕ) where
       budget (leb openingLimit u) p u (listed b m) _ _ (λ m′ v. before (listed b m′) (k (spot b m′ true) v))
       (pair-read (λ (t : Trail) (e : Expansion). before (listed b m) t ≡ onward e (λ m′ v. before (listed b m′) (k (spot b m′ true) v)))
       (λ n q. halted n i u)
-      (λ l. pick (ltb levelLimit (d + levels l)) (halted 10 p u) (walk store (λ i′ p′ b′ l′ u′ n′. walkWithin store deep i′ p′ b′ l′ u′ n′) (λ start. p) d writing (spot b m true) [] (symbolsOf (scan (listIn store i) 0)) (suc u) k))
+      (λ l. pick (ltb levelLimit (d + levels l)) (halted tooManyLevels p u) (walk store (λ i′ p′ b′ l′ u′ n′. walkWithin store deep i′ p′ b′ l′ u′ n′) (λ start. p) d writing (spot b m true) [] (symbolsOf (scan (listIn store i) 0)) (suc u) k))
       (λ n q. stopped n i u)
-      (λ l. pick (ltb levelLimit (d + levels l)) (stopped 10 p u) (expandRow store (λ i′ p′ d′ m′ u′. openedWithin store deep i′ p′ d′ m′ u′) (λ start. p) false d l m (suc u)))
+      (λ l. pick (ltb levelLimit (d + levels l)) (stopped tooManyLevels p u) (expandRow store (λ i′ p′ d′ m′ u′. openedWithin store deep i′ p′ d′ m′ u′) (λ start. p) false d l m (suc u)))
       (listIn store i) 0 (length (listIn store i))
       (λ n q. refl)
       (λ l h n. within-list deep (agree-within deep) i p d b m u k l (rw take-length at h) n (ltb levelLimit (d + levels l))))

@@ -40,7 +40,7 @@ use Rattle.expansion.proofs.Seeking.{Ending, at-greater, at-comma, at-s
 use Rattle.expansion.proofs.StoreLaws.{InStore}
 use Rattle.expansion.proofs.WalkThrough.{twice, unmoved}
 
--- ---- trails one behind the other
+-- ---- trails one after the other
 
 onward-none : (trail : Continuation → Trail) (out : List ℕ) (n : ℕ) → Onward trail trail out n out n
 onward-none trail out n = record { put = λ r. r; same = λ k. sym (unmoved (trail k)); wrote = record { same = λ rest. refl; count = λ rest. refl } }

@@ -13,7 +13,7 @@ use Rattle.octets.proofs.ChoiceLaws.{both-parts}
 use Rattle.octets.specs.Believed.Numbers.{levelLimit, leadsNowhere}
 use Rattle.octets.specs.Believed.Text.{bytes}
 use Rattle.grammar.specs.Believed.Rfc733.{sameClass, kindNumber, typedKind, include}
-use Rattle.grammar.specs.Executable.Trees733.{Class, Atom, Quoted, At, LessThan, GreaterThan, Comma, Semicolon, Colon, Stray, Dot, Literal, Lexeme, Sym, of, atomWord, quotedWord, Phrase, one, more, Nodes, first, next, comma, AddressList, idle, full, mailbox, angle, group, quoted, typed}
+use Rattle.grammar.specs.Executable.Trees733.{Class, Atom, Quoted, At, LessThan, GreaterThan, Comma, Semicolon, Colon, Lexeme, Sym, of, atomWord, quotedWord, Phrase, one, more, Nodes, first, next, comma, AddressList, idle, full, mailbox, angle, group, quoted, typed}
 use Rattle.grammar.proofs.Rfc733.Trees.{wordSymbol, phraseThen, nodesThen, placeThen, listThen, addressThen, placeLawful, listLawful, addressLawful, placeLevels, listLevels, addressLevels}
 use Rattle.grammar.proofs.Readers.{endsAddress, AddressEnds}
 use Rattle.grammar.specs.Executable.Trees733 as trees
@@ -24,7 +24,7 @@ use Rattle.plain.specs.Believed.PlainText.{wordText, phraseText, nodesText, ato
 use Rattle.plain.specs.Ties.Walking.{gapText, gapBefore, afterAtom, afterComma, after, colonNext, symbolText}
 use Rattle.plain.specs.declared.places.Place.{Place}
 use Rattle.plain.specs.declared.places.Place.the-variants.{Start, Bare, BareComma, Named, Typing, Word, Node, Closed, Parted}
-use Rattle.plain.proofs.TreeMeanings.{wordMeaning, phraseMeaning, nameMeaning, nodesMeaning, placeMeaning, listMeaning, addressMeaning, typedMeaning, of-typed, atom-group}
+use Rattle.plain.proofs.TreeMeanings.{wordMeaning, phraseMeaning, nameMeaning, nodesMeaning, placeMeaning, listMeaning, addressMeaning, of-typed, atom-group}
 use Rattle.plain.proofs.Walks.{space-behind, no-colon-nodes, Begin, plainly, barely, namely, front, spot, comma-spot, Opens, spot-opens, joint, front-named, front-bare, front-plain}
 use Rattle.expansion.specs.Believed.Store.{leadsTo, onlyMailboxes, isMailbox}
 use Rattle.expansion.specs.Believed.Expansion.{Expansion, stopped, reached, andThen, Opening, expandInclude}
@@ -82,7 +82,7 @@ opens-true Node h = absurd h
 opens-true Closed h = absurd h
 opens-true Parted h = refl
 
--- behind a nameless ":" with no comma and no address, no atom and ":" stand
+-- after a nameless ":" with no comma and no address, no atom and ":" stand
 abbrev pub Clear : Begin → Addresses → Bool → Bool → Type 0
 Clear plainly m c x = Unit {0}
 Clear namely m c x = Unit {0}
@@ -299,7 +299,7 @@ module _ (store : List ℕ) (opening : WalkOpening) (placeOf : ℕ → ℕ) (bas
 
   -- ---- lists and addresses
 
-  -- what is left to walk behind addresses of a list
+  -- what is left to walk after addresses of a list
   abbrev pub After : Begin → List Bool → List Sym → (Place → ℕ → Trail) → Addresses → ℕ → Trail
   After b s xs k m v = before (listed b m) (W (spot b m true) s xs v k)
 
@@ -319,7 +319,7 @@ module _ (store : List ℕ) (opening : WalkOpening) (placeOf : ℕ → ℕ) (bas
       ∙ finish b m c a g q h (W place s xs v k)
       ∙ ap (before (listed b (andAddress m a))) (joins-place xs j place Parted z s v k)
 
-  -- an enclosed list: before its members, behind them, and the address that they make
+  -- an enclosed list: before its members, after them, and the address that they make
   record Enclosure (b : Begin) (m : Addresses) (c : Bool) : Type 0 where
     begin : Begin
     group-named : Bool
@@ -342,7 +342,7 @@ module _ (store : List ℕ) (opening : WalkOpening) (placeOf : ℕ → ℕ) (bas
       ∙ ap (before (listed b m)) (twice (q .opening-text) (λ r. listed (q .begin) l (q .closing-text r)) (W Closed s xs v k))
       ∙ wrap b m c (q .made l) (q .group-named) (q .is-named l) (q .clear) _ (q .text l) xs j Closed refl s v k)
 
-  -- behind a list that stands in no typed address
+  -- after a list that stands in no typed address
   untyped : (s : List Bool) → inTyped s ≡ false → withoutTyped s ≡ s
   untyped [] e = refl
   untyped (true ∷ s) e = absurd (let o : _≡_ {A = ℕ} 0 1 = cc in omega arith)

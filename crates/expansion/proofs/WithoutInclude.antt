@@ -15,7 +15,7 @@ use Rattle.expansion.specs.Believed.Expansion.{reached, andThen, Opening
 use Rattle.expansion.specs.Believed.Promises.{NoInclude, NotInclude}
 use Rattle.expansion.proofs.TreeExpansion.{placeExpansion, listExpansion, addressExpansion, row-expansion}
 
--- addresses behind others
+-- addresses after others
 abbrev pub andAll : Addresses → Addresses → Addresses
 andAll before noAddress = before
 andAll before (andAddress m a) = andAddress (andAll before m) a

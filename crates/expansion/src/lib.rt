@@ -599,8 +599,7 @@ fn walk(
     let mut coming = scanner::next_by(classes, text, start);
     loop {
         let Next::Found(class, first, end) = coming else {
-            let openings = here.openings;
-            return Walked::Went(joined(here, openings));
+            return Walked::Went(joined(here, here.openings));
         };
         let place = here.place;
         match include_at(classes, text, class, place, end) {

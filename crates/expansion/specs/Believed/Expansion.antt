@@ -29,7 +29,7 @@ andThen (stopped n p openings) next = stopped n p openings
 andThen (reached addresses openings) next = next addresses openings
 
 -- the opening of a record, in place of an Include of the body that stands at a position, with so many levels open around it,
--- behind these addresses of its list and after so many openings
+-- after these addresses of its list and after so many openings
 abbrev pub Opening : Type 0
 Opening = ℕ → ℕ → ℕ → Addresses → ℕ → Expansion
 
