@@ -1,5 +1,5 @@
 -- The examples of the request, from bytes to answer and records, in one table with one statement over its rows. Assumes nothing.
-use Prim.Native.Nat.{ℕ}
+use Prim.Native.Nat.{ℕ, _*_}
 use mathlib.Core.Path.{_≡_, refl}
 use mathlib.Core.Bool.{Bool, true}
 use mathlib.Core.List.{List, [], _∷_, _++_}
@@ -8,6 +8,7 @@ use lib.ListN.{length, replicate}
 use lib.Seq.{sets}
 use Rattle.octets.specs.Believed.Choice.{both}
 use Rattle.octets.specs.Believed.Classes.{classOf, classTable, classOf822, classTable822}
+use Rattle.octets.specs.Believed.Numbers.{addressRecordSize}
 use Rattle.octets.specs.Believed.Letters.{lower, same, sameBytes}
 use Rattle.octets.specs.Believed.Text.{bytes}
 use Rattle.octets.specs.Believed.Answers.{numberOf, positionOf, countOf}
@@ -27,7 +28,7 @@ record Row : Type 0 where
   records : List AddressRecord
 
 abbrev lent : List ℕ
-lent = replicate 48 170
+lent = replicate (4 * addressRecordSize) 170
 
 abbrev right : Row → Bool
 right r =

@@ -15,7 +15,7 @@ use Rattle.grammar.specs.Executable.Machines.{Result, ended, stopped, after, Ar
 use Rattle.grammar.proofs.Rfc733.TreeRecords.{wordLexeme, phraseStart, phraseEnd}
 use Rattle.grammar.specs.Executable.Trees822.{Class, Atom, Quoted, At, LessThan, GreaterThan, Comma, Semicolon, Colon, Stray, Dot, Literal, Lexeme, Sym, of, Phrase, Sub, atomSub, literalSub, Domain, oneSub, moreSub, Local, oneWord, moreWord, Spec, spec, Mailbox, bare, angle, routed, Place, empty, comma, Listed, idle, full, Address, box, group}
 use Rattle.grammar.specs.Executable.Machine822.{Here, inList, inGroup, Open, less, In, bareIn, angleIn, routeIn, Hop, firstAt, nextAt, Behind, ofSpec, ofHop, State, place, word, phrase, local, localDot, at, domain, domainDot, opened, hop, route, boxed, closed, arrows, run}
-use Rattle.editions.specs.Ties.Places.{Walked, walkedBy, oneIf, closeLast, stepFrom, WalkEnd, ends, stops, walkFrom}
+use Rattle.editions.specs.Ties.Places.{Walked, walkedBy, oneIf, parentOf, closeRecord, stepFrom, WalkEnd, ends, stops, walkFrom}
 
 -- ---- what the numbers are in each state of the machine
 
@@ -42,7 +42,7 @@ specRecord l e depth parent = recordBy 1 depth parent (localStart l) e (localSta
 abbrev pub namedRecord : ℕ → Phrase → ℕ → ℕ → ℕ → AddressRecord
 namedRecord kind p e depth parent = recordBy kind depth parent (phraseStart p) e (phraseStart p) (phraseEnd p)
 
--- the records of a tree behind others
+-- the records of a tree after others
 abbrev pub addSpec : Spec → ℕ → ℕ → List AddressRecord → List AddressRecord
 addSpec (spec l t m) depth parent rs = rs ++ (specRecord l (endOfDomain m) depth parent ∷ [])
 
@@ -109,7 +109,7 @@ inRecords (routeIn o r) l e = openRecords o ++ (specRecord l e (suc (depthHere (
 -- the numbers, where the two that do not matter are `a` and `b`
 abbrev walkedPlace : Here → ℕ → ℕ → Walked
 walkedPlace (inList r) a b = walkedBy 0 a b 0 0 (placed r)
-walkedPlace (inGroup r p t empty) a b = walkedBy 23 a b (suc (length (placed r))) 0 (opensGroup p (t .end) (placed r))
+walkedPlace (inGroup r p t empty) a b = walkedBy 17 a b (suc (length (placed r))) 0 (opensGroup p (t .end) (placed r))
 walkedPlace (inGroup r p t (comma l u)) a b = walkedBy 0 a b (suc (length (placed r))) 0 (hereRecords (inGroup r p t (comma l u)))
 
 abbrev walkedLocal : In → Local → Walked
@@ -143,7 +143,7 @@ walkedIn (local c l) a b = walkedLocal c l
 walkedIn (localDot c l t) a b = walkedDot c l
 walkedIn (at d) a b = walkedBehind 5 11 15 d (λ t. t .end) a b
 walkedIn (domain d m) a b = walkedBehind 6 12 16 d (λ t. endOfDomain m) a b
-walkedIn (domainDot d m t) a b = walkedBehind 7 13 17 d (λ u. endOfDomain m) a b
+walkedIn (domainDot d m t) a b = walkedBehind 7 13 15 d (λ u. endOfDomain m) a b
 walkedIn (opened o) a b = walkedBy 8 a b (groupNumber (hereOf o)) (angleNumber o) (openRecords o)
 walkedIn (hop o f) a b = walkedBy (hopPlace f) a b (groupNumber (hereOf o)) (angleNumber o) (openRecords o)
 walkedIn (route o r) a b = walkedBy 19 a b (groupNumber (hereOf o)) (angleNumber o) (openRecords o)
@@ -166,9 +166,9 @@ set-at : (xs : List AddressRecord) (r : AddressRecord) (e : ℕ) → setEnd (len
 set-at [] r e = refl
 set-at (x ∷ xs) r e = ap (λ rs. x ∷ rs) (set-at xs r e)
 
-last-step : (c₀ c a b g x : ℕ) (xs : List AddressRecord) (r : AddressRecord) (t : Lexeme)
-    → closeLast (length (xs ++ (r ∷ []))) c (walkedBy c₀ a b g x (xs ++ (r ∷ []))) t ≡ some (walkedBy c a b g x (xs ++ (withEnd r (t .end) ∷ [])))
-last-step c₀ c a b g x xs r t =
+last-step : {c a b g x : ℕ} (c₀ : ℕ) (xs : List AddressRecord) (r : AddressRecord) (t : Lexeme)
+    → closeRecord (length (xs ++ (r ∷ []))) g x c (walkedBy c₀ a b g x (xs ++ (r ∷ []))) t ≡ some (walkedBy c a b g x (xs ++ (withEnd r (t .end) ∷ [])))
+last-step {c} {a} {b} {g} {x} c₀ xs r t =
     let n : length (xs ++ (r ∷ [])) ≡ suc (length xs) = omega (arith, length-append xs (r ∷ [])) in
     rw n (ap (λ rs. some (walkedBy c a b g x rs)) (set-at xs r (t .end)))
 
@@ -235,55 +235,46 @@ abbrev Follows : State → List (Arrow Class State) → Type 0
 Follows s [] = Unit {0}
 Follows s (x ∷ others) = Goes s (x .class) (x .to) × Follows s others
 
+-- "@" begins the mailbox's record, at the depth of its place
+at-depth : (c g x : ℕ) (rs : List AddressRecord) (l : Local) (t : Lexeme) {depth : ℕ} → oneIf g + oneIf x ≡ depth
+    → some (walkedBy c (localStart l) (localEnd l) g x (rs ++ (specRecord l (t .end) (oneIf g + oneIf x) (parentOf g x) ∷ []))) ≡ some (walkedBy c (localStart l) (localEnd l) g x (rs ++ (specRecord l (t .end) depth (parentOf g x) ∷ [])))
+at-depth c g x rs l t e = rw e
+
 follows : (s : State) → Follows s (arrows s)
 follows (place (inList r)) = (λ t a b. (0, 0, refl), (λ t a b. (0, 0, refl), (λ t a b. (a, b, refl), tt)))
 follows (place (inGroup r p c empty)) = (λ t a b. (0, 0, refl), (λ t a b. (0, 0, refl), (λ t a b. (a, b, refl), (λ t a b. (a, b, ap (λ rs. some (walkedBy 21 a b 0 0 rs)) (group-ends r p c (idle empty) t)), tt))))
 follows (place (inGroup r p c (comma v o))) = (λ t a b. (0, 0, refl), (λ t a b. (0, 0, refl), (λ t a b. (a, b, refl), (λ t a b. (a, b, ap (λ rs. some (walkedBy 21 a b 0 0 rs)) (group-ends r p c (idle (comma v o)) t)), tt))))
 follows (word (inList r) w) = (λ t a b. (0, 0, refl), (λ t a b. (0, 0, refl), (λ t a b. (0, 0, refl), (λ t a b. (wordLexeme w .start, wordLexeme w .end, refl), (λ t a b. (wordLexeme w .start, wordLexeme w .end, refl), (λ t a b. (wordLexeme w .start, wordLexeme w .end, refl), tt))))))
-follows (word (inGroup r p c empty) w) = (λ t a b. (0, 0, refl), (λ t a b. (0, 0, refl), (λ t a b. (0, 0, refl), (λ t a b. (wordLexeme w .start, wordLexeme w .end, refl), (λ t a b. (wordLexeme w .start, wordLexeme w .end, refl), tt)))))
-follows (word (inGroup r p c (comma v o)) w) = (λ t a b. (0, 0, refl), (λ t a b. (0, 0, refl), (λ t a b. (0, 0, refl), (λ t a b. (wordLexeme w .start, wordLexeme w .end, refl), (λ t a b. (wordLexeme w .start, wordLexeme w .end, refl), tt)))))
+follows (word (inGroup r p c s) w) = (λ t a b. (0, 0, refl), (λ t a b. (0, 0, refl), (λ t a b. (0, 0, refl), (λ t a b. (wordLexeme w .start, wordLexeme w .end, refl), (λ t a b. (wordLexeme w .start, wordLexeme w .end, refl), tt)))))
 follows (phrase (inList r) q) = (λ t a b. (0, 0, refl), (λ t a b. (0, 0, refl), (λ t a b. (phraseStart q, phraseEnd q, refl), (λ t a b. (phraseStart q, phraseEnd q, refl), tt))))
-follows (phrase (inGroup r p c empty) q) = (λ t a b. (0, 0, refl), (λ t a b. (0, 0, refl), (λ t a b. (phraseStart q, phraseEnd q, refl), tt)))
-follows (phrase (inGroup r p c (comma v o)) q) = (λ t a b. (0, 0, refl), (λ t a b. (0, 0, refl), (λ t a b. (phraseStart q, phraseEnd q, refl), tt)))
-follows (local (bareIn (inList r)) l) = (λ t a b. (0, 0, refl), (λ t a b. (localStart l, localEnd l, refl), tt))
-follows (local (bareIn (inGroup r p c empty)) l) = (λ t a b. (0, 0, refl), (λ t a b. (localStart l, localEnd l, refl), tt))
-follows (local (bareIn (inGroup r p c (comma v o))) l) = (λ t a b. (0, 0, refl), (λ t a b. (localStart l, localEnd l, refl), tt))
-follows (local (angleIn (less (inList r) q u)) (oneWord w)) = (λ t a b. (0, 0, refl), (λ t a b. (wordLexeme w .start, wordLexeme w .end, refl), tt))
-follows (local (angleIn (less (inList r) q u)) (moreWord l i w)) = (λ t a b. (0, 0, refl), (λ t a b. (localStart l, wordLexeme w .end, refl), tt))
-follows (local (angleIn (less (inGroup r p c empty) q u)) (oneWord w)) = (λ t a b. (0, 0, refl), (λ t a b. (wordLexeme w .start, wordLexeme w .end, refl), tt))
-follows (local (angleIn (less (inGroup r p c empty) q u)) (moreWord l i w)) = (λ t a b. (0, 0, refl), (λ t a b. (localStart l, wordLexeme w .end, refl), tt))
-follows (local (angleIn (less (inGroup r p c (comma v o)) q u)) (oneWord w)) = (λ t a b. (0, 0, refl), (λ t a b. (wordLexeme w .start, wordLexeme w .end, refl), tt))
-follows (local (angleIn (less (inGroup r p c (comma v o)) q u)) (moreWord l i w)) = (λ t a b. (0, 0, refl), (λ t a b. (localStart l, wordLexeme w .end, refl), tt))
-follows (local (routeIn (less (inList r) q u) y) (oneWord w)) = (λ t a b. (0, 0, refl), (λ t a b. (wordLexeme w .start, wordLexeme w .end, refl), tt))
-follows (local (routeIn (less (inList r) q u) y) (moreWord l i w)) = (λ t a b. (0, 0, refl), (λ t a b. (localStart l, wordLexeme w .end, refl), tt))
-follows (local (routeIn (less (inGroup r p c empty) q u) y) (oneWord w)) = (λ t a b. (0, 0, refl), (λ t a b. (wordLexeme w .start, wordLexeme w .end, refl), tt))
-follows (local (routeIn (less (inGroup r p c empty) q u) y) (moreWord l i w)) = (λ t a b. (0, 0, refl), (λ t a b. (localStart l, wordLexeme w .end, refl), tt))
-follows (local (routeIn (less (inGroup r p c (comma v o)) q u) y) (oneWord w)) = (λ t a b. (0, 0, refl), (λ t a b. (wordLexeme w .start, wordLexeme w .end, refl), tt))
-follows (local (routeIn (less (inGroup r p c (comma v o)) q u) y) (moreWord l i w)) = (λ t a b. (0, 0, refl), (λ t a b. (localStart l, wordLexeme w .end, refl), tt))
+follows (phrase (inGroup r p c s) q) = (λ t a b. (0, 0, refl), (λ t a b. (0, 0, refl), (λ t a b. (phraseStart q, phraseEnd q, refl), tt)))
+follows (local (bareIn h) l) = (λ t a b. (0, 0, refl), (λ t a b. (localStart l, localEnd l, at-depth 5 (groupNumber h) 0 (hereRecords h) l t (omega arith)), tt))
+follows (local (angleIn o) (oneWord w)) = (λ t a b. (0, 0, refl), (λ t a b. (wordLexeme w .start, wordLexeme w .end, at-depth 11 (groupNumber (hereOf o)) (angleNumber o) (openRecords o) (oneWord w) t (omega arith)), tt))
+follows (local (angleIn o) (moreWord l i w)) = (λ t a b. (0, 0, refl), (λ t a b. (localStart l, wordLexeme w .end, at-depth 11 (groupNumber (hereOf o)) (angleNumber o) (openRecords o) (moreWord l i w) t (omega arith)), tt))
+follows (local (routeIn o y) (oneWord w)) = (λ t a b. (0, 0, refl), (λ t a b. (wordLexeme w .start, wordLexeme w .end, at-depth 11 (groupNumber (hereOf o)) (angleNumber o) (openRecords o) (oneWord w) t (omega arith)), tt))
+follows (local (routeIn o y) (moreWord l i w)) = (λ t a b. (0, 0, refl), (λ t a b. (localStart l, wordLexeme w .end, at-depth 11 (groupNumber (hereOf o)) (angleNumber o) (openRecords o) (moreWord l i w) t (omega arith)), tt))
 follows (localDot (bareIn h) l i) = (λ t a b. (0, 0, refl), (λ t a b. (0, 0, refl), tt))
 follows (localDot (angleIn o) l i) = (λ t a b. (0, 0, refl), (λ t a b. (0, 0, refl), tt))
 follows (localDot (routeIn o r) l i) = (λ t a b. (0, 0, refl), (λ t a b. (0, 0, refl), tt))
-follows (at (ofSpec (bareIn h) l i)) = (λ t a b. (a, b, last-step 5 6 a b (groupNumber h) (0) (hereRecords h) (specRecord l (i .end) (depthHere h) (groupNumber h)) t), (λ t a b. (a, b, last-step 5 6 a b (groupNumber h) (0) (hereRecords h) (specRecord l (i .end) (depthHere h) (groupNumber h)) t), tt))
-follows (at (ofSpec (angleIn o) l i)) = (λ t a b. (a, b, last-step 11 12 a b (groupNumber (hereOf o)) (angleNumber o) (openRecords o) (specRecord l (i .end) (suc (depthHere (hereOf o))) (angleNumber o)) t), (λ t a b. (a, b, last-step 11 12 a b (groupNumber (hereOf o)) (angleNumber o) (openRecords o) (specRecord l (i .end) (suc (depthHere (hereOf o))) (angleNumber o)) t), tt))
-follows (at (ofSpec (routeIn o r) l i)) = (λ t a b. (a, b, last-step 11 12 a b (groupNumber (hereOf o)) (angleNumber o) (openRecords o) (specRecord l (i .end) (suc (depthHere (hereOf o))) (angleNumber o)) t), (λ t a b. (a, b, last-step 11 12 a b (groupNumber (hereOf o)) (angleNumber o) (openRecords o) (specRecord l (i .end) (suc (depthHere (hereOf o))) (angleNumber o)) t), tt))
+follows (at (ofSpec (bareIn h) l i)) = (λ t a b. (a, b, last-step 5 (hereRecords h) (specRecord l (i .end) (depthHere h) (groupNumber h)) t), (λ t a b. (a, b, last-step 5 (hereRecords h) (specRecord l (i .end) (depthHere h) (groupNumber h)) t), tt))
+follows (at (ofSpec (angleIn o) l i)) = (λ t a b. (a, b, last-step 11 (openRecords o) (specRecord l (i .end) (suc (depthHere (hereOf o))) (angleNumber o)) t), (λ t a b. (a, b, last-step 11 (openRecords o) (specRecord l (i .end) (suc (depthHere (hereOf o))) (angleNumber o)) t), tt))
+follows (at (ofSpec (routeIn o r) l i)) = (λ t a b. (a, b, last-step 11 (openRecords o) (specRecord l (i .end) (suc (depthHere (hereOf o))) (angleNumber o)) t), (λ t a b. (a, b, last-step 11 (openRecords o) (specRecord l (i .end) (suc (depthHere (hereOf o))) (angleNumber o)) t), tt))
 follows (at (ofHop o f i)) = (λ t a b. (a, b, refl), (λ t a b. (a, b, refl), tt))
 follows (domain (ofSpec (bareIn (inList r)) l i) m) = (λ t a b. (a, b, refl), (λ t a b. (a, b, refl), tt))
-follows (domain (ofSpec (bareIn (inGroup r p c empty)) l i) m) = (λ t a b. (a, b, refl), (λ t a b. (a, b, refl), (λ t a b. (a, b, ap (λ rs. some (walkedBy 21 a b 0 0 rs)) (group-ends r p c (full (empty) (bare (spec l i m))) t)), tt)))
-follows (domain (ofSpec (bareIn (inGroup r p c (comma v o))) l i) m) = (λ t a b. (a, b, refl), (λ t a b. (a, b, refl), (λ t a b. (a, b, ap (λ rs. some (walkedBy 21 a b 0 0 rs)) (group-ends r p c (full (comma v o) (bare (spec l i m))) t)), tt)))
+follows (domain (ofSpec (bareIn (inGroup r p c s)) l i) m) = (λ t a b. (a, b, refl), (λ t a b. (a, b, refl), (λ t a b. (a, b, ap (λ rs. some (walkedBy 21 a b 0 0 rs)) (group-ends r p c (full s (bare (spec l i m))) t)), tt)))
 follows (domain (ofSpec (angleIn (less h q u)) l i) m) = (λ t a b. (a, b, refl), (λ t a b. (a, b, ap (λ rs. some (walkedBy 20 a b (groupNumber h) 0 rs)) (box-ends (hereRecords h) (namedRecord 2 q (u .end) (depthHere h) (groupNumber h)) (specRecord l (endOfDomain m) (suc (depthHere h)) (suc (length (hereRecords h)))) (t .end))), tt))
 follows (domain (ofSpec (routeIn (less h q u) y) l i) m) = (λ t a b. (a, b, refl), (λ t a b. (a, b, ap (λ rs. some (walkedBy 20 a b (groupNumber h) 0 rs)) (box-ends (hereRecords h) (namedRecord 2 q (u .end) (depthHere h) (groupNumber h)) (specRecord l (endOfDomain m) (suc (depthHere h)) (suc (length (hereRecords h)))) (t .end))), tt))
 follows (domain (ofHop o f i) m) = (λ t a b. (a, b, refl), (λ t a b. (a, b, refl), (λ t a b. (a, b, refl), tt)))
-follows (domainDot (ofSpec (bareIn h) l i) m j) = (λ t a b. (a, b, last-step 7 6 a b (groupNumber h) (0) (hereRecords h) (specRecord l (endOfDomain m) (depthHere h) (groupNumber h)) t), (λ t a b. (a, b, last-step 7 6 a b (groupNumber h) (0) (hereRecords h) (specRecord l (endOfDomain m) (depthHere h) (groupNumber h)) t), tt))
-follows (domainDot (ofSpec (angleIn o) l i) m j) = (λ t a b. (a, b, last-step 13 12 a b (groupNumber (hereOf o)) (angleNumber o) (openRecords o) (specRecord l (endOfDomain m) (suc (depthHere (hereOf o))) (angleNumber o)) t), (λ t a b. (a, b, last-step 13 12 a b (groupNumber (hereOf o)) (angleNumber o) (openRecords o) (specRecord l (endOfDomain m) (suc (depthHere (hereOf o))) (angleNumber o)) t), tt))
-follows (domainDot (ofSpec (routeIn o r) l i) m j) = (λ t a b. (a, b, last-step 13 12 a b (groupNumber (hereOf o)) (angleNumber o) (openRecords o) (specRecord l (endOfDomain m) (suc (depthHere (hereOf o))) (angleNumber o)) t), (λ t a b. (a, b, last-step 13 12 a b (groupNumber (hereOf o)) (angleNumber o) (openRecords o) (specRecord l (endOfDomain m) (suc (depthHere (hereOf o))) (angleNumber o)) t), tt))
+follows (domainDot (ofSpec (bareIn h) l i) m j) = (λ t a b. (a, b, last-step 7 (hereRecords h) (specRecord l (endOfDomain m) (depthHere h) (groupNumber h)) t), (λ t a b. (a, b, last-step 7 (hereRecords h) (specRecord l (endOfDomain m) (depthHere h) (groupNumber h)) t), tt))
+follows (domainDot (ofSpec (angleIn o) l i) m j) = (λ t a b. (a, b, last-step 13 (openRecords o) (specRecord l (endOfDomain m) (suc (depthHere (hereOf o))) (angleNumber o)) t), (λ t a b. (a, b, last-step 13 (openRecords o) (specRecord l (endOfDomain m) (suc (depthHere (hereOf o))) (angleNumber o)) t), tt))
+follows (domainDot (ofSpec (routeIn o r) l i) m j) = (λ t a b. (a, b, last-step 13 (openRecords o) (specRecord l (endOfDomain m) (suc (depthHere (hereOf o))) (angleNumber o)) t), (λ t a b. (a, b, last-step 13 (openRecords o) (specRecord l (endOfDomain m) (suc (depthHere (hereOf o))) (angleNumber o)) t), tt))
 follows (domainDot (ofHop o f i) m j) = (λ t a b. (a, b, refl), (λ t a b. (a, b, refl), tt))
 follows (opened o) = (λ t a b. (0, 0, refl), (λ t a b. (0, 0, refl), (λ t a b. (a, b, refl), (λ t a b. (a, b, refl), tt))))
 follows (hop o (firstAt g)) = (λ t a b. (a, b, refl), (λ t a b. (a, b, refl), tt))
 follows (hop o (nextAt h u g)) = (λ t a b. (a, b, refl), (λ t a b. (a, b, refl), (λ t a b. (a, b, refl), tt)))
 follows (route o r) = (λ t a b. (0, 0, refl), (λ t a b. (0, 0, refl), tt))
 follows (boxed (inList r) m) = (λ t a b. (a, b, refl), tt)
-follows (boxed (inGroup r p c empty) m) = (λ t a b. (a, b, refl), (λ t a b. (a, b, ap (λ rs. some (walkedBy 21 a b 0 0 rs)) (group-ends r p c (full (empty) m) t)), tt))
-follows (boxed (inGroup r p c (comma v o)) m) = (λ t a b. (a, b, refl), (λ t a b. (a, b, ap (λ rs. some (walkedBy 21 a b 0 0 rs)) (group-ends r p c (full (comma v o) m) t)), tt))
+follows (boxed (inGroup r p c s) m) = (λ t a b. (a, b, refl), (λ t a b. (a, b, ap (λ rs. some (walkedBy 21 a b 0 0 rs)) (group-ends r p c (full s m) t)), tt))
 follows (closed r x) = (λ t a b. (a, b, refl), tt)
 
 -- ---- where no arrow goes on the loop stops
@@ -302,14 +293,10 @@ quiet (place (inList r)) a b t = (tt, tt, refl, refl, refl, tt, refl, refl, refl
 quiet (place (inGroup r p c empty)) a b t = (tt, tt, refl, refl, refl, tt, tt, refl, refl, refl, refl)
 quiet (place (inGroup r p c (comma v o))) a b t = (tt, tt, refl, refl, refl, tt, tt, refl, refl, refl, refl)
 quiet (word (inList r) w) a b t = (tt, tt, tt, tt, refl, refl, refl, tt, refl, tt, refl)
-quiet (word (inGroup r p c empty) w) a b t = (tt, tt, tt, tt, refl, refl, refl, refl, refl, tt, refl)
-quiet (word (inGroup r p c (comma v o)) w) a b t = (tt, tt, tt, tt, refl, refl, refl, refl, refl, tt, refl)
+quiet (word (inGroup r p c s) w) a b t = (tt, tt, tt, tt, refl, refl, refl, refl, refl, tt, refl)
 quiet (phrase (inList r) q) a b t = (tt, tt, refl, tt, refl, refl, refl, tt, refl, refl, refl)
-quiet (phrase (inGroup r p c empty) q) a b t = (tt, tt, refl, tt, refl, refl, refl, refl, refl, refl, refl)
-quiet (phrase (inGroup r p c (comma v o)) q) a b t = (tt, tt, refl, tt, refl, refl, refl, refl, refl, refl, refl)
-quiet (local (bareIn (inList r)) l) a b t = (refl, refl, tt, refl, refl, refl, refl, refl, refl, tt, refl)
-quiet (local (bareIn (inGroup r p c empty)) l) a b t = (refl, refl, tt, refl, refl, refl, refl, refl, refl, tt, refl)
-quiet (local (bareIn (inGroup r p c (comma v o))) l) a b t = (refl, refl, tt, refl, refl, refl, refl, refl, refl, tt, refl)
+quiet (phrase (inGroup r p c s) q) a b t = (tt, tt, refl, tt, refl, refl, refl, refl, refl, refl, refl)
+quiet (local (bareIn h) l) a b t = (refl, refl, tt, refl, refl, refl, refl, refl, refl, tt, refl)
 quiet (local (angleIn o) (oneWord w)) a b t = (refl, refl, tt, refl, refl, refl, refl, refl, refl, tt, refl)
 quiet (local (angleIn o) (moreWord l i w)) a b t = (refl, refl, tt, refl, refl, refl, refl, refl, refl, tt, refl)
 quiet (local (routeIn o r) (oneWord w)) a b t = (refl, refl, tt, refl, refl, refl, refl, refl, refl, tt, refl)
@@ -322,8 +309,7 @@ quiet (at (ofSpec (angleIn o) l i)) a b t = (tt, refl, refl, refl, refl, refl, r
 quiet (at (ofSpec (routeIn o r) l i)) a b t = (tt, refl, refl, refl, refl, refl, refl, refl, refl, refl, tt)
 quiet (at (ofHop o f i)) a b t = (tt, refl, refl, refl, refl, refl, refl, refl, refl, refl, tt)
 quiet (domain (ofSpec (bareIn (inList r)) l i) m) a b t = (refl, refl, refl, refl, refl, tt, refl, refl, refl, tt, refl)
-quiet (domain (ofSpec (bareIn (inGroup r p c empty)) l i) m) a b t = (refl, refl, refl, refl, refl, tt, tt, refl, refl, tt, refl)
-quiet (domain (ofSpec (bareIn (inGroup r p c (comma v o))) l i) m) a b t = (refl, refl, refl, refl, refl, tt, tt, refl, refl, tt, refl)
+quiet (domain (ofSpec (bareIn (inGroup r p c s)) l i) m) a b t = (refl, refl, refl, refl, refl, tt, tt, refl, refl, tt, refl)
 quiet (domain (ofSpec (angleIn o) l i) m) a b t = (refl, refl, refl, refl, tt, refl, refl, refl, refl, tt, refl)
 quiet (domain (ofSpec (routeIn o r) l i) m) a b t = (refl, refl, refl, refl, tt, refl, refl, refl, refl, tt, refl)
 quiet (domain (ofHop o f i) m) a b t = (refl, refl, refl, refl, refl, tt, refl, tt, refl, tt, refl)
@@ -336,8 +322,7 @@ quiet (hop o (firstAt g)) a b t = (refl, refl, tt, refl, refl, tt, refl, refl, r
 quiet (hop o (nextAt h u g)) a b t = (refl, refl, tt, refl, refl, tt, refl, tt, refl, refl, refl)
 quiet (route o r) a b t = (tt, tt, refl, refl, refl, refl, refl, refl, refl, refl, refl)
 quiet (boxed (inList r) m) a b t = (refl, refl, refl, refl, refl, tt, refl, refl, refl, refl, refl)
-quiet (boxed (inGroup r p c empty) m) a b t = (refl, refl, refl, refl, refl, tt, tt, refl, refl, refl, refl)
-quiet (boxed (inGroup r p c (comma v o)) m) a b t = (refl, refl, refl, refl, refl, tt, tt, refl, refl, refl, refl)
+quiet (boxed (inGroup r p c s) m) a b t = (refl, refl, refl, refl, refl, tt, tt, refl, refl, refl, refl)
 quiet (closed r x) a b t = (refl, refl, refl, refl, refl, tt, refl, refl, refl, refl, refl)
 
 quiet-at : (s : State) (a b : ℕ) (t : Lexeme) (c : Class) → QuietAt s a b t c

@@ -10,7 +10,7 @@ use Rattle.octets.proofs.Tables.{at}
 use Rattle.scanner.specs.declared.Class.{Class}
 use Rattle.grammar.specs.Believed.Rfc733.{classNumber}
 use Rattle.editions.specs.Ties.Places.{Row, Effect, nothing, firstWord, furtherWord, mailboxRecord, mailboxEnd, angleRecord, angleEnd, groupRecord, groupEnd, refuse, no, rows, rowAt, nextPlace, effectOf, endsAt, effectNumber, cells, placeCount, columns, placeTable, noGroup, oneIf, parentOf}
-use Rattle.editions.specs.Ties.Walks.{effectFrom}
+use Rattle.editions.specs.Ties.Walks.{effects, effectFrom}
 
 -- the number at an index, by the rows
 abbrev cellAt : ℕ → ℕ
@@ -28,7 +28,7 @@ column-at place j h l =
     let q : (place * columns + j) % columns ≡ j = omega arith in
     rule (place * columns + j) (omega arith) ∙ rw (p, q)
 
--- behind the effect and the end stand the next places
+-- after the effect and the end stand the next places
 cell-at : (r : Row) (n : ℕ) → getD (cells r) (n + 2) no ≡ getD (r .next) n no
 cell-at r n = let k : n + 2 ≡ suc (suc n) = omega arith in ap (λ (i : ℕ). getD (cells r) i no) k
 
@@ -54,18 +54,15 @@ effect-in place h = ap effectFrom (column-at place 0 h (omega arith)) ∙ effect
 pub effect-out : (place : ℕ) → placeCount ≤ place → refuse ≡ effectOf place
 effect-out place h = ap (λ r. r .effect) (sym (List·getD-eq-default rows _ h))
 
+least : (r : ℕ) → 0 ≤ r
+least r = omega arith
+
+past : {n r : ℕ} → n ≤ r → (r ≡ n → ⊥) → suc n ≤ r
+past h f = omega arith
+
 -- what is none of the first nine
 pub left-over : (r : ℕ) → (r ≡ 0 → ⊥) → (r ≡ 1 → ⊥) → (r ≡ 2 → ⊥) → (r ≡ 3 → ⊥) → (r ≡ 4 → ⊥) → (r ≡ 5 → ⊥) → (r ≡ 6 → ⊥) → (r ≡ 7 → ⊥) → (r ≡ 8 → ⊥) → effectFrom r ≡ refuse
-left-over zero a b c d e f g h i = absurd (a refl)
-left-over (suc zero) a b c d e f g h i = absurd (b refl)
-left-over (suc (suc zero)) a b c d e f g h i = absurd (c refl)
-left-over (suc (suc (suc zero))) a b c d e f g h i = absurd (d refl)
-left-over (suc (suc (suc (suc zero)))) a b c d e f g h i = absurd (e refl)
-left-over (suc (suc (suc (suc (suc zero))))) a b c d e f g h i = absurd (f refl)
-left-over (suc (suc (suc (suc (suc (suc zero)))))) a b c d e f g h i = absurd (g refl)
-left-over (suc (suc (suc (suc (suc (suc (suc zero))))))) a b c d e f g h i = absurd (h refl)
-left-over (suc (suc (suc (suc (suc (suc (suc (suc zero)))))))) a b c d e f g h i = absurd (i refl)
-left-over (suc (suc (suc (suc (suc (suc (suc (suc (suc r))))))))) a b c d e f g h i = refl
+left-over r a b c d e f g h i = List·getD-eq-default effects refuse (past (past (past (past (past (past (past (past (past (least r) a) b) c) d) e) f) g) h) i)
 
 -- ---- whether a list may end
 

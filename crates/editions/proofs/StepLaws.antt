@@ -3,7 +3,7 @@ use Prim.Native.Nat.{ℕ, zero, suc, _+_, _-_, _*_, _≤_, _<_}
 use native.Mathlib.Omega.{arith}
 use mathlib.Core.Path.{_≡_, refl, sym, ap, _∙_}
 use mathlib.Core.List.{List, [], _∷_, _++_}
-use mathlib.Core.Option.{none, some}
+use mathlib.Core.Option.{Option, none, some}
 use lib.ListN.{length, length-append}
 use lib.Seq.{sets}
 use Rattle.octets.specs.Believed.Numbers.{addressRecordSize, numberWidth}
@@ -12,14 +12,14 @@ use Rattle.scanner.specs.Believed.Symbols.{Lexeme}
 use Rattle.scanner.specs.declared.Class.{Class}
 use Rattle.grammar.specs.Believed.Records.{AddressRecord, setEnd, recordBytes, endOffset}
 use Rattle.grammar.proofs.RecordLaws.{end-stored, record-behind}
-use Rattle.editions.specs.Ties.Places.{Walked, walkedBy, placeCount, nextPlace, effectOf, effect, stepFrom, closeLast, closeAngle, closeGroup, openGroup, newRecord}
+use Rattle.editions.specs.Ties.Places.{Walked, walkedBy, placeCount, nextPlace, effectOf, refuse, effect, stepFrom, addRecord, closeRecord, openGroup}
 use Rattle.editions.specs.declared.Walk.{Walk}
 use Rattle.editions.specs.declared.Stepped.{Stepped}
 use Rattle.editions.specs.declared.Stepped.the-variants.{On, Off}
 use Rattle.editions.specs.Ties.Walks.{effectFrom, walkBy, walkedOf, Fine, Holds, newBy, CloseIs, symbolOf, Goes, Stops, StepIs}
 use Rattle.editions.proofs.Follows.{set-length}
 
-open-zero : (g c : ℕ) (f : Walked) (t : Lexeme) → g ≡ 0 → openGroup g c f t ≡ some (walkedBy c (f .start) (f .nameEnd) (suc (length (f .records))) (f .angle) (f .records ++ (newRecord 3 f t ∷ [])))
+open-zero : (g c : ℕ) (f : Walked) (t : Lexeme) → g ≡ 0 → openGroup g c f t ≡ some (addRecord 3 (suc (length (f .records))) (f .angle) c f t)
 open-zero zero c f t e = refl
 open-zero (suc g) c f t e = absurd (omega arith)
 
@@ -27,137 +27,110 @@ open-more : (g c : ℕ) (f : Walked) (t : Lexeme) → (g ≡ 0 → ⊥) → open
 open-more zero c f t e = absurd (e refl)
 open-more (suc g) c f t e = refl
 
-module _ (w : Walk) (class : Class) (start end next : ℕ) (nx : next ≡ nextPlace (w .place) class) where
-  -- the step by the effect with a number
-  known : (k : ℕ) → effectFrom k ≡ effectOf next → (rs : List AddressRecord) (m : List ℕ)
-      → stepFrom (walkedOf w rs) (symbolOf class start end m) ≡ effect (effectFrom k) next (walkedOf w rs) (symbolOf class start end m .lexeme)
-  known k e rs m = rw (← nx, ← e)
+-- a symbol leads to a place, and coming to it has the effect with this number
+pub record Leads (w : Walk) (class : Class) (next k : ℕ) : Type 0 where
+  pub fine : Fine w
+  pub next-is : next ≡ nextPlace (w .place) class
+  pub effect-is : effectFrom k ≡ effectOf next
+  pub low : k < 9 → next < placeCount
 
-  -- the record that begins
+module _ {w : Walk} {class : Class} {next k : ℕ} (x : Leads w class next k) (start end : ℕ) (table : List ℕ) where
+  abbrev lexeme : List ℕ → Lexeme
+  lexeme m = symbolOf class start end m .lexeme
+
+  -- what the effect with this number does, from the loop with these records
+  abbrev Does : ℕ → List AddressRecord → List ℕ → Option Walked → Type 0
+  Does n rs m o = effect (effectFrom n) next (walkedOf w rs) (lexeme m) ≡ o
+
+  known : (n : ℕ) → k ≡ n → (rs : List AddressRecord) (m : List ℕ) {o : Option Walked} → Does n rs m o → stepFrom (walkedOf w rs) (symbolOf class start end m) ≡ o
+  known n q rs m d = let e : effectFrom n ≡ effectOf next = rw q at (x .effect-is) in rw (← (x .next-is), ← e) d
+
+  -- ---- the records stay
+
+  pub keeps : (n a b : ℕ) → n < 9 → ((rs : List AddressRecord) (m : List ℕ) → Does n rs m (some (walkedBy next a b (w .group) (w .angle) rs)))
+      → k ≡ n → {v : Walk} → v ≡ walkBy next a b (w .group) (w .angle) (w .free) → Goes w class start end table table v
+  keeps n a b l d q e =
+      rw e
+      (record {
+        fine = record { place = x .low (omega arith); group = x .fine .group; angle = x .fine .angle };
+        few = omega arith;
+        steps = λ m rs lent h. (rs, record { counted = h .counted; stored = h .stored }, known n q rs m (d rs m));
+      })
+
+  -- ---- a record after the others
+
   abbrev new : ℕ → AddressRecord
   new kind = newBy kind (w .group) (w .angle) (w .name .start) (w .name .end) end
 
-  module _ (table : List ℕ) (f : Fine w) (l : next < placeCount) where
-    -- ---- the records stay
+  added : (kind : ℕ) {after : List ℕ} → after ≡ sets table (w .free * addressRecordSize) (recordBytes (new kind)) → (v : Walk) → v .free ≡ w .free + 1 → (rs : List AddressRecord) (lent : List ℕ) → Holds w rs lent table
+      → Holds v (rs ++ (new kind ∷ [])) lent after
+  added kind a v n rs lent h =
+      record {
+        counted = omega (arith, length-append rs (new kind ∷ []), h .counted, n);
+        stored = a ∙ rw (h .stored, ← (h .counted)) (record-behind lent rs (new kind));
+      }
 
-    pub goes-0 : {v : Walk} → effectFrom 0 ≡ effectOf next → v ≡ walkBy next (w .name .start) (w .name .end) (w .group) (w .angle) (w .free) → Goes w class start end table table v
-    goes-0 e q = rw q (record { fine = record { place = l; group = f .group; angle = f .angle }; few = omega arith; steps = λ m rs lent h. (rs, record { counted = h .counted; stored = h .stored }, known 0 e rs m) })
+  adds : (n kind group angle : ℕ) → n < 9 → group ≤ w .free + 1 → angle ≤ w .free + 1 → ((rs : List AddressRecord) (m : List ℕ) → length rs ≡ w .free → Does n rs m (some (addRecord kind group angle next (walkedOf w rs) (lexeme m))))
+      → k ≡ n → {after : List ℕ} {v : Walk} → after ≡ sets table (w .free * addressRecordSize) (recordBytes (new kind)) → v ≡ walkBy next (w .name .start) (w .name .end) group angle (w .free + 1) → Goes w class start end table after v
+  adds n kind group angle l f g d q a e =
+      rw e
+      (record {
+        fine = record { place = x .low (omega arith); group = f; angle = g };
+        few = omega arith;
+        steps = λ m rs lent h. (rs ++ (new kind ∷ []), added kind a (walkBy next (w .name .start) (w .name .end) group angle (w .free + 1)) refl rs lent h, known n q rs m (d rs m (h .counted)));
+      })
 
-    pub goes-1 : {v : Walk} → effectFrom 1 ≡ effectOf next → v ≡ walkBy next start end (w .group) (w .angle) (w .free) → Goes w class start end table table v
-    goes-1 e q = rw q (record { fine = record { place = l; group = f .group; angle = f .angle }; few = omega arith; steps = λ m rs lent h. (rs, record { counted = h .counted; stored = h .stored }, known 1 e rs m) })
+  pub adds-mailbox : k ≡ 3 → {after : List ℕ} {v : Walk} → after ≡ sets table (w .free * addressRecordSize) (recordBytes (new 1)) → v ≡ walkBy next (w .name .start) (w .name .end) (w .group) (w .angle) (w .free + 1) → Goes w class start end table after v
+  adds-mailbox q = adds 3 1 (w .group) (w .angle) (omega arith) (omega (arith, x .fine .group)) (omega (arith, x .fine .angle)) (λ rs m l. refl) q
 
-    pub goes-2 : {v : Walk} → effectFrom 2 ≡ effectOf next → v ≡ walkBy next (w .name .start) end (w .group) (w .angle) (w .free) → Goes w class start end table table v
-    goes-2 e q = rw q (record { fine = record { place = l; group = f .group; angle = f .angle }; few = omega arith; steps = λ m rs lent h. (rs, record { counted = h .counted; stored = h .stored }, known 2 e rs m) })
+  pub adds-angle : k ≡ 5 → {after : List ℕ} {v : Walk} → after ≡ sets table (w .free * addressRecordSize) (recordBytes (new 2)) → v ≡ walkBy next (w .name .start) (w .name .end) (w .group) (w .free + 1) (w .free + 1) → Goes w class start end table after v
+  adds-angle q = adds 5 2 (w .group) (w .free + 1) (omega arith) (omega (arith, x .fine .group)) (omega arith) (λ rs m l. ap (λ (i : ℕ). some (addRecord 2 (w .group) i next (walkedOf w rs) (lexeme m))) (omega arith)) q
 
-    -- ---- a record behind the others
+  pub adds-group : w .group ≡ 0 → k ≡ 7 → {after : List ℕ} {v : Walk} → after ≡ sets table (w .free * addressRecordSize) (recordBytes (new 3)) → v ≡ walkBy next (w .name .start) (w .name .end) (w .free + 1) (w .angle) (w .free + 1)
+      → Goes w class start end table after v
+  adds-group z q =
+      adds 7 3 (w .free + 1) (w .angle) (omega arith) (omega arith) (omega (arith, x .fine .angle))
+      (λ rs m l. open-zero (w .group) next (walkedOf w rs) (lexeme m) z ∙ ap (λ (i : ℕ). some (addRecord 3 i (w .angle) next (walkedOf w rs) (lexeme m))) (omega arith)) q
 
-    added : (kind : ℕ) {after : List ℕ} → after ≡ sets table (w .free * addressRecordSize) (recordBytes (new kind)) → (v : Walk) → v .free ≡ w .free + 1 → (rs : List AddressRecord) (lent : List ℕ) → Holds w rs lent table
-        → Holds v (rs ++ (new kind ∷ [])) lent after
-    added kind {after} a v n rs lent h =
-        record {
-          counted = omega (arith, length-append rs (new kind ∷ []), h .counted, n);
-          stored = a ∙ rw (h .stored, ← (h .counted)) (record-behind lent rs (new kind));
-        }
+  -- ---- a record comes to its end
 
-    pub goes-3 : {after : List ℕ} {v : Walk} → effectFrom 3 ≡ effectOf next → after ≡ sets table (w .free * addressRecordSize) (recordBytes (new 1))
-        → v ≡ walkBy next (w .name .start) (w .name .end) (w .group) (w .angle) (w .free + 1) → Goes w class start end table after v
-    goes-3 e a q =
-        rw q
-        (record {
-          fine = record { place = l; group = omega (arith, f .group); angle = omega (arith, f .angle) };
-          few = omega arith;
-          steps = λ m rs lent h. (rs ++ (new 1 ∷ []), added 1 a (walkBy next (w .name .start) (w .name .end) (w .group) (w .angle) (w .free + 1)) refl rs lent h, known 3 e rs m);
-        })
+  ended : (number : ℕ) {after : List ℕ} → (number ≡ 0 → ⊥) → number ≤ w .free → after ≡ sets table ((number - 1) * addressRecordSize + endOffset) (bytesOf numberWidth end) → (v : Walk) → v .free ≡ w .free → (rs : List AddressRecord) (lent : List ℕ)
+      → Holds w rs lent table → Holds v (setEnd (number - 1) end rs) lent after
+  ended number z l a v n rs lent h =
+      record { counted = set-length (number - 1) end rs ∙ h .counted ∙ sym n; stored = a ∙ rw (h .stored) (end-stored lent rs (number - 1) end (omega (arith, h .counted))) }
 
-    pub goes-5 : {after : List ℕ} {v : Walk} → effectFrom 5 ≡ effectOf next → after ≡ sets table (w .free * addressRecordSize) (recordBytes (new 2))
-        → v ≡ walkBy next (w .name .start) (w .name .end) (w .group) (w .free + 1) (w .free + 1) → Goes w class start end table after v
-    goes-5 e a q =
-        rw q
-        (record {
-          fine = record { place = l; group = omega (arith, f .group); angle = omega arith };
-          few = omega arith;
-          steps = λ m rs lent h. (
-            rs ++ (new 2 ∷ []),
-            added 2 a (walkBy next (w .name .start) (w .name .end) (w .group) (w .free + 1) (w .free + 1)) refl rs lent h,
-            known 5 e rs m ∙ ap (λ (n : ℕ). some (walkedBy next (w .name .start) (w .name .end) (w .group) n (rs ++ (new 2 ∷ [])))) (omega (arith, h .counted)),
-          );
-        })
+  closes : (n number group angle : ℕ) → n < 9 → number ≤ w .free → group ≤ w .free → angle ≤ w .free → ((rs : List AddressRecord) (m : List ℕ) → length rs ≡ w .free → Does n rs m (closeRecord number group angle next (walkedOf w rs) (lexeme m)))
+      → k ≡ n → (after : List ℕ) {then : Walk} (r : Stepped) → then ≡ walkBy next (w .name .start) (w .name .end) group angle (w .free) → CloseIs number end then table after r → StepIs w class start end table after r
+  closes n number group angle l f g i d q after (On v) e (u, z, a) =
+      rw (u, e)
+      (record {
+        fine = record { place = x .low (omega arith); group = g; angle = i };
+        few = omega arith;
+        steps = λ m rs lent h.
+            let p : number ≡ suc (number - 1) = omega arith in (
+              setEnd (number - 1) end rs,
+              ended number z f a (walkBy next (w .name .start) (w .name .end) group angle (w .free)) refl rs lent h,
+              known n q rs m (d rs m (h .counted) ∙ ap (λ (j : ℕ). closeRecord j group angle next (walkedOf w rs) (lexeme m)) p),
+            );
+      })
+  closes n number group angle l f g i d q after Off e (z, a) =
+      record { kept = a; stops = λ m rs lent h. known n q rs m (d rs m (h .counted) ∙ ap (λ (j : ℕ). closeRecord j group angle next (walkedOf w rs) (lexeme m)) z) }
 
-    pub goes-7 : {after : List ℕ} {v : Walk} → effectFrom 7 ≡ effectOf next → w .group ≡ 0 → after ≡ sets table (w .free * addressRecordSize) (recordBytes (new 3))
-        → v ≡ walkBy next (w .name .start) (w .name .end) (w .free + 1) (w .angle) (w .free + 1) → Goes w class start end table after v
-    goes-7 e g a q =
-        rw q
-        (record {
-          fine = record { place = l; group = omega arith; angle = omega (arith, f .angle) };
-          few = omega arith;
-          steps = λ m rs lent h. (
-            rs ++ (new 3 ∷ []),
-            added 3 a (walkBy next (w .name .start) (w .name .end) (w .free + 1) (w .angle) (w .free + 1)) refl rs lent h,
-            known 7 e rs m ∙ open-zero (w .group) next (walkedOf w rs) (symbolOf class start end m .lexeme) g
-                ∙ ap (λ (n : ℕ). some (walkedBy next (w .name .start) (w .name .end) n (w .angle) (rs ++ (new 3 ∷ [])))) (omega (arith, h .counted)),
-          );
-        })
+  pub closes-mailbox : k ≡ 4 → (after : List ℕ) {then : Walk} (r : Stepped) → then ≡ walkBy next (w .name .start) (w .name .end) (w .group) (w .angle) (w .free) → CloseIs (w .free) end then table after r → StepIs w class start end table after r
+  closes-mailbox q after r =
+      closes 4 (w .free) (w .group) (w .angle) (omega arith) (omega arith) (x .fine .group) (x .fine .angle) (λ rs m l. ap (λ (j : ℕ). closeRecord j (w .group) (w .angle) next (walkedOf w rs) (lexeme m)) l) q after r
 
-    -- ---- a record comes to its end
+  pub closes-angle : k ≡ 6 → (after : List ℕ) {then : Walk} (r : Stepped) → then ≡ walkBy next (w .name .start) (w .name .end) (w .group) 0 (w .free) → CloseIs (w .angle) end then table after r → StepIs w class start end table after r
+  closes-angle q after r = closes 6 (w .angle) (w .group) 0 (omega arith) (x .fine .angle) (x .fine .group) (omega arith) (λ rs m l. refl) q after r
 
-    ended : (number : ℕ) {after : List ℕ} → (number ≡ 0 → ⊥) → number ≤ w .free → after ≡ sets table ((number - 1) * addressRecordSize + endOffset) (bytesOf numberWidth end) → (v : Walk) → v .free ≡ w .free → (rs : List AddressRecord) (lent : List ℕ)
-        → Holds w rs lent table → Holds v (setEnd (number - 1) end rs) lent after
-    ended number {after} z k a v n rs lent h =
-        record { counted = set-length (number - 1) end rs ∙ h .counted ∙ sym n; stored = a ∙ rw (h .stored) (end-stored lent rs (number - 1) end (omega (arith, h .counted))) }
-
-    pub closes-4 : (after : List ℕ) (then : Walk) (r : Stepped) → effectFrom 4 ≡ effectOf next → then ≡ walkBy next (w .name .start) (w .name .end) (w .group) (w .angle) (w .free)
-        → CloseIs (w .free) end then table after r → StepIs w class start end table after r
-    closes-4 after then (On v) e q (u, z, a) =
-        rw (u, q)
-        (record {
-          fine = record { place = l; group = f .group; angle = f .angle };
-          few = omega arith;
-          steps = λ m rs lent h.
-              let n : length rs ≡ suc (w .free - 1) = omega (arith, h .counted) in (
-                setEnd (w .free - 1) end rs,
-                ended (w .free) z (omega arith) a (walkBy next (w .name .start) (w .name .end) (w .group) (w .angle) (w .free)) refl rs lent h,
-                known 4 e rs m ∙ ap (λ (k : ℕ). closeLast k next (walkedOf w rs) (symbolOf class start end m .lexeme)) n,
-              );
-        })
-    closes-4 after then Off e q (z, a) = record { kept = a; stops = λ m rs lent h. known 4 e rs m ∙ ap (λ (k : ℕ). closeLast k next (walkedOf w rs) (symbolOf class start end m .lexeme)) (h .counted ∙ z) }
-
-    pub closes-6 : (after : List ℕ) (then : Walk) (r : Stepped) → effectFrom 6 ≡ effectOf next → then ≡ walkBy next (w .name .start) (w .name .end) (w .group) 0 (w .free)
-        → CloseIs (w .angle) end then table after r → StepIs w class start end table after r
-    closes-6 after then (On v) e q (u, z, a) =
-        rw (u, q)
-        (record {
-          fine = record { place = l; group = f .group; angle = omega arith };
-          few = omega arith;
-          steps = λ m rs lent h.
-              let n : w .angle ≡ suc (w .angle - 1) = omega arith in (
-                setEnd (w .angle - 1) end rs,
-                ended (w .angle) z (f .angle) a (walkBy next (w .name .start) (w .name .end) (w .group) 0 (w .free)) refl rs lent h,
-                known 6 e rs m ∙ ap (λ (k : ℕ). closeAngle k next (walkedOf w rs) (symbolOf class start end m .lexeme)) n,
-              );
-        })
-    closes-6 after then Off e q (z, a) = record { kept = a; stops = λ m rs lent h. known 6 e rs m ∙ ap (λ (k : ℕ). closeAngle k next (walkedOf w rs) (symbolOf class start end m .lexeme)) z }
-
-    pub closes-8 : (after : List ℕ) (then : Walk) (r : Stepped) → effectFrom 8 ≡ effectOf next → then ≡ walkBy next (w .name .start) (w .name .end) 0 (w .angle) (w .free)
-        → CloseIs (w .group) end then table after r → StepIs w class start end table after r
-    closes-8 after then (On v) e q (u, z, a) =
-        rw (u, q)
-        (record {
-          fine = record { place = l; group = omega arith; angle = f .angle };
-          few = omega arith;
-          steps = λ m rs lent h.
-              let n : w .group ≡ suc (w .group - 1) = omega arith in (
-                setEnd (w .group - 1) end rs,
-                ended (w .group) z (f .group) a (walkBy next (w .name .start) (w .name .end) 0 (w .angle) (w .free)) refl rs lent h,
-                known 8 e rs m ∙ ap (λ (k : ℕ). closeGroup k next (walkedOf w rs) (symbolOf class start end m .lexeme)) n,
-              );
-        })
-    closes-8 after then Off e q (z, a) = record { kept = a; stops = λ m rs lent h. known 8 e rs m ∙ ap (λ (k : ℕ). closeGroup k next (walkedOf w rs) (symbolOf class start end m .lexeme)) z }
+  pub closes-group : k ≡ 8 → (after : List ℕ) {then : Walk} (r : Stepped) → then ≡ walkBy next (w .name .start) (w .name .end) 0 (w .angle) (w .free) → CloseIs (w .group) end then table after r → StepIs w class start end table after r
+  closes-group q after r = closes 8 (w .group) 0 (w .angle) (omega arith) (x .fine .group) (omega arith) (x .fine .angle) (λ rs m l. refl) q after r
 
   -- ---- nowhere
 
   -- a group in a group
-  pub stops-7 : (table : List ℕ) → effectFrom 7 ≡ effectOf next → (w .group ≡ 0 → ⊥) → Stops w class start end table table
-  stops-7 table e z = record { kept = refl; stops = λ m rs lent h. known 7 e rs m ∙ open-more (w .group) next (walkedOf w rs) (symbolOf class start end m .lexeme) z }
+  pub stops-group : (w .group ≡ 0 → ⊥) → k ≡ 7 → Stops w class start end table table
+  stops-group z q = record { kept = refl; stops = λ m rs lent h. known 7 q rs m (open-more (w .group) next (walkedOf w rs) (lexeme m) z) }
 
-  pub stops-9 : (table : List ℕ) → effectFrom 9 ≡ effectOf next → Stops w class start end table table
-  stops-9 table e = record { kept = refl; stops = λ m rs lent h. known 9 e rs m }
+  pub stops-none : effectFrom k ≡ refuse → Stops w class start end table table
+  stops-none q = record { kept = refl; stops = λ m rs lent h. let e : refuse ≡ effectOf next = sym q ∙ x .effect-is in rw (← (x .next-is), ← e) }

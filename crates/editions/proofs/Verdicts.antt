@@ -24,12 +24,9 @@ done : (s : State) (a b : ℕ) → DoneIs (finish s) (walkedIn s a b)
 done (place (inList r)) a b = (refl, sym (list-records (idle r)))
 done (place (inGroup r p c empty)) a b = refl
 done (place (inGroup r p c (comma l t))) a b = refl
-done (word (inList r) w) a b = refl
-done (word (inGroup r p c s) w) a b = refl
-done (phrase (inList r) q) a b = refl
-done (phrase (inGroup r p c s) q) a b = refl
-done (local (bareIn (inList r)) l) a b = refl
-done (local (bareIn (inGroup r p c s)) l) a b = refl
+done (word h w) a b = refl
+done (phrase h q) a b = refl
+done (local (bareIn h) l) a b = refl
 done (local (angleIn o) (oneWord w)) a b = refl
 done (local (angleIn o) (moreWord l t w)) a b = refl
 done (local (routeIn o r) (oneWord w)) a b = refl

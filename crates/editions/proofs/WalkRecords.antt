@@ -106,7 +106,7 @@ last-domain : (m : Domain) (q : ℕ) (xs : List Sym) → lastEnd q (seen (domain
 last-domain (oneSub s) q xs = last-sub q s xs
 last-domain (moreSub m t s) q xs = last-domain m q (of Dot t ∷ seen (subPiece s) xs) ∙ last-sub (t .end) s xs
 
--- the last of a row's symbols and a mark behind them
+-- the last of a row's symbols and a mark after them
 last-mark : (row : Row822) (q : ℕ) (c : Class) (u : Lexeme) → lastEnd q (yieldThen row (of c u ∷ [])) ≡ u .end
 last-mark row q c u = ap (lastEnd q) (yield-append row (of c u ∷ [])) ∙ last-append q (yield row) (of c u) []
 

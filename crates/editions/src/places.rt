@@ -1,11 +1,11 @@
 // The table of the loop of RFC 822.
 
-// How many places it has. They are: behind a comma or at the start of a list; behind the first word of an address; further words
-// of a phrase; a further word of a local-part; a dot of it; its "@"; a part of its domain; a dot of that; behind "<"; the first word
+// How many places it has. They are: after a comma or at the start of a list; after the first word of an address; further words
+// of a phrase; a further word of a local-part; a dot of it; its "@"; a part of its domain; a dot of that; after "<"; the first word
 // of the local-part there; a dot of it; its "@"; a part of its domain; a dot of that; a comma before the first "@" of a route; an
-// "@" of a route; a part of its domain; a dot of that; a comma behind a domain of a route; the ":" of a route; ">"; ";"; a further
-// word of a local-part in angle brackets; the ":" of a group.
-pub const PLACES: usize = 24;
+// "@" of a route, or a dot of a domain there; a part of its domain; the ":" of a group; a comma after a domain of a route; the ":"
+// of a route; ">"; ";"; a further word of a local-part in angle brackets.
+pub const PLACES: usize = 23;
 
 // The columns of a row: what coming to the place does; 1 where a list may end there, outside of a group; then for each class the
 // next place, 255 where no list goes on: atom, quoted-string, "@", "<", ">", ",", ";", ":", any other, ".", domain literal.
@@ -19,7 +19,7 @@ pub const ENDS: usize = 1;
 
 pub const NEXT: usize = 2;
 
-pub const TABLE_SIZE: usize = 312;
+pub const TABLE_SIZE: usize = 299;
 
 pub const PLACE_TABLE: [u8; TABLE_SIZE] = [
     0,
@@ -44,7 +44,7 @@ pub const PLACE_TABLE: [u8; TABLE_SIZE] = [
     255,
     255,
     255,
-    23,
+    17,
     255,
     4,
     255,
@@ -57,7 +57,7 @@ pub const PLACE_TABLE: [u8; TABLE_SIZE] = [
     255,
     255,
     255,
-    23,
+    17,
     255,
     255,
     255,
@@ -241,21 +241,21 @@ pub const PLACE_TABLE: [u8; TABLE_SIZE] = [
     255,
     19,
     255,
-    17,
+    15,
+    255,
+    7,
+    0,
+    1,
+    1,
+    255,
+    255,
     255,
     0,
-    0,
-    16,
+    21,
     255,
     255,
     255,
     255,
-    255,
-    255,
-    255,
-    255,
-    255,
-    16,
     0,
     0,
     255,
@@ -320,18 +320,5 @@ pub const PLACE_TABLE: [u8; TABLE_SIZE] = [
     255,
     255,
     10,
-    255,
-    7,
-    0,
-    1,
-    1,
-    255,
-    255,
-    255,
-    0,
-    21,
-    255,
-    255,
-    255,
     255,
 ];

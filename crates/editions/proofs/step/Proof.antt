@@ -1,11 +1,15 @@
 -- `editions::step` meets its contract: one arm for each effect. Assumes nothing.
-use mathlib.Core.Path.{_≡_, sym, _∙_}
+use mathlib.Core.Path.{refl}
 use native.Mathlib.Omega.{arith}
 use Rattle.editions.proofs.PlaceLaws.{left-over}
-use Rattle.editions.proofs.StepLaws.{goes-0, goes-1, goes-2, goes-3, closes-4, goes-5, closes-6, goes-7, closes-8, stops-7, stops-9}
+use Rattle.editions.proofs.StepLaws.{Leads, keeps, adds-mailbox, adds-angle, adds-group, closes-mailbox, closes-angle, closes-group, stops-group, stops-none}
 use borrow.Author.Needs.{needs}
 use Rattle.editions.proofs.step.Statement.{statement}
 use Rattle.editions.proofs.step.Tie as tie
+
+-- the place that is come to, and its effect
+leads : (c : tie.After-effect-at) → (let a = c .before .before .before .before .args in Leads (a .w) (a .class) (c .before .before .next-place .result) (c .effect-at .result))
+leads c = record { fine = c .before .before .before .before .pre .0; next-is = c .before .before .next-place .ensures; effect-is = c .effect-at .ensures .0; low = c .effect-at .ensures .1 }
 
 next-place-requires : tie.Need-next-place-requires
 next-place-requires c κs = search needs
@@ -57,8 +61,9 @@ close-requires-2 c κs = search needs
 
 returns : tie.Need-returns
 returns c =
-    let a = c .before .before .before .before .before .before .before .args in
-    stops-7 (a .w) (a .class) (a .start) (a .end) (c .before .before .before .before .before .next-place .result) (c .before .before .before .before .before .next-place .ensures) (a .table .now) (rw (c .before .before .match .keys8) at (c .before .before .before .effect-at .ensures .0)) (c .if1 .taken)
+    let l = c .before .before .before in
+    let a = l .before .before .before .before .args in
+    stops-group (leads l) (a .start) (a .end) (a .table .now) (c .if1 .taken) (c .before .before .match .keys8)
 
 begin-requires-3 : tie.Need-begin-requires-3
 begin-requires-3 c κs = search needs
@@ -80,73 +85,82 @@ close-requires-3 c κs = search needs
 
 returns-2 : tie.Need-returns-2
 returns-2 c =
-    let a = c .before .before .before .before .before .before .args in
-    goes-0 (a .w) (a .class) (a .start) (a .end) (c .before .before .before .before .next-place .result) (c .before .before .before .before .next-place .ensures) (a .table .now) (c .before .before .before .before .before .before .pre .0) (c .before .before .effect-at .ensures .1 (omega (arith, c .before .match .keys1))) (rw (c .before .match .keys1) at (c .before .before .effect-at .ensures .0)) (c .holding .ensures)
+    let l = c .before .before in
+    let a = l .before .before .before .before .args in
+    keeps (leads l) (a .start) (a .end) (a .table .now) 0 (a .w .name .start) (a .w .name .end) (omega arith) (λ rs m. refl) (c .before .match .keys1) (c .holding .ensures)
 
 returns-3 : tie.Need-returns-3
 returns-3 c =
-    let a = c .before .before .before .before .before .before .args in
-    goes-1 (a .w) (a .class) (a .start) (a .end) (c .before .before .before .before .next-place .result) (c .before .before .before .before .next-place .ensures) (a .table .now) (c .before .before .before .before .before .before .pre .0) (c .before .before .effect-at .ensures .1 (omega (arith, c .before .match .keys2))) (rw (c .before .match .keys2) at (c .before .before .effect-at .ensures .0)) (c .named .ensures)
+    let l = c .before .before in
+    let a = l .before .before .before .before .args in
+    keeps (leads l) (a .start) (a .end) (a .table .now) 1 (a .start) (a .end) (omega arith) (λ rs m. refl) (c .before .match .keys2) (c .named .ensures)
 
 returns-4 : tie.Need-returns-4
 returns-4 c =
-    let a = c .before .before .before .before .before .before .args in
-    goes-2 (a .w) (a .class) (a .start) (a .end) (c .before .before .before .before .next-place .result) (c .before .before .before .before .next-place .ensures) (a .table .now) (c .before .before .before .before .before .before .pre .0) (c .before .before .effect-at .ensures .1 (omega (arith, c .before .match .keys3))) (rw (c .before .match .keys3) at (c .before .before .effect-at .ensures .0)) (c .named2 .ensures)
+    let l = c .before .before in
+    let a = l .before .before .before .before .args in
+    keeps (leads l) (a .start) (a .end) (a .table .now) 2 (a .w .name .start) (a .end) (omega arith) (λ rs m. refl) (c .before .match .keys3) (c .named2 .ensures)
 
 same-length : tie.Need-same-length
 same-length c = search needs
 
 returns-5 : tie.Need-returns-5
 returns-5 c =
-    let a = c .before .before .before .before .before .before .before .before .before .before .before .args in
-    goes-3 (a .w) (a .class) (a .start) (a .end) (c .before .before .before .before .before .before .before .before .before .next-place .result) (c .before .before .before .before .before .before .before .before .before .next-place .ensures) (a .table .now) (c .before .before .before .before .before .before .before .before .before .before .before .pre .0) (c .before .before .before .before .before .before .before .effect-at .ensures .1 (omega (arith, c .before .before .before .before .before .before .match .keys4))) (rw (c .before .before .before .before .before .before .match .keys4) at (c .before .before .before .before .before .before .before .effect-at .ensures .0)) (c .before .before .before .before .begin .ensures) (c .holding2 .ensures)
+    let l = c .before .before .before .before .before .before .before in
+    let a = l .before .before .before .before .args in
+    adds-mailbox (leads l) (a .start) (a .end) (a .table .now) (c .before .before .before .before .before .before .match .keys4) (c .before .before .before .before .begin .ensures) (c .holding2 .ensures)
 
 same-length-2 : tie.Need-same-length-2
 same-length-2 c = search needs
 
 returns-6 : tie.Need-returns-6
 returns-6 c =
-    let a = c .before .before .before .before .before .before .before .before .before .before .args in
-    closes-4 (a .w) (a .class) (a .start) (a .end) (c .before .before .before .before .before .before .before .before .next-place .result) (c .before .before .before .before .before .before .before .before .next-place .ensures) (a .table .now) (c .before .before .before .before .before .before .before .before .before .before .pre .0) (c .before .before .before .before .before .before .effect-at .ensures .1 (omega (arith, c .before .before .before .before .before .match .keys5))) _ _ (c .before .before .close .result) (rw (c .before .before .before .before .before .match .keys5) at (c .before .before .before .before .before .before .effect-at .ensures .0)) (c .before .before .before .holding3 .ensures) (c .before .before .close .ensures)
+    let l = c .before .before .before .before .before .before in
+    let a = l .before .before .before .before .args in
+    closes-mailbox (leads l) (a .start) (a .end) (a .table .now) (c .before .before .before .before .before .match .keys5) _ (c .before .before .close .result) (c .before .before .before .holding3 .ensures) (c .before .before .close .ensures)
 
 same-length-3 : tie.Need-same-length-3
 same-length-3 c = search needs
 
 returns-7 : tie.Need-returns-7
 returns-7 c =
-    let a = c .before .before .before .before .before .before .before .before .before .before .before .before .args in
-    goes-5 (a .w) (a .class) (a .start) (a .end) (c .before .before .before .before .before .before .before .before .before .before .next-place .result) (c .before .before .before .before .before .before .before .before .before .before .next-place .ensures) (a .table .now) (c .before .before .before .before .before .before .before .before .before .before .before .before .pre .0) (c .before .before .before .before .before .before .before .before .effect-at .ensures .1 (omega (arith, c .before .before .before .before .before .before .before .match .keys6))) (rw (c .before .before .before .before .before .before .before .match .keys6) at (c .before .before .before .before .before .before .before .before .effect-at .ensures .0)) (c .before .before .before .before .before .begin2 .ensures) (c .holding4 .ensures)
+    let l = c .before .before .before .before .before .before .before .before in
+    let a = l .before .before .before .before .args in
+    adds-angle (leads l) (a .start) (a .end) (a .table .now) (c .before .before .before .before .before .before .before .match .keys6) (c .before .before .before .before .before .begin2 .ensures) (c .holding4 .ensures)
 
 same-length-4 : tie.Need-same-length-4
 same-length-4 c = search needs
 
 returns-8 : tie.Need-returns-8
 returns-8 c =
-    let a = c .before .before .before .before .before .before .before .before .before .before .args in
-    closes-6 (a .w) (a .class) (a .start) (a .end) (c .before .before .before .before .before .before .before .before .next-place .result) (c .before .before .before .before .before .before .before .before .next-place .ensures) (a .table .now) (c .before .before .before .before .before .before .before .before .before .before .pre .0) (c .before .before .before .before .before .before .effect-at .ensures .1 (omega (arith, c .before .before .before .before .before .match .keys7))) _ _ (c .before .before .close2 .result) (rw (c .before .before .before .before .before .match .keys7) at (c .before .before .before .before .before .before .effect-at .ensures .0)) (c .before .before .before .holding5 .ensures) (c .before .before .close2 .ensures)
+    let l = c .before .before .before .before .before .before in
+    let a = l .before .before .before .before .args in
+    closes-angle (leads l) (a .start) (a .end) (a .table .now) (c .before .before .before .before .before .match .keys7) _ (c .before .before .close2 .result) (c .before .before .before .holding5 .ensures) (c .before .before .close2 .ensures)
 
 same-length-5 : tie.Need-same-length-5
 same-length-5 c = search needs
 
 returns-9 : tie.Need-returns-9
 returns-9 c =
-    let a = c .before .before .before .before .before .before .before .before .before .before .before .before .before .before .args in
-    goes-7 (a .w) (a .class) (a .start) (a .end) (c .before .before .before .before .before .before .before .before .before .before .before .before .next-place .result) (c .before .before .before .before .before .before .before .before .before .before .before .before .next-place .ensures) (a .table .now) (c .before .before .before .before .before .before .before .before .before .before .before .before .before .before .pre .0) (c .before .before .before .before .before .before .before .before .before .before .effect-at .ensures .1 (omega (arith, c .before .before .before .before .before .before .before .before .before .match .keys8))) (rw (c .before .before .before .before .before .before .before .before .before .match .keys8) at (c .before .before .before .before .before .before .before .before .before .before .effect-at .ensures .0)) (c .before .before .before .before .before .before .before .if1 .left) (c .before .before .before .before .before .begin3 .ensures) (c .holding6 .ensures)
+    let l = c .before .before .before .before .before .before .before .before .before .before in
+    let a = l .before .before .before .before .args in
+    adds-group (leads l) (a .start) (a .end) (a .table .now) (c .before .before .before .before .before .before .before .if1 .left) (c .before .before .before .before .before .before .before .before .before .match .keys8) (c .before .before .before .before .before .begin3 .ensures) (c .holding6 .ensures)
 
 same-length-6 : tie.Need-same-length-6
 same-length-6 c = search needs
 
 returns-10 : tie.Need-returns-10
 returns-10 c =
-    let a = c .before .before .before .before .before .before .before .before .before .before .args in
-    closes-8 (a .w) (a .class) (a .start) (a .end) (c .before .before .before .before .before .before .before .before .next-place .result) (c .before .before .before .before .before .before .before .before .next-place .ensures) (a .table .now) (c .before .before .before .before .before .before .before .before .before .before .pre .0) (c .before .before .before .before .before .before .effect-at .ensures .1 (omega (arith, c .before .before .before .before .before .match .keys9))) _ _ (c .before .before .close3 .result) (rw (c .before .before .before .before .before .match .keys9) at (c .before .before .before .before .before .before .effect-at .ensures .0)) (c .before .before .before .holding7 .ensures) (c .before .before .close3 .ensures)
+    let l = c .before .before .before .before .before .before in
+    let a = l .before .before .before .before .args in
+    closes-group (leads l) (a .start) (a .end) (a .table .now) (c .before .before .before .before .before .match .keys9) _ (c .before .before .close3 .result) (c .before .before .before .holding7 .ensures) (c .before .before .close3 .ensures)
 
 returns-11 : tie.Need-returns-11
 returns-11 c =
-    let a = c .before .before .before .before .before .args in
+    let l = c .before in
+    let a = l .before .before .before .before .args in
     let r = c .match .rest in
-    stops-9 (a .w) (a .class) (a .start) (a .end) (c .before .before .before .next-place .result) (c .before .before .before .next-place .ensures) (a .table .now)
-    (sym (left-over (c .before .effect-at .result) (r .0 .0 .0 .0 .0 .0 .0 .0 .1) (r .0 .0 .0 .0 .0 .0 .0 .1) (r .0 .0 .0 .0 .0 .0 .1) (r .0 .0 .0 .0 .0 .1) (r .0 .0 .0 .0 .1) (r .0 .0 .0 .1) (r .0 .0 .1) (r .0 .1) (r .1)) ∙ c .before .effect-at .ensures .0)
+    stops-none (leads l) (a .start) (a .end) (a .table .now) (left-over (l .effect-at .result) (r .0 .0 .0 .0 .0 .0 .0 .0 .1) (r .0 .0 .0 .0 .0 .0 .0 .1) (r .0 .0 .0 .0 .0 .0 .1) (r .0 .0 .0 .0 .0 .1) (r .0 .0 .0 .0 .1) (r .0 .0 .0 .1) (r .0 .0 .1) (r .0 .1) (r .1))
 
 pub step-spec : {M : Type 1} → statement M
 step-spec =

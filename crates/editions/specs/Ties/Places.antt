@@ -34,30 +34,29 @@ no = 255
 -- the places, and the classes: atom, quoted-string, "@", "<", ">", ",", ";", ":", any other, ".", domain literal
 abbrev pub rows : List Row
 rows =
-    row nothing true (1 ∷ 1 ∷ no ∷ no ∷ no ∷ 0 ∷ 21 ∷ no ∷ no ∷ no ∷ no ∷ [])  -- 0: at a place of a list or group, behind a comma or at its start
-    ∷ row firstWord false (2 ∷ 2 ∷ 5 ∷ 8 ∷ no ∷ no ∷ no ∷ 23 ∷ no ∷ 4 ∷ no ∷ [])  -- 1: behind the first word of an address
-    ∷ row furtherWord false (2 ∷ 2 ∷ no ∷ 8 ∷ no ∷ no ∷ no ∷ 23 ∷ no ∷ no ∷ no ∷ [])  -- 2: behind further words of a phrase
-    ∷ row furtherWord false (no ∷ no ∷ 5 ∷ no ∷ no ∷ no ∷ no ∷ no ∷ no ∷ 4 ∷ no ∷ [])  -- 3: behind a word of a local-part that follows a dot
-    ∷ row nothing false (3 ∷ 3 ∷ no ∷ no ∷ no ∷ no ∷ no ∷ no ∷ no ∷ no ∷ no ∷ [])  -- 4: behind a dot of a local-part
-    ∷ row mailboxRecord false (6 ∷ no ∷ no ∷ no ∷ no ∷ no ∷ no ∷ no ∷ no ∷ no ∷ 6 ∷ [])  -- 5: behind the "@" of a mailbox without brackets
-    ∷ row mailboxEnd true (no ∷ no ∷ no ∷ no ∷ no ∷ 0 ∷ 21 ∷ no ∷ no ∷ 7 ∷ no ∷ [])  -- 6: behind a part of its domain
-    ∷ row nothing false (6 ∷ no ∷ no ∷ no ∷ no ∷ no ∷ no ∷ no ∷ no ∷ no ∷ 6 ∷ [])  -- 7: behind a dot of its domain
-    ∷ row angleRecord false (9 ∷ 9 ∷ 15 ∷ no ∷ no ∷ 14 ∷ no ∷ no ∷ no ∷ no ∷ no ∷ [])  -- 8: behind "<"
-    ∷ row firstWord false (no ∷ no ∷ 11 ∷ no ∷ no ∷ no ∷ no ∷ no ∷ no ∷ 10 ∷ no ∷ [])  -- 9: behind the first word of the local-part in it
-    ∷ row nothing false (22 ∷ 22 ∷ no ∷ no ∷ no ∷ no ∷ no ∷ no ∷ no ∷ no ∷ no ∷ [])  -- 10: behind a dot of that local-part
-    ∷ row mailboxRecord false (12 ∷ no ∷ no ∷ no ∷ no ∷ no ∷ no ∷ no ∷ no ∷ no ∷ 12 ∷ [])  -- 11: behind its "@"
-    ∷ row mailboxEnd false (no ∷ no ∷ no ∷ no ∷ 20 ∷ no ∷ no ∷ no ∷ no ∷ 13 ∷ no ∷ [])  -- 12: behind a part of its domain
-    ∷ row nothing false (12 ∷ no ∷ no ∷ no ∷ no ∷ no ∷ no ∷ no ∷ no ∷ no ∷ 12 ∷ [])  -- 13: behind a dot of its domain
-    ∷ row nothing false (no ∷ no ∷ 15 ∷ no ∷ no ∷ 14 ∷ no ∷ no ∷ no ∷ no ∷ no ∷ [])  -- 14: behind a comma before the first "@" of a route
-    ∷ row nothing false (16 ∷ no ∷ no ∷ no ∷ no ∷ no ∷ no ∷ no ∷ no ∷ no ∷ 16 ∷ [])  -- 15: behind an "@" of a route
-    ∷ row nothing false (no ∷ no ∷ no ∷ no ∷ no ∷ 18 ∷ no ∷ 19 ∷ no ∷ 17 ∷ no ∷ [])  -- 16: behind a part of a domain of a route
-    ∷ row nothing false (16 ∷ no ∷ no ∷ no ∷ no ∷ no ∷ no ∷ no ∷ no ∷ no ∷ 16 ∷ [])  -- 17: behind a dot of it
-    ∷ row nothing false (no ∷ no ∷ 15 ∷ no ∷ no ∷ 18 ∷ no ∷ 19 ∷ no ∷ no ∷ no ∷ [])  -- 18: behind a comma of a route after a domain
-    ∷ row nothing false (9 ∷ 9 ∷ no ∷ no ∷ no ∷ no ∷ no ∷ no ∷ no ∷ no ∷ no ∷ [])  -- 19: behind the ":" of a route
-    ∷ row angleEnd true (no ∷ no ∷ no ∷ no ∷ no ∷ 0 ∷ 21 ∷ no ∷ no ∷ no ∷ no ∷ [])  -- 20: behind ">"
-    ∷ row groupEnd true (no ∷ no ∷ no ∷ no ∷ no ∷ 0 ∷ no ∷ no ∷ no ∷ no ∷ no ∷ [])  -- 21: behind ";"
-    ∷ row furtherWord false (no ∷ no ∷ 11 ∷ no ∷ no ∷ no ∷ no ∷ no ∷ no ∷ 10 ∷ no ∷ [])  -- 22: behind a further word of the local-part in brackets
-    ∷ row groupRecord false (1 ∷ 1 ∷ no ∷ no ∷ no ∷ 0 ∷ 21 ∷ no ∷ no ∷ no ∷ no ∷ [])  -- 23: behind the ":" of a group
+    row nothing true (1 ∷ 1 ∷ no ∷ no ∷ no ∷ 0 ∷ 21 ∷ no ∷ no ∷ no ∷ no ∷ [])  -- 0: at a place of a list or group, after a comma or at its start
+    ∷ row firstWord false (2 ∷ 2 ∷ 5 ∷ 8 ∷ no ∷ no ∷ no ∷ 17 ∷ no ∷ 4 ∷ no ∷ [])  -- 1: after the first word of an address
+    ∷ row furtherWord false (2 ∷ 2 ∷ no ∷ 8 ∷ no ∷ no ∷ no ∷ 17 ∷ no ∷ no ∷ no ∷ [])  -- 2: after further words of a phrase
+    ∷ row furtherWord false (no ∷ no ∷ 5 ∷ no ∷ no ∷ no ∷ no ∷ no ∷ no ∷ 4 ∷ no ∷ [])  -- 3: after a word of a local-part that follows a dot
+    ∷ row nothing false (3 ∷ 3 ∷ no ∷ no ∷ no ∷ no ∷ no ∷ no ∷ no ∷ no ∷ no ∷ [])  -- 4: after a dot of a local-part
+    ∷ row mailboxRecord false (6 ∷ no ∷ no ∷ no ∷ no ∷ no ∷ no ∷ no ∷ no ∷ no ∷ 6 ∷ [])  -- 5: after the "@" of a mailbox without brackets
+    ∷ row mailboxEnd true (no ∷ no ∷ no ∷ no ∷ no ∷ 0 ∷ 21 ∷ no ∷ no ∷ 7 ∷ no ∷ [])  -- 6: after a part of its domain
+    ∷ row nothing false (6 ∷ no ∷ no ∷ no ∷ no ∷ no ∷ no ∷ no ∷ no ∷ no ∷ 6 ∷ [])  -- 7: after a dot of its domain
+    ∷ row angleRecord false (9 ∷ 9 ∷ 15 ∷ no ∷ no ∷ 14 ∷ no ∷ no ∷ no ∷ no ∷ no ∷ [])  -- 8: after "<"
+    ∷ row firstWord false (no ∷ no ∷ 11 ∷ no ∷ no ∷ no ∷ no ∷ no ∷ no ∷ 10 ∷ no ∷ [])  -- 9: after the first word of the local-part in it
+    ∷ row nothing false (22 ∷ 22 ∷ no ∷ no ∷ no ∷ no ∷ no ∷ no ∷ no ∷ no ∷ no ∷ [])  -- 10: after a dot of that local-part
+    ∷ row mailboxRecord false (12 ∷ no ∷ no ∷ no ∷ no ∷ no ∷ no ∷ no ∷ no ∷ no ∷ 12 ∷ [])  -- 11: after its "@"
+    ∷ row mailboxEnd false (no ∷ no ∷ no ∷ no ∷ 20 ∷ no ∷ no ∷ no ∷ no ∷ 13 ∷ no ∷ [])  -- 12: after a part of its domain
+    ∷ row nothing false (12 ∷ no ∷ no ∷ no ∷ no ∷ no ∷ no ∷ no ∷ no ∷ no ∷ 12 ∷ [])  -- 13: after a dot of its domain
+    ∷ row nothing false (no ∷ no ∷ 15 ∷ no ∷ no ∷ 14 ∷ no ∷ no ∷ no ∷ no ∷ no ∷ [])  -- 14: after a comma before the first "@" of a route
+    ∷ row nothing false (16 ∷ no ∷ no ∷ no ∷ no ∷ no ∷ no ∷ no ∷ no ∷ no ∷ 16 ∷ [])  -- 15: after an "@" of a route, or a dot of a domain there
+    ∷ row nothing false (no ∷ no ∷ no ∷ no ∷ no ∷ 18 ∷ no ∷ 19 ∷ no ∷ 15 ∷ no ∷ [])  -- 16: after a part of a domain of a route
+    ∷ row groupRecord false (1 ∷ 1 ∷ no ∷ no ∷ no ∷ 0 ∷ 21 ∷ no ∷ no ∷ no ∷ no ∷ [])  -- 17: after the ":" of a group
+    ∷ row nothing false (no ∷ no ∷ 15 ∷ no ∷ no ∷ 18 ∷ no ∷ 19 ∷ no ∷ no ∷ no ∷ [])  -- 18: after a comma of a route after a domain
+    ∷ row nothing false (9 ∷ 9 ∷ no ∷ no ∷ no ∷ no ∷ no ∷ no ∷ no ∷ no ∷ no ∷ [])  -- 19: after the ":" of a route
+    ∷ row angleEnd true (no ∷ no ∷ no ∷ no ∷ no ∷ 0 ∷ 21 ∷ no ∷ no ∷ no ∷ no ∷ [])  -- 20: after ">"
+    ∷ row groupEnd true (no ∷ no ∷ no ∷ no ∷ no ∷ 0 ∷ no ∷ no ∷ no ∷ no ∷ no ∷ [])  -- 21: after ";"
+    ∷ row furtherWord false (no ∷ no ∷ 11 ∷ no ∷ no ∷ no ∷ no ∷ no ∷ no ∷ 10 ∷ no ∷ [])  -- 22: after a further word of the local-part in brackets
     ∷ []
 
 abbrev pub rowAt : ℕ → Row
@@ -92,7 +91,7 @@ abbrev pub cells : Row → List ℕ
 cells r = effectNumber (r .effect) ∷ pick (r .ends) 1 0 ∷ r .next
 
 abbrev pub placeCount : ℕ
-placeCount = 24
+placeCount = 23
 
 abbrev pub columns : ℕ
 columns = 13
@@ -133,35 +132,31 @@ newRecord kind f t = recordBy kind (oneIf (f .group) + oneIf (f .angle)) (parent
 abbrev pub walkedBy : ℕ → ℕ → ℕ → ℕ → ℕ → List AddressRecord → Walked
 walkedBy place start nameEnd group angle records = record { place = place; start = start; nameEnd = nameEnd; group = group; angle = angle; records = records }
 
--- a group ends, or begins; there is one at a time
-abbrev pub closeGroup : ℕ → ℕ → Walked → Lexeme → Option Walked
-closeGroup zero c f t = none
-closeGroup (suc g) c f t = some (walkedBy c (f .start) (f .nameEnd) 0 (f .angle) (setEnd g (t .end) (f .records)))
+-- a record of this kind begins; then this group and this angle address are open
+abbrev pub addRecord : ℕ → ℕ → ℕ → ℕ → Walked → Lexeme → Walked
+addRecord kind group angle c f t = walkedBy c (f .start) (f .nameEnd) group angle (f .records ++ (newRecord kind f t ∷ []))
 
+-- the record with a number, plus 1, comes to its end; then this group and this angle address are open
+abbrev pub closeRecord : ℕ → ℕ → ℕ → ℕ → Walked → Lexeme → Option Walked
+closeRecord zero group angle c f t = none
+closeRecord (suc i) group angle c f t = some (walkedBy c (f .start) (f .nameEnd) group angle (setEnd i (t .end) (f .records)))
+
+-- a group begins, unless one is open
 abbrev pub openGroup : ℕ → ℕ → Walked → Lexeme → Option Walked
-openGroup zero c f t = some (walkedBy c (f .start) (f .nameEnd) (suc (length (f .records))) (f .angle) (f .records ++ (newRecord 3 f t ∷ [])))
+openGroup zero c f t = some (addRecord 3 (suc (length (f .records))) (f .angle) c f t)
 openGroup (suc g) c f t = none
-
--- the end of the last record, and of an open angle address
-abbrev pub closeLast : ℕ → ℕ → Walked → Lexeme → Option Walked
-closeLast zero c f t = none
-closeLast (suc i) c f t = some (walkedBy c (f .start) (f .nameEnd) (f .group) (f .angle) (setEnd i (t .end) (f .records)))
-
-abbrev pub closeAngle : ℕ → ℕ → Walked → Lexeme → Option Walked
-closeAngle zero c f t = none
-closeAngle (suc i) c f t = some (walkedBy c (f .start) (f .nameEnd) (f .group) 0 (setEnd i (t .end) (f .records)))
 
 -- an effect, at a place that is come to
 abbrev pub effect : Effect → ℕ → Walked → Lexeme → Option Walked
 effect nothing c f t = some (walkedBy c (f .start) (f .nameEnd) (f .group) (f .angle) (f .records))
 effect firstWord c f t = some (walkedBy c (t .start) (t .end) (f .group) (f .angle) (f .records))
 effect furtherWord c f t = some (walkedBy c (f .start) (t .end) (f .group) (f .angle) (f .records))
-effect mailboxRecord c f t = some (walkedBy c (f .start) (f .nameEnd) (f .group) (f .angle) (f .records ++ (newRecord 1 f t ∷ [])))
-effect mailboxEnd c f t = closeLast (length (f .records)) c f t
-effect angleRecord c f t = some (walkedBy c (f .start) (f .nameEnd) (f .group) (suc (length (f .records))) (f .records ++ (newRecord 2 f t ∷ [])))
-effect angleEnd c f t = closeAngle (f .angle) c f t
+effect mailboxRecord c f t = some (addRecord 1 (f .group) (f .angle) c f t)
+effect mailboxEnd c f t = closeRecord (length (f .records)) (f .group) (f .angle) c f t
+effect angleRecord c f t = some (addRecord 2 (f .group) (suc (length (f .records))) c f t)
+effect angleEnd c f t = closeRecord (f .angle) (f .group) 0 c f t
 effect groupRecord c f t = openGroup (f .group) c f t
-effect groupEnd c f t = closeGroup (f .group) c f t
+effect groupEnd c f t = closeRecord (f .group) 0 (f .angle) c f t
 effect refuse c f t = none
 
 -- one symbol

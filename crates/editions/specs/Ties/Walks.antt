@@ -15,9 +15,13 @@ use Rattle.editions.specs.declared.Walk.{Walk}
 use Rattle.editions.specs.declared.Stepped.{Stepped}
 use Rattle.editions.specs.declared.Stepped.the-variants.{On, Off}
 
+-- the effects in order
+abbrev pub effects : List Effect
+effects = nothing ∷ firstWord ∷ furtherWord ∷ mailboxRecord ∷ mailboxEnd ∷ angleRecord ∷ angleEnd ∷ groupRecord ∷ groupEnd ∷ []
+
 -- the effect with a number
 abbrev pub effectFrom : ℕ → Effect
-effectFrom n = getD (nothing ∷ firstWord ∷ furtherWord ∷ mailboxRecord ∷ mailboxEnd ∷ angleRecord ∷ angleEnd ∷ groupRecord ∷ groupEnd ∷ []) n refuse
+effectFrom n = getD effects n refuse
 
 -- the struct of these numbers
 abbrev pub walkBy : ℕ → ℕ → ℕ → ℕ → ℕ → ℕ → Walk
