@@ -26,7 +26,10 @@ use Rattle.octets.proofs.AnswerLaws.{answered}
 use Rattle.addresses.specs.Believed.Editions.{symbolsIn}
 use Rattle.addresses.specs.Believed.Outcome.{Outcome, AnsweredBy, refusal, derived, byVerdict, decided, readIn, outcomeIn}
 use Rattle.addresses.specs.Believed.Condition3.{IsListIn, Settled, Condition3In}
-use Rattle.addresses.specs.Ties.Whole.{IsListed, IsRefused, TwiceIs, TextIs}
+use Rattle.addresses.specs.Ties.Whole.{IsListed, IsRefused, WholeIs, TwiceIs, TextIs}
+use Rattle.grammar.specs.declared.Whole.{Whole}
+use Rattle.grammar.specs.declared.Whole.the-variants as whole
+use Rattle.grammar.specs.declared.Whole.the-variants.{Listed}
 
 -- ---- two runs
 
@@ -39,16 +42,18 @@ module _ {N : Type 0} (verdict : List (Symbol Class) → Verdict Class (Row Clas
       let q : roomFor addressRecordSize table < count (l .derivation) = rw (← (l .count-is)) h in
       record { answer-is = rw (l .verdict-is, lt-ltb (roomFor addressRecordSize table) (count (l .derivation)) q, l .count-is); table-is = rw (l .verdict-is, lt-ltb (roomFor addressRecordSize table) (count (l .derivation)) q) }
 
-  pub twice-accepted : {dry half after : List ℕ} {n m : ℕ} → IsListed verdict classes text at dry half n → n ≤ length table / addressRecordSize → IsListed verdict classes text at table after m → TwiceIs verdict classes text at table after (Accepted m)
-  twice-accepted d h l =
+  -- a list that there is room for: the second run answers as the first did, and leaves its records
+  pub twice-written : {dry half : List ℕ} {n : ℕ} (after : List ℕ) → IsListed verdict classes text at dry half n → n ≤ length table / addressRecordSize → (w : Whole) → WholeIs verdict classes text at table after w
+      → TwiceIs verdict classes text at table after (Accepted n)
+  twice-written after d h (Listed m) l =
       let e : accepted (d .derivation) ≡ accepted (l .derivation) = sym (d .verdict-is) ∙ l .verdict-is in
       let k : d .derivation ≡ l .derivation = cc in
-      let q : count (l .derivation) ≤ roomFor addressRecordSize table = rw (← k, ← (d .count-is)) h in
-      record { answer-is = rw (l .verdict-is, le-ltb (roomFor addressRecordSize table) (count (l .derivation)) q, l .count-is); table-is = l .stored ∙ rw (l .verdict-is, le-ltb (roomFor addressRecordSize table) (count (l .derivation)) q) }
-
-  -- a second run does not refuse what the first did not
-  pub twice-never : {dry half : List ℕ} {n number-told place : ℕ} {A : Type 0} → IsListed verdict classes text at dry half n → IsRefused verdict classes text at number-told place → A
-  twice-never d s =
+      let q : count (d .derivation) ≤ roomFor addressRecordSize table = rw (← (d .count-is)) h in
+      record {
+        answer-is = rw (d .verdict-is, le-ltb (roomFor addressRecordSize table) (count (d .derivation)) q, d .count-is);
+        table-is = l .stored ∙ rw (← k, d .verdict-is, le-ltb (roomFor addressRecordSize table) (count (d .derivation)) q);
+      }
+  twice-written after d h (whole.Refused number-told place) s =
       let e : accepted (d .derivation) ≡ refused (s .why) (s .rest) = sym (d .verdict-is) ∙ s .verdict-is in
       absurd (let z : _≡_ {A = ℕ} 0 1 = cc in omega arith)
 

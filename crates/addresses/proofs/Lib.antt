@@ -15,3 +15,4 @@ pub mod WithinLaws
 pub mod BodyRecords
 pub mod RecordsRead
 pub mod Told
+pub mod TableRows

@@ -1,39 +1,28 @@
 -- The table of the loop has what its rows say. Assumes nothing.
-use Prim.Native.Nat.{ℕ, zero, suc, _+_, _*_, _/_, _%_, _≤_, _<_}
+use Prim.Native.Nat.{ℕ, zero, suc, _+_, _*_, _≤_, _<_}
 use native.Mathlib.Omega.{arith}
 use mathlib.Core.Path.{_≡_, refl, sym, ap, _∙_}
 use mathlib.Core.Bool.{Bool, true, false}
-use lib.Dec.{eqb, eqb→eq}
+use lib.Dec.{eqb}
 use lib.ListN.{getD, List·getD-eq-default}
 use Rattle.octets.specs.Believed.Choice.{pick, both}
-use Rattle.octets.proofs.Tables.{at}
+use Rattle.addresses.proofs.TableRows.{cell-at}
 use Rattle.scanner.specs.declared.Class.{Class}
 use Rattle.grammar.specs.Believed.Rfc733.{classNumber}
 use Rattle.editions.specs.Ties.Places.{Row, Effect, nothing, firstWord, furtherWord, mailboxRecord, mailboxEnd, angleRecord, angleEnd, groupRecord, groupEnd, refuse, no, rows, rowAt, nextPlace, effectOf, endsAt, effectNumber, cells, placeCount, columns, placeTable, noGroup, oneIf, parentOf}
 use Rattle.editions.specs.Ties.Walks.{effects, effectFrom}
 
--- the number at an index, by the rows
-abbrev cellAt : ℕ → ℕ
-cellAt i = getD (cells (rowAt (i / columns))) (i % columns) no
-
--- one test over the whole table, at each index
-rule : (i : ℕ) → i < placeCount * columns → getD placeTable i 0 ≡ cellAt i
-unfolding placeTable
-rule i h = eqb→eq (getD placeTable i 0) (cellAt i) (at (λ (k n : ℕ). eqb n (cellAt k)) placeTable 0 tt i h)
-
 -- a column of a row
 column-at : (place j : ℕ) → place < placeCount → j < columns → getD placeTable (place * columns + j) 0 ≡ getD (cells (rowAt place)) j no
-column-at place j h l =
-    let p : (place * columns + j) / columns ≡ place = omega arith in
-    let q : (place * columns + j) % columns ≡ j = omega arith in
-    rule (place * columns + j) (omega arith) ∙ rw (p, q)
+unfolding placeTable
+column-at place j h l = cell-at columns (λ i k. getD (cells (rowAt i)) k no) (omega arith) placeTable tt place j l (omega arith)
 
 -- after the effect and the end stand the next places
-cell-at : (r : Row) (n : ℕ) → getD (cells r) (n + 2) no ≡ getD (r .next) n no
-cell-at r n = let k : n + 2 ≡ suc (suc n) = omega arith in ap (λ (i : ℕ). getD (cells r) i no) k
+next-cell : (r : Row) (n : ℕ) → getD (cells r) (n + 2) no ≡ getD (r .next) n no
+next-cell r n = let k : n + 2 ≡ suc (suc n) = omega arith in ap (λ (i : ℕ). getD (cells r) i no) k
 
 pub next-at : (place : ℕ) (class : Class) (n : ℕ) → place < placeCount → n ≡ classNumber class → n < 11 → getD placeTable (place * columns + (n + 2)) 0 ≡ nextPlace place class
-next-at place class n h e l = column-at place (n + 2) h (omega arith) ∙ cell-at (rowAt place) n ∙ ap (λ (i : ℕ). getD (rowAt place .next) i no) e
+next-at place class n h e l = column-at place (n + 2) h (omega arith) ∙ next-cell (rowAt place) n ∙ ap (λ (i : ℕ). getD (rowAt place .next) i no) e
 
 effect-back : (e : Effect) → effectFrom (effectNumber e) ≡ e
 effect-back nothing = refl

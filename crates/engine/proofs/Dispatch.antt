@@ -156,7 +156,7 @@ module _ {text lent stack table : List ℕ} {s : State} {t : Lexeme} {e : Engine
   ends-by finishes h f y = absurd y
   ends-by endsAndFinishes h f y = absurd y
 
-  -- an act behind `turnsTyped` that is not `closes` ends an address
+  -- an act after `turnsTyped` that is not `closes` ends an address
   pub turn-ends : actNumber turnsTyped < action / modeRoom → (action / modeRoom ≡ actNumber closes → ⊥) → EndsBy
   turn-ends h f = let n = entry-act a action (x .action-is) in ends-by (a .act) (omega arith) (λ e. f (n ∙ e)) (does levelLimit t s c)
 

@@ -170,11 +170,19 @@ counted n p q = ap (λ t. ifNamed t n) (sym p ∙ q)
 pub not-counted : {r named : Bool} (n : ℕ) → r ≡ false → r ≡ named → 0 ≡ ifNamed named n
 not-counted n p q = ap (λ t. ifNamed t n) (sym p ∙ q)
 
+-- "at" and "@" are one class
+at-twice : (t : Bool) → ifNamed t 18 ≡ ifNamed t 2 + ifNamed t 16
+at-twice true = refl
+at-twice false = refl
+
 -- what is summed; whether a word could stand is told by an atom
-pub sum-is : (s : State) {a b c d e f g h i : ℕ} → a ≡ ifNamed (takes levelLimit s Atom) 1 → b ≡ ifNamed (takes levelLimit s At) 2 → c ≡ ifNamed (takes levelLimit s LessThan) 4 → d ≡ ifNamed (takes levelLimit s GreaterThan) 8
-    → e ≡ ifNamed (takes levelLimit s At) 16 → f ≡ ifNamed (takes levelLimit s Comma) 32 → g ≡ ifNamed (takes levelLimit s Semicolon) 64 → h ≡ ifNamed (takes levelLimit s Colon) 128 → i ≡ ifNamed (isSome (finish s)) 256
-    → a + b + c + d + e + f + g + h + i ≡ sumOf (namedAt levelLimit s)
-sum-is s a b c d e f g h i = let w = a ∙ ap (λ t. ifNamed t 1) (word-by-atom levelLimit s) in rw (w, b, c, d, e, f, g, h, i) refl
+pub sum-is : (s : State) {a b c d e f g h : ℕ} → a ≡ ifNamed (takes levelLimit s Atom) 1 → b ≡ ifNamed (takes levelLimit s At) 18 → c ≡ ifNamed (takes levelLimit s LessThan) 4 → d ≡ ifNamed (takes levelLimit s GreaterThan) 8
+    → e ≡ ifNamed (takes levelLimit s Comma) 32 → f ≡ ifNamed (takes levelLimit s Semicolon) 64 → g ≡ ifNamed (takes levelLimit s Colon) 128 → h ≡ ifNamed (isSome (finish s)) 256
+    → a + b + c + d + e + f + g + h ≡ sumOf (namedAt levelLimit s)
+sum-is s a b c d e f g h =
+    let w = a ∙ ap (λ t. ifNamed t 1) (word-by-atom levelLimit s) in
+    let z = b ∙ at-twice (takes levelLimit s At) in
+    omega (arith, w, z)
 
 -- where the reader stands
 abbrev pub stands-at : {text lent table stack : List ℕ} {s : State} {e : Engine} → Stands text lent s e stack table → SomeStands stack e

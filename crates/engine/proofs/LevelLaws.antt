@@ -16,7 +16,7 @@ use Rattle.grammar.specs.Executable.Trees733.{Lexeme, Place, Address, typed}
 use Rattle.grammar.specs.Executable.Machine733.{Here, inList, inTyped, Level, top, inAngle, inGroup, asList, close, levelsHere, levelsAt}
 use Rattle.grammar.proofs.Rfc733.TreeRecords.{listCount, addressCount, addressRecords, addressRecord}
 use Rattle.grammar.proofs.RecordLaws.{stored-behind, stored-around}
-use Rattle.engine.specs.Ties.Actions.{behindAddress}
+use Rattle.engine.specs.Ties.Actions.{afterAddress}
 use Rattle.engine.specs.Ties.Stands.{modeOf, placeOf, numberHere, parentAt, parentHere, Entry, HoldsHere, HoldsLevel, storedHere, storedLevel}
 use Rattle.engine.specs.Ties.Turns.{kindAt, KindIs, OpenHere, LevelAt, Closing, Closed}
 
@@ -95,7 +95,7 @@ pub close-holds : (stack : List ℕ) (h : Here) (a : Address) → HoldsHere stac
 close-holds stack (inList k r) a x = x
 close-holds stack (inTyped h t y u) a x = close-holds stack h (typed t y u a) (x .1)
 
-pub close-mode : (h : Here) (a : Address) → modeOf (asList (close h a)) ≡ behindAddress
+pub close-mode : (h : Here) (a : Address) → modeOf (asList (close h a)) ≡ afterAddress
 close-mode (inList k r) a = refl
 close-mode (inTyped h t y u) a = close-mode h (typed t y u a)
 

@@ -6,9 +6,9 @@ use native.Mathlib.Omega.{arith}
 use Rattle.grammar.specs.Believed.Language.{unfit}
 use Rattle.grammar.specs.Executable.Machines.{go, stop}
 use Rattle.grammar.specs.Executable.Trees733.{Class, Atom, Quoted, At, LessThan, GreaterThan, Comma, Semicolon, Colon, Stray, Dot, Literal, Lexeme, Word, atomWord, quotedWord, Phrase, one, more, Nodes, first, next, Place, empty, comma, AddressList, idle, full, Address, mailbox, quoted}
-use Rattle.grammar.specs.Executable.Machine733.{Here, inList, inTyped, Level, top, inAngle, inGroup, State, list, phrase, firstAt, nextAt, node, want, close, enter, Began, fresh, phraseColon, stepOn, finish, wholeOf}
+use Rattle.grammar.specs.Executable.Machine733.{Here, inList, inTyped, Level, top, inAngle, inGroup, State, list, phrase, firstAt, nextAt, node, want, close, enter, Began, fresh, phraseColon, stepOn, finish, wholeOf, complete, onGreaterThan, onComma, onSemicolon}
 use Rattle.grammar.proofs.Rfc733.Complete.{begin}
-use Rattle.engine.specs.Ties.Actions.{Mode, atPlace, wanting, atWords, behindAddress, Act, refuses, begins, adds, passes, opens, opensNamed, turnsTyped, endsAtComma, closes, endsAndCloses, finishes, endsAndFinishes, Action, _then_, placeRow, wordsRow, rowOf, onClass, actionOf}
+use Rattle.engine.specs.Ties.Actions.{Mode, atPlace, wanting, atWords, Act, refuses, begins, adds, passes, opens, opensNamed, turnsTyped, endsAtComma, closes, endsAndCloses, finishes, endsAndFinishes, Action, _then_, placeRow, wordsRow, rowOf, onClass, actionOf, afterAddress}
 use Rattle.engine.specs.Ties.Stands.{placeMode, atomMode, modeOf}
 use Rattle.engine.specs.Ties.Turns.{isAngle, levelIf, endIf, Ended, lone, boxed}
 
@@ -60,7 +60,7 @@ pub record Opens (mode : Mode) (n : ℕ) (s : State) (c : Class) (t : Lexeme) : 
   pub steps : stepOn n s c t ≡ enter n (levelIf (isAngle c) here none t)
   pub mode-is : modeOf (list (levelIf (isAngle c) here none t) (idle empty)) ≡ mode
 
--- .. behind a name
+-- .. after a name
 pub record OpensNamed (mode : Mode) (n : ℕ) (s : State) (c : Class) (t : Lexeme) : Type 0 where
   pub here : Here
   pub name : Phrase
@@ -68,7 +68,7 @@ pub record OpensNamed (mode : Mode) (n : ℕ) (s : State) (c : Class) (t : Lexem
   pub steps : stepOn n s c t ≡ enter n (levelIf (isAngle c) here (some name) t)
   pub mode-is : modeOf (list (levelIf (isAngle c) here (some name) t) (idle empty)) ≡ mode
 
--- behind ":" and an atom: the nameless group that was opened turns typed, and no level is opened
+-- after ":" and an atom: the nameless group that was opened turns typed, and no level is opened
 pub record TurnsTyped (mode : Mode) (n : ℕ) (s : State) (c : Class) (t : Lexeme) : Type 0 where
   pub here : Here
   pub colon : Lexeme
@@ -91,7 +91,7 @@ pub record Closes (mode : Mode) (n : ℕ) (s : State) (c : Class) (t : Lexeme) :
   pub sofar : AddressList
   pub at : s ≡ list level sofar
   pub steps : stepOn n s c t ≡ endIf (isAngle c) level sofar t
-  pub mode-is : behindAddress ≡ mode
+  pub mode-is : afterAddress ≡ mode
 
 -- an address ends, with the typed addresses around it, and the level around them is closed, if the mark is its own
 pub record EndsAndCloses (mode : Mode) (n : ℕ) (s : State) (c : Class) (t : Lexeme) : Type 0 where
@@ -99,7 +99,7 @@ pub record EndsAndCloses (mode : Mode) (n : ℕ) (s : State) (c : Class) (t : Le
   pub address : Address
   pub ended : Ended s here address
   pub steps : stepOn n s c t ≡ endIf (isAngle c) (close here address .level) (close here address .sofar) t
-  pub mode-is : behindAddress ≡ mode
+  pub mode-is : afterAddress ≡ mode
 
 -- any act; the last two stand in no column of a class
 abbrev pub Does : Act → Mode → ℕ → State → Class → Lexeme → Type 0
@@ -134,7 +134,7 @@ place-row : (o : Option Began) → rowOf (placeMode o) ≡ placeRow (atomMode o)
 place-row none = refl
 place-row (some b) = refl
 
--- ":" behind one atom
+-- ":" after one atom
 abbrev colonOf : Option Began → Action
 colonOf none = opensNamed then atPlace
 colonOf (some b) = turnsTyped then wanting
@@ -157,19 +157,23 @@ module _ (n : ℕ) (t : Lexeme) where
   at-place k r o e Dot = refl
   at-place k r o e Literal = refl
 
-  at-atom : (h : Here) (a : Lexeme) (o : Option Began) → fresh h ≡ o → (c : Class) → DoesSo (onClass (wordsRow (colonOf o)) c) n (phrase h (one (atomWord a))) c t
-  at-atom h a o e Atom = record { here = h; sofar = one (atomWord a); word = atomWord t; at = refl; is = atomIs; steps = refl; mode-is = refl }
-  at-atom h a o e Quoted = record { here = h; sofar = one (atomWord a); word = quotedWord t; at = refl; is = quotedIs; steps = refl; mode-is = refl }
-  at-atom h a o e At = record { after = firstAt h (one (atomWord a)) t; keeps = toAt; steps = refl; mode-is = refl }
-  at-atom h a o e LessThan = record { here = h; name = one (atomWord a); at = refl; steps = refl; mode-is = refl }
-  at-atom h a o e GreaterThan = refl
-  at-atom h a o e Comma = refl
-  at-atom h a o e Semicolon = refl
-  at-atom h a none e Colon = record { here = h; name = one (atomWord a); at = refl; steps = ap (phraseColon n h (one (atomWord a)) t) e; mode-is = refl }
-  at-atom h a (some b) e Colon = record { here = b .here; colon = b .colon; atom = a; at = ap (λ g. phrase g (one (atomWord a))) (fresh-some h b e); steps = ap (phraseColon n h (one (atomWord a)) t) e; mode-is = refl }
-  at-atom h a o e Stray = refl
-  at-atom h a o e Dot = refl
-  at-atom h a o e Literal = refl
+  -- words that are no address yet
+  at-words : (h : Here) (p : Phrase) (colon : Action) → complete (phrase h p) ≡ none → DoesSo colon n (phrase h p) Colon t → (c : Class) → DoesSo (onClass (wordsRow colon) c) n (phrase h p) c t
+  at-words h p colon e d Atom = record { here = h; sofar = p; word = atomWord t; at = refl; is = atomIs; steps = refl; mode-is = refl }
+  at-words h p colon e d Quoted = record { here = h; sofar = p; word = quotedWord t; at = refl; is = quotedIs; steps = refl; mode-is = refl }
+  at-words h p colon e d At = record { after = firstAt h p t; keeps = toAt; steps = refl; mode-is = refl }
+  at-words h p colon e d LessThan = record { here = h; name = p; at = refl; steps = refl; mode-is = refl }
+  at-words h p colon e d GreaterThan = ap (λ o. onGreaterThan o t) e
+  at-words h p colon e d Comma = ap (λ o. onComma o t) e
+  at-words h p colon e d Semicolon = ap (λ o. onSemicolon o t) e
+  at-words h p colon e d Colon = d
+  at-words h p colon e d Stray = refl
+  at-words h p colon e d Dot = refl
+  at-words h p colon e d Literal = refl
+
+  at-colon : (h : Here) (a : Lexeme) (o : Option Began) → fresh h ≡ o → DoesSo (colonOf o) n (phrase h (one (atomWord a))) Colon t
+  at-colon h a none e = record { here = h; name = one (atomWord a); at = refl; steps = ap (phraseColon n h (one (atomWord a)) t) e; mode-is = refl }
+  at-colon h a (some b) e = record { here = b .here; colon = b .colon; atom = a; at = ap (λ g. phrase g (one (atomWord a))) (fresh-some h b e); steps = ap (phraseColon n h (one (atomWord a)) t) e; mode-is = refl }
 
   -- in each mode the machine does what the table says
   pub does : (s : State) (c : Class) → DoesSo (actionOf (modeOf s) c) n s c t
@@ -185,7 +189,7 @@ module _ (n : ℕ) (t : Lexeme) where
   does (list k (full r a)) Stray = refl
   does (list k (full r a)) Dot = refl
   does (list k (full r a)) Literal = refl
-  does (phrase h (one (atomWord a))) c = rw (atom-row (fresh h)) (at-atom h a (fresh h) refl c)
+  does (phrase h (one (atomWord a))) c = rw (atom-row (fresh h)) (at-words h (one (atomWord a)) (colonOf (fresh h)) refl (at-colon h a (fresh h) refl) c)
   does (phrase h (one (quotedWord q))) Atom = record { here = h; sofar = one (quotedWord q); word = atomWord t; at = refl; is = atomIs; steps = refl; mode-is = refl }
   does (phrase h (one (quotedWord q))) Quoted = record { here = h; sofar = one (quotedWord q); word = quotedWord t; at = refl; is = quotedIs; steps = refl; mode-is = refl }
   does (phrase h (one (quotedWord q))) At = record { after = firstAt h (one (quotedWord q)) t; keeps = toAt; steps = refl; mode-is = refl }
@@ -197,17 +201,7 @@ module _ (n : ℕ) (t : Lexeme) where
   does (phrase h (one (quotedWord q))) Stray = refl
   does (phrase h (one (quotedWord q))) Dot = refl
   does (phrase h (one (quotedWord q))) Literal = refl
-  does (phrase h (more p w)) Atom = record { here = h; sofar = more p w; word = atomWord t; at = refl; is = atomIs; steps = refl; mode-is = refl }
-  does (phrase h (more p w)) Quoted = record { here = h; sofar = more p w; word = quotedWord t; at = refl; is = quotedIs; steps = refl; mode-is = refl }
-  does (phrase h (more p w)) At = record { after = firstAt h (more p w) t; keeps = toAt; steps = refl; mode-is = refl }
-  does (phrase h (more p w)) LessThan = record { here = h; name = more p w; at = refl; steps = refl; mode-is = refl }
-  does (phrase h (more p w)) GreaterThan = refl
-  does (phrase h (more p w)) Comma = refl
-  does (phrase h (more p w)) Semicolon = refl
-  does (phrase h (more p w)) Colon = record { here = h; name = more p w; at = refl; steps = refl; mode-is = refl }
-  does (phrase h (more p w)) Stray = refl
-  does (phrase h (more p w)) Dot = refl
-  does (phrase h (more p w)) Literal = refl
+  does (phrase h (more p w)) c = at-words h (more p w) (opensNamed then atPlace) refl (record { here = h; name = more p w; at = refl; steps = refl; mode-is = refl }) c
   does (firstAt h p v) Atom = record { after = node h p (first v (atomWord t)); keeps = toNode Atom atomIs; steps = refl; mode-is = refl }
   does (firstAt h p v) Quoted = record { after = node h p (first v (quotedWord t)); keeps = toNode Quoted quotedIs; steps = refl; mode-is = refl }
   does (firstAt h p v) At = refl

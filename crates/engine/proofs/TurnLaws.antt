@@ -5,7 +5,7 @@ use mathlib.Core.Bool.{Bool, true, false}
 use mathlib.Core.List.{List, [], _∷_, append-nil}
 use mathlib.Core.Option.{Option}
 use native.Mathlib.Omega.{arith}
-use lib.ListN.{length, getD, length-set}
+use lib.ListN.{length, length-set}
 use lib.Seq.{sets}
 use Rattle.octets.specs.Believed.Numbers.{levelLimit, addressRecordSize, noListGoesOn, tooManyLevels}
 use Rattle.octets.specs.Believed.Text.{part}
@@ -19,7 +19,7 @@ use Rattle.grammar.specs.Executable.Machine733.{Here, inList, inTyped, Level, t
 use Rattle.grammar.proofs.Rfc733.Complete.{begin, enter-within, enter-beyond}
 use Rattle.grammar.proofs.Rfc733.TreeRecords.{listCount, addressCount, addressRecord, listRecords, nameStart, nameEnd, wordLexeme}
 use Rattle.grammar.proofs.RecordLaws.{stored-around}
-use Rattle.engine.specs.Ties.Actions.{modeNumber, behindAddress, atWords}
+use Rattle.engine.specs.Ties.Actions.{modeNumber, afterAddress, atWords}
 use Rattle.engine.specs.Ties.Stands.{modeOf, levelSize, placeOf, Ordered, numberHere, parentAt, parentHere, Entry, HoldsHere, HoldsLevel, storedHere, storedList, FirstAtom, NameIs, Stands}
 use Rattle.engine.specs.Ties.Turns.{kindIf, levelIf, endIf, loneKind, kindAt, KindIs, Ended, lone, boxed, OpenHere, LevelAt, Closing, Closed, Follows, GoesTo, StopsBy, Opening, AtClose, AtTyped}
 use Rattle.engine.specs.declared.Engine.{Engine}
@@ -60,7 +60,7 @@ passed e mode end = engineBy mode (e .depth) (e .free) (e .start) (e .name) end
 room-on : {text : List ℕ} {at : ℕ} {c : Class} {t : Lexeme} {start end : ℕ} → Follows text at c t start end → {n : ℕ} → n ≤ at → n ≤ end
 room-on f h = omega (arith, f .from, f .starts)
 
--- a symbol lies behind the last one
+-- a symbol lies after the last one
 module _ {text : List ℕ} {e : Engine} {c : Class} {t : Lexeme} {start end : ℕ} (f : Follows text (e .at) c t start end) where
   ordered-on : {stack : List ℕ} (mode a b : ℕ) → a ≤ end → b ≤ end → Ordered text e stack → Ordered text (engineBy mode (e .depth) (e .free) a b end) stack
   ordered-on mode a b p q x = record { start-low = p; name-low = q; inside = f .within; deep = x .deep; short = x .short; tall = x .tall }
@@ -357,7 +357,7 @@ module _ {text lent stack table : List ℕ} {t : Lexeme} {depth free kind next e
             (g ∙ ap (λ r. sets table (numberHere h * addressRecordSize) (recordBytes r)) (same-record level (levelsHere h) (parentHere h) refl q refl (x .end-is) refl refl));
       }
 
-  -- and the reader goes on behind it
+  -- and the reader goes on after it
   pub mark-closed : (b : Bool) (h : Here) (o : Option Phrase) (v : Lexeme) (l : AddressList) → AtClose text lent (levelIf b h o v) l t b depth free kind next end stack table
       → HoldsHere stack h → levelsHere h ≤ levelLimit → (left : ℕ) (after : List ℕ) → Closed lent (close h (addressIf b o v l t)) after left
       → GoesTo text lent (endIf b (levelIf b h o v) l t) end (engineBy next left free end end end) stack after
@@ -379,7 +379,7 @@ module _ {text lent stack table : List ℕ} {t : Lexeme} {depth free kind next e
         at-is = refl;
       }
 
--- ---- an address has ended, with the levels that it closes: "," behind it
+-- ---- an address has ended, with the levels that it closes: "," after it
 
 module _ {text lent stack table after : List ℕ} {e : Engine} {t : Lexeme} {start end left next : ℕ} (c : Class) (s : State) (h : Here) (a : Address)
     (x : Stands text lent s e stack table) (f : Follows text (e .at) c t start end) (g : Ended s h a) (d : Closed lent (close h a) after left) where
@@ -411,7 +411,7 @@ module _ {text lent stack table after : List ℕ} {e : Engine} {t : Lexeme} {sta
       }
 
   -- .. or a mark that closes a level
-  pub ended-close : {kind : ℕ} (b : Bool) → kind ≡ kindIf b → next ≡ modeNumber behindAddress
+  pub ended-close : {kind : ℕ} (b : Bool) → kind ≡ kindIf b → next ≡ modeNumber afterAddress
       → AtClose text lent (close h a .level) (close h a .sofar) t b left (e .free + 1) kind next end stack after
   ended-close b k m =
       let op = ended-open s h a x g in
@@ -431,9 +431,9 @@ module _ {text lent stack table after : List ℕ} {e : Engine} {t : Lexeme} {sta
         tall = x .ordered .tall;
       }
 
--- a mark behind a list
+-- a mark after a list
 pub list-close : {text lent stack table : List ℕ} {e : Engine} {t : Lexeme} {start end next kind : ℕ} (c : Class) (k : Level) (l : AddressList) → Stands text lent (list k l) e stack table → Follows text (e .at) c t start end
-    → (b : Bool) → kind ≡ kindIf b → next ≡ modeNumber behindAddress → AtClose text lent k l t b (e .depth) (e .free) kind next end stack table
+    → (b : Bool) → kind ≡ kindIf b → next ≡ modeNumber afterAddress → AtClose text lent k l t b (e .depth) (e .free) kind next end stack table
 list-close c k l x f b q m =
     record {
       depth-is = x .depth-is;

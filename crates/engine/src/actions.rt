@@ -1,7 +1,7 @@
-// The table of modes and classes: what is done at a symbol, and the mode behind it.
+// The table of modes and classes: what is done at a symbol, and the mode after it.
 
-// A row for each mode: at a place of a list; right behind the ":" of a nameless group; behind one atom there; behind the two
-// colons of a typed address; one atom; one quoted-string; more words; behind "at"; behind a node; behind another address.
+// A row for each mode: at a place of a list; right after the ":" of a nameless group; after one atom there; after the two
+// colons of a typed address; one atom; one quoted-string; more words; after "at"; after a node; after another address.
 // The columns: atom, quoted-string, "at", "<", ">", ",", ";", ":", any other, a dot and a domain literal, which
 // RFC 733 has not, the end of the text.
 pub const ACTIONS: [u8; TABLE_SIZE] = [
@@ -135,7 +135,7 @@ pub const COLUMNS: usize = 12;
 pub const END: usize = 11;
 // An entry is this many times its act, plus the next mode.
 pub const MODE_ROOM: u8 = 16;
-// The mode behind one quoted-string.
+// The mode after one quoted-string.
 pub const QUOTED: u8 = 5;
 
 // The acts: the symbol is refused.

@@ -34,7 +34,6 @@ use crate::actions::REFUSES;
 use crate::actions::TABLE_SIZE;
 use crate::actions::TURNS_TYPED;
 use crate::things::AT;
-use crate::things::AT_SIGN;
 use crate::things::BODY_END;
 use crate::things::COLON;
 use crate::things::COMMA;
@@ -537,10 +536,8 @@ fn read_twice(
             if table.len() / ADDRESS_RECORD_SIZE < count {
                 return Answer::NoRoom(count);
             }
-            match read_whole(classes, actions, text, table, at) {
-                Whole::Refused(number, place) => Answer::Refused(number, place),
-                Whole::Listed(written) => Answer::Accepted(written),
-            }
+            read_whole(classes, actions, text, table, at);
+            Answer::Accepted(count)
         }
     }
 }
@@ -678,7 +675,6 @@ fn expected_here(stack: &[u32; STACK_SIZE], actions: &[u8; TABLE_SIZE], engine: 
         + if_could(stack, actions, engine, Class::At, AT)
         + if_could(stack, actions, engine, Class::LessThan, LESS_THAN)
         + if_could(stack, actions, engine, Class::GreaterThan, GREATER_THAN)
-        + if_could(stack, actions, engine, Class::At, AT_SIGN)
         + if_could(stack, actions, engine, Class::Comma, COMMA)
         + if_could(stack, actions, engine, Class::Semicolon, SEMICOLON)
         + if_could(stack, actions, engine, Class::Colon, COLON)

@@ -1,13 +1,11 @@
 // What could stand next, as numbers that are summed: a word,
 pub const WORD: usize = 1;
-// "at",
-pub const AT: usize = 2;
+// "at" and "@", which are one class,
+pub const AT: usize = 2 + 16;
 // "<",
 pub const LESS_THAN: usize = 4;
 // ">",
 pub const GREATER_THAN: usize = 8;
-// "@",
-pub const AT_SIGN: usize = 16;
 // ",",
 pub const COMMA: usize = 32;
 // ";",

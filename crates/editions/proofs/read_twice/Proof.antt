@@ -1,6 +1,6 @@
 -- `editions::read_twice` meets its contract: the first run settles the answer, and only the second writes. Assumes nothing.
 use Rattle.octets.proofs.Parts.{no-front}
-use Rattle.addresses.proofs.AnyEdition.{twice-refused, twice-no-room, twice-accepted, twice-never}
+use Rattle.addresses.proofs.AnyEdition.{twice-refused, twice-no-room, twice-written}
 use borrow.Author.Needs.{needs}
 use Rattle.editions.proofs.read_twice.Statement.{statement}
 use Rattle.editions.proofs.read_twice.Tie as tie
@@ -31,12 +31,6 @@ returns c =
 read-whole-requires-2 : tie.Need-read-whole-requires-2
 read-whole-requires-2 c κs = search needs
 
-enum-known-number-2 : tie.Need-enum-known-number-2
-enum-known-number-2 c = search needs
-
-enum-known-written : tie.Need-enum-known-written
-enum-known-written c = search needs
-
 same-length-2 : tie.Need-same-length-2
 same-length-2 c = search needs
 
@@ -49,16 +43,11 @@ same-length-3 : tie.Need-same-length-3
 same-length-3 c = search needs
 
 returns-3 : tie.Need-returns-3
-returns-3 c = twice-never _ _ _ (c .before .before .before .before .before .before .before .before .before .before .before .before .before .before .before .before .before .args .table .now) (rw (c .before .before .before .before .before .before .before .before .before .count .given .1) at (c .before .before .before .before .before .before .before .before .before .before .before .before .before .read-whole .ensures)) (rw (c .before .number2 .given .1) at (c .before .before .before .before .before .read-whole2 .ensures))
-
-same-length-4 : tie.Need-same-length-4
-same-length-4 c = search needs
-
-returns-4 : tie.Need-returns-4
-returns-4 c =
-    let u = no-front (c .before .before .before .before .before .before .before .before .before .before .before .before .before .read-whole .last .1 .1 .1 .0) (c .before .before .before .before .before .before .before .before .before .before .before .before .before .before .before .before .before .args .table .now) (c .before .before .before .before .before .before .before .before .before .before .before .before .before .read-whole .kept .1 .1 .1 .0) in
-    twice-accepted _ _ _ (c .before .before .before .before .before .before .before .before .before .before .before .before .before .before .before .before .before .args .table .now) (rw (c .before .before .before .before .before .before .before .before .before .count .given .1) at (c .before .before .before .before .before .before .before .before .before .before .before .before .before .read-whole .ensures)) (rw u at (c .before .before .before .before .before .before .before .if1 .left))
-    (rw u at (rw (c .before .written .given .1) at (c .before .before .before .before .before .read-whole2 .ensures)))
+returns-3 c =
+    let first = c .before .before .before .before .before .before .before .before .before .before in
+    let table = first .before .before .before .before .args .table .now in
+    let u = no-front (first .read-whole .last .1 .1 .1 .0) table (first .read-whole .kept .1 .1 .1 .0) in
+    twice-written _ _ _ table _ (rw (c .before .before .before .before .before .before .count .given .1) at (first .read-whole .ensures)) (rw u at (c .before .before .before .before .if1 .left)) (c .before .before .read-whole2 .result) (rw u at (c .before .before .read-whole2 .ensures))
 
 pub read-twice-spec : {M : Type 1} → statement M
 read-twice-spec =
@@ -72,11 +61,7 @@ read-twice-spec =
     same-length
     returns
     read-whole-requires-2
-    enum-known-number-2
-    enum-known-written
     same-length-2
     returns-2
     same-length-3
-    returns-3
-    same-length-4
-    returns-4)
+    returns-3)

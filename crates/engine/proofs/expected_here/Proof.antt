@@ -43,25 +43,18 @@ if-could-requires-7 c κs = search needs
 add-result-6 : tie.Need-add-result-6
 add-result-6 c = search needs
 
-if-could-requires-8 : tie.Need-if-could-requires-8
-if-could-requires-8 c κs = search needs
-
 add-result-7 : tie.Need-add-result-7
 add-result-7 c = search needs
 
 if-could-end-requires : tie.Need-if-could-end-requires
 if-could-end-requires c κs = search needs
 
-add-result-8 : tie.Need-add-result-8
-add-result-8 c = search needs
-
 returns : tie.Need-returns
 returns c =
     λ x.
     let p = c .before .before .before .before in
-    let q = p .before .before .before .before in
-    sum-is (x .state) (q .if-could .ensures .1 x) (p .before .before .before .if-could2 .ensures .1 x) (p .before .before .if-could3 .ensures .1 x) (p .before .if-could4 .ensures .1 x) (p .if-could5 .ensures .1 x)
-    (c .before .before .before .if-could6 .ensures .1 x) (c .before .before .if-could7 .ensures .1 x) (c .before .if-could8 .ensures .1 x) (c .if-could-end .ensures .1 x)
+    sum-is (x .state) (p .before .before .before .if-could .ensures .1 x) (p .before .before .if-could2 .ensures .1 x) (p .before .if-could3 .ensures .1 x) (p .if-could4 .ensures .1 x)
+    (c .before .before .before .if-could5 .ensures .1 x) (c .before .before .if-could6 .ensures .1 x) (c .before .if-could7 .ensures .1 x) (c .if-could-end .ensures .1 x)
 
 pub expected-here-spec : {M : Type 1} → statement M
 expected-here-spec =
@@ -80,8 +73,6 @@ expected-here-spec =
     add-result-5
     if-could-requires-7
     add-result-6
-    if-could-requires-8
-    add-result-7
     if-could-end-requires
-    add-result-8
+    add-result-7
     returns)

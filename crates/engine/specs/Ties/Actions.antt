@@ -8,10 +8,10 @@ use Rattle.scanner.specs.declared.Class.the-variants.{Atom, Quoted, At, LessTha
 
 -- ---- modes
 
--- at a place of a list; right behind the ":" of a nameless group; behind one atom there; behind the two colons of a typed address;
--- behind one atom; behind one quoted-string; behind more words; behind "at"; behind a node; behind another address
+-- at a place of a list; right after the ":" of a nameless group; after one atom there; after the two colons of a typed address;
+-- after one atom; after one quoted-string; after more words; after "at"; after a node; after another address
 pub data Mode : Type 0 where
-  atPlace atStart atFirstAtom wanting atAtom atQuoted atWords behindAt atNode behindAddress : Mode
+  atPlace atStart atFirstAtom wanting atAtom atQuoted atWords afterAt atNode afterAddress : Mode
 
 -- the row of a mode
 abbrev pub modeNumber : Mode → ℕ
@@ -22,9 +22,9 @@ modeNumber wanting = 3
 modeNumber atAtom = 4
 modeNumber atQuoted = 5
 modeNumber atWords = 6
-modeNumber behindAt = 7
+modeNumber afterAt = 7
 modeNumber atNode = 8
-modeNumber behindAddress = 9
+modeNumber afterAddress = 9
 
 -- ---- what is done
 
@@ -92,7 +92,7 @@ phraseRow colon close comma end =
     record {
       atom = adds then atWords;
       quoted = adds then atWords;
-      at = passes then behindAt;
+      at = passes then afterAt;
       less = opensNamed then atPlace;
       greater = close;
       comma = comma;
@@ -125,9 +125,9 @@ markRow at close comma end =
 
 -- a place of a list, where an atom begins an address in this mode
 abbrev pub placeRow : Mode → Row
-placeRow mode = beginRow mode (closes then behindAddress) (passes then atPlace) (finishes then atPlace)
+placeRow mode = beginRow mode (closes then afterAddress) (passes then atPlace) (finishes then atPlace)
 
--- words that are no address yet, behind which ":" does this
+-- words that are no address yet, after which ":" does this
 abbrev pub wordsRow : Action → Row
 wordsRow colon = phraseRow colon no no no
 
@@ -138,9 +138,9 @@ rowOf atStart = placeRow atFirstAtom
 rowOf atFirstAtom = wordsRow (turnsTyped then wanting)
 rowOf wanting = beginRow atAtom no no no
 rowOf atAtom = wordsRow (opensNamed then atPlace)
-rowOf atQuoted = phraseRow (opensNamed then atPlace) (endsAndCloses then behindAddress) (endsAtComma then atPlace) (endsAndFinishes then atPlace)
+rowOf atQuoted = phraseRow (opensNamed then atPlace) (endsAndCloses then afterAddress) (endsAtComma then atPlace) (endsAndFinishes then atPlace)
 rowOf atWords = wordsRow (opensNamed then atPlace)
-rowOf behindAt =
+rowOf afterAt =
     record {
       atom = passes then atNode;
       quoted = passes then atNode;
@@ -153,8 +153,8 @@ rowOf behindAt =
       stray = no;
       end = no;
     }
-rowOf atNode = markRow (passes then behindAt) (endsAndCloses then behindAddress) (endsAtComma then atPlace) (endsAndFinishes then atPlace)
-rowOf behindAddress = markRow no (closes then behindAddress) (passes then atPlace) (finishes then atPlace)
+rowOf atNode = markRow (passes then afterAt) (endsAndCloses then afterAddress) (endsAtComma then atPlace) (endsAndFinishes then atPlace)
+rowOf afterAddress = markRow no (closes then afterAddress) (passes then atPlace) (finishes then atPlace)
 
 -- the column of each class
 abbrev pub onClass : Row → Class → Action
@@ -193,7 +193,7 @@ modeCount = 10
 
 -- .. in order
 abbrev pub modes : List Mode
-modes = atPlace ∷ atStart ∷ atFirstAtom ∷ wanting ∷ atAtom ∷ atQuoted ∷ atWords ∷ behindAt ∷ atNode ∷ behindAddress ∷ []
+modes = atPlace ∷ atStart ∷ atFirstAtom ∷ wanting ∷ atAtom ∷ atQuoted ∷ atWords ∷ afterAt ∷ atNode ∷ afterAddress ∷ []
 
 -- the entries of these actions
 abbrev pub entries : List Action → List ℕ

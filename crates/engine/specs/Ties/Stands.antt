@@ -13,7 +13,7 @@ use Rattle.grammar.specs.Believed.Rfc733.{kindNumber, typedKind, angleList, gro
 use Rattle.grammar.specs.Executable.Trees733.{Lexeme, Phrase, one, more, atomWord, quotedWord, idle, full, AddressList, Address}
 use Rattle.grammar.specs.Executable.Machine733.{Here, inList, inTyped, Level, top, inAngle, inGroup, State, list, phrase, firstAt, nextAt, node, want, levelsHere, levelsAt, fresh, Began}
 use Rattle.grammar.proofs.Rfc733.TreeRecords.{placeCount, listCount, placeRecords, listRecords, addressRecords, phraseStart, phraseEnd, nodesEnd, nameStart, nameEnd}
-use Rattle.engine.specs.Ties.Actions.{Mode, atPlace, atStart, atFirstAtom, wanting, atAtom, atQuoted, atWords, behindAt, atNode, behindAddress, modeNumber}
+use Rattle.engine.specs.Ties.Actions.{Mode, atPlace, atStart, atFirstAtom, wanting, atAtom, atQuoted, atWords, atNode, modeNumber, afterAt, afterAddress}
 use Rattle.engine.specs.declared.Engine.{Engine}
 
 -- ---- the mode
@@ -23,7 +23,7 @@ abbrev pub placeMode : Option Began → Mode
 placeMode none = atPlace
 placeMode (some b) = atStart
 
--- behind an atom there
+-- after an atom there
 abbrev pub atomMode : Option Began → Mode
 atomMode none = atAtom
 atomMode (some b) = atFirstAtom
@@ -31,12 +31,12 @@ atomMode (some b) = atFirstAtom
 -- the mode of a state of the machine
 abbrev pub modeOf : State → Mode
 modeOf (list k (idle r)) = placeMode (fresh (inList k r))
-modeOf (list k (full r a)) = behindAddress
+modeOf (list k (full r a)) = afterAddress
 modeOf (phrase h (one (atomWord t))) = atomMode (fresh h)
 modeOf (phrase h (one (quotedWord t))) = atQuoted
 modeOf (phrase h (more p w)) = atWords
-modeOf (firstAt h p t) = behindAt
-modeOf (nextAt h p m t) = behindAt
+modeOf (firstAt h p t) = afterAt
+modeOf (nextAt h p m t) = afterAt
 modeOf (node h p m) = atNode
 modeOf (want h t a u) = wanting
 

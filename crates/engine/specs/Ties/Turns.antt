@@ -21,7 +21,7 @@ use Rattle.grammar.specs.Executable.Trees733.{oneOf, Lexeme, Phrase, one, atomW
 use Rattle.grammar.specs.Executable.Trees733 as trees
 use Rattle.grammar.specs.Executable.Machine733.{Here, inList, Level, inAngle, inGroup, State, list, phrase, node, want, Spot, close, enter, endAngle, endGroup, levelsHere, levelsAt, stepOn, finish}
 use Rattle.grammar.proofs.Rfc733.TreeRecords.{listCount, listRecords, addressEnd, nameStart, nameEnd}
-use Rattle.engine.specs.Ties.Actions.{modeNumber, behindAddress, wanting, atQuoted, refuses, opens, turnsTyped, actNumber, modeRoom, entry, rowOf, actionOf}
+use Rattle.engine.specs.Ties.Actions.{modeNumber, wanting, atQuoted, refuses, opens, turnsTyped, actNumber, modeRoom, entry, rowOf, actionOf, afterAddress}
 use Rattle.engine.specs.Ties.Stands.{modeOf, stackSize, placeOf, numberHere, parentAt, parentHere, Entry, HoldsHere, HoldsLevel, storedHere, storedList, storedAddress, Stands}
 use Rattle.engine.specs.declared.Engine.{Engine}
 use Rattle.grammar.specs.declared.Whole.{Whole}
@@ -141,7 +141,7 @@ CompleteIs stack table after e r =
 
 -- ---- turns
 
--- a symbol of a class stands from start to end, behind this position
+-- a symbol of a class stands from start to end, after this position
 pub record Follows (text : List ℕ) (at : ℕ) (c : Class) (t : Lexeme) (start end : ℕ) : Type 0 where
   pub start-is : start ≡ t .start
   pub end-is : end ≡ t .end
@@ -204,7 +204,7 @@ pub record AtClose (text lent : List ℕ) (k : Level) (l : AddressList) (t : Lex
   pub holds : HoldsLevel stack k
   pub stored : table ≡ storedList lent k l
   pub kind-is : kind ≡ kindIf angle
-  pub next-is : next ≡ modeNumber behindAddress
+  pub next-is : next ≡ modeNumber afterAddress
   pub end-is : end ≡ t .end
   pub room : free ≤ end
   pub within : end ≤ length text
