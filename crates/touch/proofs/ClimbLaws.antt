@@ -16,8 +16,8 @@ use Rattle.touch.specs.Ties.Climbing.{Holds, MayClimb}
 
 -- ---- whether a record covers a place
 
-pub begins-behind : (place : ℕ) {r s : AddressRecord} → r ≡ s → place < r .start → false ≡ covers place s
-begins-behind place {r} e h = rw (lt-leb (r .start) place h) refl ∙ ap (covers place) e
+pub begins-after : (place : ℕ) {r s : AddressRecord} → r ≡ s → place < r .start → false ≡ covers place s
+begins-after place {r} e h = rw (lt-leb (r .start) place h) refl ∙ ap (covers place) e
 
 pub begins-before : (place : ℕ) {r s : AddressRecord} → r ≡ s → r .start ≤ place → ltb place (r .end) ≡ covers place s
 begins-before place {r} e h = rw (le-leb (r .start) place h) refl ∙ ap (covers place) e

@@ -12,7 +12,7 @@ use Rattle.grammar.proofs.Rfc733.Trees.{wordSymbol, phraseThen, nameThen, nodes
 use Rattle.grammar.proofs.Rfc733.Derivations.{tree-derived}
 use Rattle.touch.specs.Believed.EveryByte.{EveryByte}
 
--- ---- a place in a symbol that fits no rule lies behind every tree
+-- ---- a place in a symbol that fits no rule lies after every tree
 
 module _ {place : ℕ} where
   past : {c : Class} {t : Lexeme} {xs : List Sym} → classNumber c < classNumber Stray → InStray place (of c t ∷ xs) → InStray place xs

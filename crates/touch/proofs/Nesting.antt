@@ -17,7 +17,7 @@ use Rattle.grammar.proofs.Rfc733.Order.{phrase-lies, nodes-lies, name-lies}
 
 -- ---- records that lie in each other
 
--- a record, those that lie in it, and those behind
+-- a record, those that lie in it, and those after
 pub data Nest : Type 0 where
   nil : Nest
   node : AddressRecord → Nest → Nest → Nest

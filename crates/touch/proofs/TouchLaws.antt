@@ -178,8 +178,8 @@ module _ (message : List ℕ) (start end place : ℕ) (path : List ℕ) where
     pub before-body : place < start → ofList message start end place path k ≡ refusal path bodyOutOfOrder 0
     before-body l = rw (in-room, lt-leb start place l)
 
-    pub behind-body : start ≤ place → end ≤ place → ofList message start end place path k ≡ refusal path bodyOutOfOrder 0
-    behind-body l m = rw (in-room, le-leb start place l, le-ltb place end m)
+    pub after-body : start ≤ place → end ≤ place → ofList message start end place path k ≡ refusal path bodyOutOfOrder 0
+    after-body l m = rw (in-room, le-leb start place l, le-ltb place end m)
 
     pub in-the-body : start ≤ place → place < end → ofList message start end place path k ≡ byteOf message start end place path k
     in-the-body l m = rw (in-room, le-leb start place l, lt-ltb place end m)

@@ -154,7 +154,7 @@ fn last_around(table: &[u8], many: usize, place: usize) -> usize
 }
 
 // Put the record numbers from a parent (its number plus 1, or 0) to the outermost into the path from a position of it on: the
-// position behind them.
+// position after them.
 fn climb(table: &[u8], parent: usize, path: &mut [u64], at: usize) -> usize
     requires { ⌜ MayClimb (now table) parent at ⌝ }
     ensures { λ r. ⌜ ClimbIs (now (table .entry)) parent at (now (path .entry)) (now (path .exit)) r ⌝ }

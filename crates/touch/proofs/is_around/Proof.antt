@@ -1,6 +1,6 @@
 -- `touch::is_around` meets its contract. Assumes nothing.
 use native.Mathlib.Omega.{arith}
-use Rattle.touch.proofs.ClimbLaws.{begins-behind, begins-before}
+use Rattle.touch.proofs.ClimbLaws.{begins-after, begins-before}
 use borrow.Author.Needs.{needs}
 use Rattle.touch.proofs.is_around.Statement.{statement}
 use Rattle.touch.proofs.is_around.Tie as tie
@@ -9,7 +9,7 @@ load-record-requires : tie.Need-load-record-requires
 load-record-requires c κs = search needs
 
 returns : tie.Need-returns
-returns c = begins-behind (c .before .before .before .before .args .place) (c .before .before .load-record .ensures) (omega arith)
+returns c = begins-after (c .before .before .before .before .args .place) (c .before .before .load-record .ensures) (omega arith)
 
 returns-2 : tie.Need-returns-2
 returns-2 c = begins-before (c .before .before .before .before .before .args .place) (c .before .before .before .load-record .ensures) (omega arith)

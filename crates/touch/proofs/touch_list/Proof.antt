@@ -1,7 +1,7 @@
 -- `touch::touch_list` meets its contract. Assumes nothing.
 use native.Mathlib.Omega.{arith}
 use Rattle.grammar.specs.Believed.Records.{records}
-use Rattle.touch.proofs.TouchLaws.{parts, before-body, behind-body, byte-told}
+use Rattle.touch.proofs.TouchLaws.{parts, before-body, after-body, byte-told}
 use borrow.Author.Needs.{needs}
 use Rattle.touch.proofs.touch_list.Statement.{statement}
 use Rattle.touch.proofs.touch_list.Tie as tie
@@ -14,7 +14,7 @@ returns c =
 returns-2 : tie.Need-returns-2
 returns-2 c =
     let a = c .before .before .before .before .before .args in
-    λ k h. parts (behind-body (a .message .now) (a .start) (a .end) (a .place) (a .path .now) h (omega arith) (omega arith))
+    λ k h. parts (after-body (a .message .now) (a .start) (a .end) (a .place) (a .path .now) h (omega arith) (omega arith))
 
 last-around-requires : tie.Need-last-around-requires
 last-around-requires c κs = search needs

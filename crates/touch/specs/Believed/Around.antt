@@ -9,7 +9,7 @@ use Rattle.grammar.specs.Believed.Records.{AddressRecord, noRecord}
 
 -- ---- the records that cover a byte
 
--- the start of a record is at or before a place, and its end is behind it
+-- the start of a record is at or before a place, and its end is after it
 abbrev pub covers : ℕ → AddressRecord → Bool
 covers place r = both (leb (r .start) place) (ltb place (r .end))
 

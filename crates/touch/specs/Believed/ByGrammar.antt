@@ -18,7 +18,7 @@ use Rattle.expected.specs.Believed.Things.{Thing, Exactly, sumOf}
 use Rattle.touch.specs.Believed.Answers.{told, ofList}
 use Rattle.touch.specs.declared.Touched.{Touched}
 
--- refused with 8, 9 or 10 at the very place that condition 3 gives, behind the symbols `before`; and things are named, each of them
+-- refused with 8, 9 or 10 at the very place that condition 3 gives, after the symbols `before`; and things are named, each of them
 -- exactly if some list of at most 64 levels goes on, or ends, with it there
 pub record NamedThere (symbols : List (Symbol Class)) (end : ℕ) (r : Touched) : Type 0 where
   pub why : Refusal

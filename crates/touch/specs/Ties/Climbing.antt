@@ -23,7 +23,7 @@ pub record Holds (table : List ℕ) (many : ℕ) (rs : List AddressRecord) : Typ
 abbrev pub LastAroundIs : List ℕ → ℕ → ℕ → ℕ → Type 0
 LastAroundIs table many place r = (rs : List AddressRecord) → Holds table many rs → r ≡ firstPlus (around place rs)
 
--- some records are held, and climbing starts at one of them, so many steps behind the first
+-- some records are held, and climbing starts at one of them, so many steps after the first
 pub record MayClimb (table : List ℕ) (parent at : ℕ) : Type 0 where
   pub many : ℕ
   pub rs : List AddressRecord
