@@ -8,11 +8,11 @@ use Prim.Native.Nat.{ℕ, _+_, _*_, _-_}
 use native.Mathlib.Omega.{arith}
 use lib.ListN.{length}
 use lib.Seq.{sets}
-use Rattle.octets.specs.Believed.Numbers.{noListGoesOn}
+use Rattle.octets.specs.Believed.Numbers.{noListGoesOn, levelLimit}
+use Rattle.records.specs.Believed.AddressRecords.{recordBy, recordBytes, addressRecordSize}
 use Rattle.scanner.specs.declared.Next.{Next}
 use Rattle.scanner.specs.declared.Next.the-variants.{Found, Ended, Fault}
 use Rattle.grammar.specs.Believed.Language.{unfit, unfinished, refused, number}
-use Rattle.grammar.specs.Believed.Records.{recordBy, recordBytes}
 use Rattle.grammar.specs.Executable.Trees733.{Class, At, GreaterThan, Comma, Semicolon, Lexeme, Sym, of, atomWord, quotedWord, Phrase, one, more, mailbox, quoted}
 use Rattle.grammar.proofs.Rfc733.Trees.{phraseThen}
 use Rattle.addresses.proofs.ClassCases.{beginsNone}
@@ -22,7 +22,7 @@ use Rattle.grammar.proofs.Symbols.{each-of, each-other}
 use Rattle.grammar.proofs.Rfc733.Readers.{AddressEnds, endsAddress, at-unfit}
 use Rattle.addresses.specs.Ties.Steps.{endsAddressNext, refusedNext, loneQuoted, symbolsFrom, lexemeAt, symbolsAhead, Ahead, NodesEnd, Stops, NodesContext, AddressRead, AddressStops, AddressIs, Opened, Named, NoMark, followsPhrase, Lone}
 use Rattle.addresses.specs.declared.Frame.{Frame}
-use Rattle.grammar.specs.declared.Span.{Span}
+use Rattle.records.specs.declared.Span.{Span}
 
 -- what ends an address, of what comes next
 pub ends-next : (classes text : List ℕ) (low : ℕ) (ahead : Next) → Ahead classes text low ahead → endsAddressNext ahead ≡ true → AddressEnds (symbolsAhead classes text ahead)
@@ -34,7 +34,7 @@ module _ (classes text : List ℕ) where
   -- ---- a mailbox
 
   pub mailbox-read : {xs : List Sym} {p : Phrase} {a b last : ℕ} {span : Span} {frame : Frame} (table after : List ℕ) (ahead : Next) → Named classes text xs span p (Found At a b) → NodesEnd classes text a b ahead last
-      → Opened classes text a b span frame → after ≡ sets table (frame .number * 12) (recordBytes (recordBy 1 (64 - frame .levels) (frame .parent) (span .start) last (span .start) (span .end)))
+      → Opened classes text a b span frame → after ≡ sets table (frame .number * addressRecordSize) (recordBytes (recordBy 1 (levelLimit - frame .levels) (frame .parent) (span .start) last (span .start) (span .end)))
       → AddressRead classes text xs frame (span .start) table after ahead last (frame .number + 1)
   mailbox-read {xs} {p} {a} {b} {last} {span} {frame} table after ahead n m o e =
       record {
@@ -65,7 +65,7 @@ module _ (classes text : List ℕ) where
   -- ---- one quoted-string alone
 
   pub lone-read : {xs : List Sym} (p : Phrase) {span : Span} {frame : Frame} (table after : List ℕ) (ahead : Next) → Named classes text xs span p ahead → loneQuoted p ≡ true → endsAddressNext ahead ≡ true → Lone classes text ahead span frame
-      → after ≡ sets table (frame .number * 12) (recordBytes (recordBy 4 (64 - frame .levels) (frame .parent) (span .start) (span .end) (span .start) (span .end)))
+      → after ≡ sets table (frame .number * addressRecordSize) (recordBytes (recordBy 4 (levelLimit - frame .levels) (frame .parent) (span .start) (span .end) (span .start) (span .end)))
       → AddressRead classes text xs frame (span .start) table after ahead (span .end) (frame .number + 1)
   lone-read (one (atomWord t)) table after ahead n q z o e = absurd (true≢false (sym q))
   lone-read {xs} (one (quotedWord t)) {span} {frame} table after ahead n q z o e =

@@ -6,7 +6,7 @@ use native.Mathlib.Omega.{arith}
 use borrow.Author.Tests.{lt-ltb, le-ltb}
 use lib.ListN.{length, take}
 use lib.Seq.{sets, length-take-le}
-use Rattle.octets.specs.Believed.Numbers.{messageLimit, levelLimit, addressRecordSize, accepted as number-accepted, tooLittleRoom}
+use Rattle.octets.specs.Believed.Numbers.{messageLimit, levelLimit, accepted as number-accepted, tooLittleRoom}
 use Rattle.octets.specs.Believed.Answers.{telling}
 use Rattle.octets.specs.Believed.Stored.{roomFor}
 use Rattle.octets.specs.declared.answers.Answer.{Answer}
@@ -18,11 +18,12 @@ use Rattle.scanner.specs.declared.Class.{Class}
 use Rattle.scanner.proofs.BodyChecks.{in-order, unless-none}
 use Rattle.grammar.specs.Believed.Grammar.{Row}
 use Rattle.grammar.specs.Believed.Language.{Verdict, accepted, refused}
-use Rattle.grammar.specs.Believed.Records.{count, records, tableBytes}
+use Rattle.grammar.specs.Believed.Records.{count, records}
 use Rattle.grammar.specs.Executable.{Decides}
 use Rattle.grammar.proofs.Any.Reader.{answer-accepts, answer-derives}
 use Rattle.addresses.specs.Believed.Editions.{Edition}
 use Rattle.octets.proofs.AnswerLaws.{answered}
+use Rattle.records.specs.Believed.AddressRecords.{addressRecordSize, tableBytes}
 use Rattle.addresses.specs.Believed.Editions.{symbolsIn}
 use Rattle.addresses.specs.Believed.Outcome.{Outcome, AnsweredBy, refusal, derived, byVerdict, decided, readIn, outcomeIn}
 use Rattle.addresses.specs.Believed.Condition3.{IsListIn, Settled, Condition3In}

@@ -7,12 +7,13 @@ use Prim.Native.Nat.{ℕ, suc, _+_, _*_, _-_, _≤_, _<_}
 use native.Mathlib.Omega.{arith}
 use lib.ListN.{length}
 use lib.Seq.{sets}
-use Rattle.octets.specs.Believed.Numbers.{tooManyLevels}
+use Rattle.octets.specs.Believed.Numbers.{tooManyLevels, levelLimit}
 use Rattle.octets.specs.Believed.Text.{part}
+use Rattle.records.specs.Believed.AddressRecords.{AddressRecord, recordBy, recordBytes, tableBytes, addressRecordSize, addressLayout}
+use Rattle.records.proofs.TableLaws.{stored-in-front}
 use Rattle.scanner.specs.declared.Next.{Next}
 use Rattle.scanner.specs.declared.Next.the-variants.{Found, Ended, Fault}
 use Rattle.grammar.specs.Believed.Language.{unfit, unfinished, tooDeep, refused, number}
-use Rattle.grammar.specs.Believed.Records.{AddressRecord, recordBy, recordBytes, tableBytes}
 use Rattle.grammar.specs.Believed.Rfc733.{sameClass, kindNumber, typedKind}
 use Rattle.grammar.proofs.Symbols.{same-class, each-of}
 use Rattle.grammar.specs.Executable.Trees733.{Class, Atom, GreaterThan, Semicolon, Colon, Lexeme, Sym, of, Phrase, AddressList, empty, idle, angle, group, typed}
@@ -21,10 +22,9 @@ use Rattle.grammar.specs.Executable.Machine733.{Here, inTyped, inAngle, inGroup
 use Rattle.grammar.proofs.Rfc733.Complete.{begin, doneAddress, doneList, Clear, complete-doneList, run-angle, run-group}
 use Rattle.grammar.proofs.Rfc733.Readers.{ListEnds, endsAddress, endsList, deep-angle, deep-group, closed-unfit, clear-colon, run-typed}
 use Rattle.grammar.proofs.Rfc733.TreeRecords.{nameStart, nameEnd, addressEnd, addressRecords, listRecords}
-use Rattle.grammar.proofs.RecordLaws.{stored-around}
 use Rattle.addresses.specs.Ties.Steps.{endsAddressNext, refusedNext, opening, closing, enclosureKind, levelIn, enclosed, House, symbolsFrom, lexemeAt, symbolAt, symbolsAhead, Standing, AddressRead, AddressStops, AddressIs, Opening, Opened, ListRead, ListStops, inner, TypedFirst}
 use Rattle.addresses.specs.declared.Frame.{Frame}
-use Rattle.grammar.specs.declared.Span.{Span}
+use Rattle.records.specs.declared.Span.{Span}
 use Rattle.addresses.specs.declared.Enclosure.{Enclosure}
 use Rattle.addresses.specs.declared.Enclosure.the-variants.{Angle, Group}
 use types.Run.{OneOf, miss}
@@ -101,13 +101,13 @@ count-of Group o t l u = refl
 
 -- ---- a record that is written behind those which lie in its address
 
-stored-in : (table between after : List ℕ) (i levels : ℕ) (r : AddressRecord) (rs : ℕ → ℕ → List AddressRecord) → (levels ≡ 0 → ⊥) → levels ≤ 64
-    → between ≡ sets table ((i + 1) * 12) (tableBytes (rs (64 - (levels - 1)) (i + 1))) → after ≡ sets between (i * 12) (recordBytes r)
-    → after ≡ sets table (i * 12) (tableBytes (r ∷ rs (suc (64 - levels)) (suc i)))
+stored-in : (table between after : List ℕ) (i levels : ℕ) (r : AddressRecord) (rs : ℕ → ℕ → List AddressRecord) → (levels ≡ 0 → ⊥) → levels ≤ levelLimit
+    → between ≡ sets table ((i + 1) * addressRecordSize) (tableBytes (rs (levelLimit - (levels - 1)) (i + 1))) → after ≡ sets between (i * addressRecordSize) (recordBytes r)
+    → after ≡ sets table (i * addressRecordSize) (tableBytes (r ∷ rs (suc (levelLimit - levels)) (suc i)))
 stored-in table between after i levels r rs n h e f =
-    let d : 64 - (levels - 1) ≡ suc (64 - levels) = omega arith in
+    let d : levelLimit - (levels - 1) ≡ suc (levelLimit - levels) = omega arith in
     let p : i + 1 ≡ suc i = omega arith in
-    stored-around table between after i r (rs (suc (64 - levels)) (suc i)) (e ∙ rw (d, p)) f
+    stored-in-front addressLayout table i r (rs (suc (levelLimit - levels)) (suc i)) (e ∙ rw (d, p)) f
 
 module _ (classes text : List ℕ) where
   -- ---- angle lists and groups
@@ -199,14 +199,14 @@ module _ (classes text : List ℕ) where
 
     -- the address
     pub enclosed-read : (behind : Next) (after : List ℕ) → NextIs classes text j behind → endsAddressNext behind ≡ true → Opened classes text a b span frame
-        → after ≡ sets between (frame .number * 12) (recordBytes (recordBy (enclosureKind e) (64 - frame .levels) (frame .parent) (span .start) j (span .start) (span .end)))
+        → after ≡ sets between (frame .number * addressRecordSize) (recordBytes (recordBy (enclosureKind e) (levelLimit - frame .levels) (frame .parent) (span .start) j (span .start) (span .end)))
         → AddressRead classes text xs frame (span .start) table after behind j free
     enclosed-read behind after x f p w =
         let t = lexemeAt classes text (opening e) a b in
         let s : Standing classes text i j = l .ahead-ok .1 in
-        let its-records : recordBy (enclosureKind e) (64 - frame .levels) (frame .parent) (span .start) j (span .start) (span .end) ∷ listRecords (l .tree) (suc (64 - frame .levels)) (suc (frame .number)) (suc (frame .number))
-        ≡ addressRecords (enclosed e (o .name) t (l .tree) closed-by) (64 - frame .levels) (frame .parent) (frame .number) =
-        rw (o .start-is, o .end-is) (sym (record-of e (o .name) t (l .tree) closed-by (64 - frame .levels) (frame .parent) (frame .number))) in
+        let its-records : recordBy (enclosureKind e) (levelLimit - frame .levels) (frame .parent) (span .start) j (span .start) (span .end) ∷ listRecords (l .tree) (suc (levelLimit - frame .levels)) (suc (frame .number)) (suc (frame .number))
+        ≡ addressRecords (enclosed e (o .name) t (l .tree) closed-by) (levelLimit - frame .levels) (frame .parent) (frame .number) =
+        rw (o .start-is, o .end-is) (sym (record-of e (o .name) t (l .tree) closed-by (levelLimit - frame .levels) (frame .parent) (frame .number))) in
         record {
           tree = enclosed e (o .name) t (l .tree) closed-by;
           reads = λ h c. comes-behind h c ∙ ap (run (levelsHere h + frame .levels) _) (x .same);
@@ -216,7 +216,7 @@ module _ (classes text : List ℕ) where
           count = omega (arith, l .count, count-of e (o .name) t (l .tree) closed-by);
           stored =
               stored-in table between after (frame .number) (frame .levels) _ (λ d m. listRecords (l .tree) d m m) n (p .ready .levels-low) (l .stored) w
-              ∙ ap (λ rs. sets table (frame .number * 12) (tableBytes rs)) its-records;
+              ∙ ap (λ rs. sets table (frame .number * addressRecordSize) (tableBytes rs)) its-records;
           from = omega (arith, p .behind, p .stands .starts, l .from, l .ahead-ok .0, s .starts);
           within = s .within;
           free-low = omega (arith, l .free-low, l .ahead-ok .0, s .starts);
@@ -292,7 +292,7 @@ module _ (classes text : List ℕ) where
             }
 
         pub typed-read : {ahead : Next} {last free : ℕ} (table between after : List ℕ) → AddressRead classes text (symbolsAhead classes text (Found class i j)) (inner classes text frame) i table between ahead last free
-            → after ≡ sets between (frame .number * 12) (recordBytes (recordBy (kindNumber (typedKind (part text (atom .start) (atom .end)))) (64 - frame .levels) (frame .parent) start last (atom .start) (atom .end)))
+            → after ≡ sets between (frame .number * addressRecordSize) (recordBytes (recordBy (kindNumber (typedKind (part text (atom .start) (atom .end)))) (levelLimit - frame .levels) (frame .parent) start last (atom .start) (atom .end)))
             → AddressRead classes text (symbolsAhead classes text (Found Colon start end)) frame start table after ahead last free
         typed-read {ahead} {last} {free} table between after r w =
             let p : (h : Here) → suc (levelsHere h) + (frame .levels - 1) ≡ levelsHere h + frame .levels = λ h. omega arith in

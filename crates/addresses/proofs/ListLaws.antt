@@ -8,7 +8,8 @@ use lib.ListN.{length}
 use lib.Seq.{sets}
 use Rattle.scanner.specs.declared.Next.{Next}
 use Rattle.scanner.specs.declared.Next.the-variants.{Found}
-use Rattle.grammar.specs.Believed.Records.{tableBytes}
+use Rattle.records.specs.Believed.AddressRecords.{tableBytes, addressRecordSize}
+use Rattle.octets.specs.Believed.Numbers.{levelLimit}
 use Rattle.grammar.specs.Executable.Trees733.{Class, Comma, Lexeme, Sym, of, empty, comma, AddressList, idle, full}
 use Rattle.grammar.proofs.Rfc733.Trees.{atomColon}
 use Rattle.grammar.specs.Executable.Machine733.{inList, Level, list, levelsAt, nameless, fresh, run, judge}
@@ -44,7 +45,7 @@ module _ (classes text : List ℕ) where
     pub behind : Behind tree (symbolsAhead classes text ahead)
     pub ahead-ok : Ahead classes text last ahead
     pub count : free ≡ frame .number + listCount tree
-    pub stored : after ≡ sets table (frame .number * 12) (tableBytes (listRecords tree (64 - frame .levels) (frame .parent) (frame .number)))
+    pub stored : after ≡ sets table (frame .number * addressRecordSize) (tableBytes (listRecords tree (levelLimit - frame .levels) (frame .parent) (frame .number)))
     pub from : at ≤ last
     pub within : last ≤ length text
     pub free-low : free ≤ last
@@ -91,7 +92,7 @@ module _ (classes text : List ℕ) where
             → ((k : Level) → Clear (nameless k) (atomColon (symbolsFrom classes text at)) → run (levelsAt k + frame .levels) (list k (idle empty)) (symbolsFrom classes text at) ≡ run (levelsAt k + frame .levels) (doneList k l) (symbolsAhead classes text (Found class a b)))
             → ((k : Level) → Clear (nameless k) (atomColon (symbolsFrom classes text at)) → ClearAt k l (symbolsAhead classes text (Found class a b)))
             → Behind l (symbolsAhead classes text (Found class a b)) → free ≡ frame .number + listCount l
-            → now ≡ sets table (frame .number * 12) (tableBytes (listRecords l (64 - frame .levels) (frame .parent) (frame .number))) → ListSoFar at frame table after ahead last′ free′
+            → now ≡ sets table (frame .number * addressRecordSize) (tableBytes (listRecords l (levelLimit - frame .levels) (frame .parent) (frame .number))) → ListSoFar at frame table after ahead last′ free′
         by (idle p) reads clear behind count stored =
             record {
               tree = full p (r .tree);
@@ -100,7 +101,7 @@ module _ (classes text : List ℕ) where
               behind = r .ends;
               ahead-ok = r .ahead-ok;
               count = omega (arith, r .count);
-              stored = rw (stored, count) at (r .stored) ∙ stored-behind table (frame .number) p (r .tree) (64 - frame .levels) (frame .parent);
+              stored = rw (stored, count) at (r .stored) ∙ stored-behind table (frame .number) p (r .tree) (levelLimit - frame .levels) (frame .parent);
               from = omega (arith, w .from, w .ahead-ok .0, r .from);
               within = r .within;
               free-low = r .free-low;

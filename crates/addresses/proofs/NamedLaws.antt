@@ -14,7 +14,7 @@ use Rattle.grammar.specs.Executable.Trees733.{Class, Lexeme, Sym, Phrase, one}
 use Rattle.grammar.proofs.Rfc733.Trees.{phraseThen}
 use Rattle.addresses.specs.Ties.Steps.{isWord, isQuoted, followsPhrase, loneQuoted, opening, House, symbolsFrom, lexemeAt, symbolsAhead, Ahead, FirstWord, WordsIs, NoMark, Named, Opening}
 use Rattle.addresses.specs.declared.Words.{Words}
-use Rattle.grammar.specs.declared.Span.{Span}
+use Rattle.records.specs.declared.Span.{Span}
 use Rattle.addresses.specs.declared.Enclosure.{Enclosure}
 use Rattle.addresses.specs.declared.Enclosure.the-variants.{Angle, Group}
 use Rattle.addresses.proofs.ClassCases.{tag, by-class, is-false}

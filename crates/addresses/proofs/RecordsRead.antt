@@ -8,14 +8,15 @@ use borrow.Author.Tests.{ltb-false}
 use lib.Dec.{ltb}
 use lib.ListN.{length, getD, take}
 use lib.Seq.{sets, length-take-le}
-use Rattle.octets.specs.Believed.Numbers.{messageLimit, addressRecordSize}
+use Rattle.octets.specs.Believed.Numbers.{messageLimit}
 use Rattle.octets.specs.Believed.Stored.{roomFor}
 use Rattle.octets.specs.declared.answers.Answer.the-variants.{Accepted, NoRoom}
+use Rattle.records.specs.Believed.AddressRecords.{addressRecordSize, noRecord, tableBytes, recordIn}
 use Rattle.scanner.specs.Believed.Symbols.{Symbol}
 use Rattle.scanner.specs.declared.Class.{Class}
 use Rattle.scanner.proofs.Spans.{Placed, none, one, placed}
 use Rattle.grammar.specs.Believed.Grammar.{Row}
-use Rattle.grammar.specs.Believed.Records.{noRecord, count, records, tableBytes, recordIn}
+use Rattle.grammar.specs.Believed.Records.{count, records}
 use Rattle.grammar.specs.Believed.Rfc733.{Derivation}
 use Rattle.grammar.proofs.Any.Positions.{SymbolsUpTo, ReadBack, read-back}
 use Rattle.addresses.specs.Believed.Editions.{Edition, edition733, edition822}

@@ -9,10 +9,10 @@ use types.Run.{OneOf, miss}
 use denote.Enum.Declared.{tagOf}
 use Rattle.octets.proofs.answers.Answer as answer-declared
 use Rattle.octets.specs.Believed.Choice.{pick}
-use Rattle.octets.specs.Believed.Numbers.{addressRecordSize}
 use Rattle.octets.specs.Believed.Stored.{roomFor}
 use Rattle.octets.specs.declared.answers.Answer.{Answer}
 use Rattle.octets.specs.declared.answers.Answer.the-variants.{Accepted, Refused, NoRoom}
+use Rattle.records.specs.Believed.AddressRecords.{addressRecordSize}
 use Rattle.grammar.specs.Believed.Records.{count}
 use Rattle.grammar.specs.Believed.Rfc733.{Derivation}
 use Rattle.addresses.specs.Believed.Outcome.{Outcome, refusal, derived, outcome}

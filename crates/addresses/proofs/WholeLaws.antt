@@ -10,10 +10,11 @@ use Rattle.octets.specs.Believed.Classes.{classTable}
 use Rattle.octets.specs.Believed.Numbers.{messageLimit, levelLimit, noListGoesOn}
 use Rattle.octets.specs.declared.answers.Answer.{Answer}
 use Rattle.octets.proofs.AnswerLaws.{answered}
+use Rattle.records.specs.Believed.AddressRecords.{tableBytes}
 use Rattle.scanner.specs.declared.Next.{Next}
 use Rattle.scanner.specs.declared.Next.the-variants.{Found}
 use Rattle.grammar.specs.Believed.Language.{unfit, accepted, refused}
-use Rattle.grammar.specs.Believed.Records.{count, tableBytes}
+use Rattle.grammar.specs.Believed.Records.{count}
 use Rattle.grammar.specs.Executable.Machine733.{asRows, answer, top, run, judge}
 use Rattle.grammar.proofs.Rfc733.Condition3.{decides}
 use Rattle.grammar.specs.Executable.Trees733.{asRow, Class, Lexeme, Sym, of, AddressList}
@@ -55,20 +56,20 @@ module _ (classes text : List ℕ) where
     pub verdict-closed : {last free a b : ℕ} {class : Class} {table after : List ℕ} → ListRead classes text at (outermost limit) table after (Found class a b) last free → answer limit (symbolsFrom classes text at) ≡ refused unfit (symbolsAhead classes text (Found class a b))
     verdict-closed {a = a} {b = b} {class = class} l = ap asRows (ap judge (rw (zero-add limit) at (l .reads top tt)) ∙ not-closed limit (l .tree) class (lexemeAt classes text class a b) (symbolsFrom classes text b) (l .ends))
 
-  pub whole-listed : {at last free : ℕ} {table after : List ℕ} (ahead : Next) → ListRead classes text at (outermost 64) table after ahead last free → symbolsAhead classes text ahead ≡ [] → IsListed (answer levelLimit) classes text at table after free
+  pub whole-listed : {at last free : ℕ} {table after : List ℕ} (ahead : Next) → ListRead classes text at (outermost levelLimit) table after ahead last free → symbolsAhead classes text ahead ≡ [] → IsListed (answer levelLimit) classes text at table after free
   whole-listed {at} {table = table} ahead l e =
       record {
         derivation = asRow (l .tree);
-        verdict-is = verdict-listed 64 at ahead l e;
+        verdict-is = verdict-listed levelLimit at ahead l e;
         count-is = omega (arith, l .count, tree-count (l .tree));
         stored = l .stored ∙ ap (λ rs. sets table 0 (tableBytes rs)) (sym (tree-records (l .tree)));
       }
 
-  pub whole-stops : {at number-told place : ℕ} → ListStops classes text at (outermost 64) number-told place → IsRefused (answer levelLimit) classes text at number-told place
-  whole-stops {at} s = record { why = s .why; rest = s .rest; verdict-is = verdict-stops 64 at s; number-is = s .number-is; place-is = s .place-is }
+  pub whole-stops : {at number-told place : ℕ} → ListStops classes text at (outermost levelLimit) number-told place → IsRefused (answer levelLimit) classes text at number-told place
+  whole-stops {at} s = record { why = s .why; rest = s .rest; verdict-is = verdict-stops levelLimit at s; number-is = s .number-is; place-is = s .place-is }
 
-  pub whole-closed : {at last free a b : ℕ} {class : Class} {table after : List ℕ} → ListRead classes text at (outermost 64) table after (Found class a b) last free → IsRefused (answer levelLimit) classes text at noListGoesOn a
-  whole-closed {at} l = record { why = unfit; rest = _; verdict-is = verdict-closed 64 at l; number-is = refl; place-is = refl }
+  pub whole-closed : {at last free a b : ℕ} {class : Class} {table after : List ℕ} → ListRead classes text at (outermost levelLimit) table after (Found class a b) last free → IsRefused (answer levelLimit) classes text at noListGoesOn a
+  whole-closed {at} l = record { why = unfit; rest = _; verdict-is = verdict-closed levelLimit at l; number-is = refl; place-is = refl }
 
 -- ---- condition 3
 

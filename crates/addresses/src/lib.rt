@@ -8,7 +8,7 @@ ghost use lib.ListN.{length};
 ghost use lib.Seq.{sets};
 ghost use Rattle.octets.specs.Believed.Text.{part};
 ghost use Rattle.octets.specs.Believed.Numbers.{messageLimit, levelLimit};
-ghost use Rattle.grammar.specs.Believed.Records.{recordBy, recordBytes};
+ghost use Rattle.records.specs.Believed.AddressRecords.{recordBy, recordBytes, addressRecordSize};
 ghost use Rattle.grammar.specs.Executable.Machine733.{answer};
 ghost use Rattle.addresses.specs.Ties.Steps.{isWord, isQuoted, endsAddressNext, refusedNext, closing, enclosureKind, Faultless, Standing, Reached, WordsIs, NodesIs, TypedAtomIs, Opened, MailboxIs, Lone, LoneIs, CloseIs, Entered, ListIs, BeginsAddress, AddressAt, NamedFirst, EnclosedIs, ColonFirst, TypedFirst};
 ghost use Rattle.addresses.specs.Ties.Whole.{Body, WholeIs, endsWithin, TwiceIs, TextIs};
@@ -17,14 +17,10 @@ ghost use Rattle.addresses.specs.Believed.Within.{listWithin};
 ghost use Rattle.addresses.specs.Believed.Condition3.{Condition3};
 ghost use Rattle.grammar.specs.Believed.Rfc733.{sameClass};
 ghost use Rattle.scanner.specs.declared.Class.the-variants.{Colon};
-use grammar::AddressRecord;
-use grammar::Span;
 use grammar::Whole;
-use grammar::store_record;
 use grammar::typed_kind;
 use octets::answers::Answer;
 use octets::classes::CLASSES;
-use octets::numbers::ADDRESS_RECORD_SIZE;
 use octets::numbers::BODY_OUT_OF_ORDER;
 use octets::numbers::ENDS_TOO_SOON;
 use octets::numbers::LEVEL_LIMIT;
@@ -32,6 +28,10 @@ use octets::numbers::MESSAGE_LIMIT;
 use octets::numbers::MESSAGE_TOO_LONG;
 use octets::numbers::NO_LIST_GOES_ON;
 use octets::numbers::TOO_MANY_LEVELS;
+use records::Span;
+use records::addresses::ADDRESS_RECORD_SIZE;
+use records::addresses::AddressRecord;
+use records::addresses::store;
 use scanner::Class;
 use scanner::Next;
 
@@ -75,8 +75,8 @@ enum TypedAtom {
 
 // Write a record at its place in the table; past the end nothing is stored.
 fn put_record(table: &mut [u8], frame: Frame, kind: u8, end: usize, start: usize, name: Span)
-    requires { ⌜ (frame .levels ≤ 64) × (frame .number ≤ messageLimit) ⌝ }
-    ensures { λ _. ⌜ now (table .exit) ≡ sets (now (table .entry)) (frame .number * 12) (recordBytes (recordBy kind (64 - frame .levels) (frame .parent) start end (name .start) (name .end))) ⌝ }
+    requires { ⌜ (frame .levels ≤ levelLimit) × (frame .number ≤ messageLimit) ⌝ }
+    ensures { λ _. ⌜ now (table .exit) ≡ sets (now (table .entry)) (frame .number * addressRecordSize) (recordBytes (recordBy kind (levelLimit - frame .levels) (frame .parent) start end (name .start) (name .end))) ⌝ }
 {
     let depth = (LEVEL_LIMIT - frame.levels) as u8;
     let address = AddressRecord {
@@ -87,7 +87,7 @@ fn put_record(table: &mut [u8], frame: Frame, kind: u8, end: usize, start: usize
         end,
         name,
     };
-    store_record(table, frame.number, address);
+    store(table, frame.number, address);
 }
 
 // Whether a symbol of a class is a word.
@@ -292,7 +292,7 @@ fn close_list(
     name: Span,
     frame: Frame,
 ) -> Reading
-    requires { ⌜ (frame .levels ≤ 64) × (frame .number ≤ messageLimit) ⌝ }
+    requires { ⌜ (frame .levels ≤ levelLimit) × (frame .number ≤ messageLimit) ⌝ }
     ensures { λ r. ⌜ CloseIs (now (classes .entry)) (now (text .entry)) enclosure ahead free name frame (now (table .entry)) (now (table .exit)) r ⌝ }
 {
     let Next::Found(mark, _, end) = ahead else {
@@ -606,7 +606,7 @@ pub fn read_addresses(message: &[u8], start: usize, end: usize, table: &mut [u8]
 
 // Whether a text without fault is, whole, a list of at most so many levels.
 fn ends_within(classes: &[u8; 256], text: &[u8], levels: usize) -> bool
-    requires { ⌜ Body (now classes) (now text) 0 × (levels ≤ 64) ⌝ }
+    requires { ⌜ Body (now classes) (now text) 0 × (levels ≤ levelLimit) ⌝ }
     ensures { λ r. ⌜ r ≡ endsWithin (now (classes .entry)) (now (text .entry)) levels 0 ⌝ }
 {
     let mut none: [u8; 1] = [0; 1];

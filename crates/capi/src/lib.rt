@@ -59,7 +59,7 @@ fn tell_expanded(array: &mut [u64], expanded: Expanded)
     store_number(array, 3, expanded.openings as u64);
 }
 
-// Split a message into fields: records of 8 bytes in the table.
+// Split a message into fields: field records in the table.
 #[no_mangle]
 pub extern "C" fn rfc733_split(message: &[u8], table: &mut [u8], array: &mut [u64])
     ensures { λ _. ⌜ (now (table .exit) ≡ splitTable (now (message .entry)) (now (table .entry))) × (now (array .exit) ≡ toldIn (now (array .entry)) (splitAnswer (now (message .entry)) (now (table .entry)))) ⌝ }
@@ -91,7 +91,7 @@ pub extern "C" fn rfc733_scan(message: &[u8], start: usize, end: usize, array: &
     tell(array, scanner::scan_body(message, start, end));
 }
 
-// Read the address list in the body of a message from start up to end by the rules of an edition, 733 or 822: records of 12 bytes in the table.
+// Read the address list in the body of a message from start up to end by the rules of an edition, 733 or 822: address records in the table.
 #[no_mangle]
 pub extern "C" fn rfc733_addresses(
     message: &[u8],

@@ -12,11 +12,11 @@ use Rattle.octets.specs.Believed.Numbers.{addressRecordSize}
 use Rattle.octets.specs.Believed.Letters.{lower, same, sameBytes}
 use Rattle.octets.specs.Believed.Text.{bytes}
 use Rattle.octets.specs.Believed.Answers.{numberOf, positionOf, countOf}
+use Rattle.records.specs.Believed.AddressRecords.{AddressRecord, recordBy, tableBytes}
 use Rattle.scanner.specs.Believed.Kinds.{kindOf}
 use Rattle.scanner.specs.Believed.Characters.{charactersFrom}
 use Rattle.scanner.specs.Believed.Scanning.{scanFrom, symbolsOf}
 use Rattle.scanner.specs.Believed.Answers.{unlessFault}
-use Rattle.grammar.specs.Believed.Records.{AddressRecord, recordBy, tableBytes}
 use Rattle.editions.specs.Believed.Outcome.{outcomeOf}
 
 -- number and position, and the records, with room for four

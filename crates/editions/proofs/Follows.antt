@@ -7,7 +7,8 @@ use mathlib.Core.List.{List, [], _∷_, _++_}
 use mathlib.Core.Option.{Option, none, some}
 use lib.ListN.{length, length-append}
 use Rattle.octets.specs.Believed.Choice.{pick}
-use Rattle.grammar.specs.Believed.Records.{AddressRecord, recordBy, withEnd, setEnd}
+use Rattle.records.specs.Believed.AddressRecords.{AddressRecord, recordBy}
+use Rattle.records.specs.Ties.Ends.{withEnd, setEnd}
 use Rattle.grammar.specs.Believed.Language.{unfit}
 use Rattle.grammar.specs.Believed.Rfc733.{sameClass}
 use Rattle.grammar.proofs.Symbols.{same-class}

@@ -7,10 +7,11 @@ use mathlib.Core.List.{List}
 use lib.Dec.{ltb}
 use lib.ListN.{length, take}
 use Rattle.octets.specs.Believed.Choice.{pick, either}
-use Rattle.octets.specs.Believed.Numbers.{messageLimit, levelLimit, messageTooLong, bodyOutOfOrder, tooManyLevels, addressRecordSize}
+use Rattle.octets.specs.Believed.Numbers.{messageLimit, levelLimit, messageTooLong, bodyOutOfOrder, tooManyLevels}
 use Rattle.octets.specs.Believed.Stored.{roomFor}
 use Rattle.octets.specs.declared.answers.Answer.{Answer}
 use Rattle.octets.specs.Believed.Answers.{numberOf}
+use Rattle.records.specs.Believed.AddressRecords.{addressRecordSize}
 use Rattle.scanner.specs.Believed.Scanning.{Scanned, ended, next, faultAt, outside, scanBy}
 use Rattle.scanner.specs.Believed.Symbols.{Symbol}
 use Rattle.scanner.specs.Believed.Answers.{unlessFault}

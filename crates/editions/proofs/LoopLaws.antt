@@ -11,9 +11,9 @@ use types.Run.{OneOf}
 use borrow.Author.Tests.{eq-eqb, ne-eqb}
 use Rattle.octets.specs.Believed.Choice.{both}
 use Rattle.octets.specs.Believed.Numbers.{levelLimit, endsTooSoon, noListGoesOn}
+use Rattle.records.specs.Believed.AddressRecords.{AddressRecord, tableBytes}
 use Rattle.scanner.specs.declared.Next.the-variants.{Found}
 use Rattle.grammar.specs.Believed.Language.{unfit, unfinished}
-use Rattle.grammar.specs.Believed.Records.{AddressRecord, tableBytes}
 use Rattle.grammar.proofs.Any.Records.{length-records}
 use Rattle.grammar.specs.Executable.Trees733.{Class, Atom, At, Sym, of}
 use Rattle.grammar.specs.Believed.Rfc733.{sameClass}

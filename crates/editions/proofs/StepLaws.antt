@@ -6,13 +6,15 @@ use mathlib.Core.List.{List, [], _∷_, _++_}
 use mathlib.Core.Option.{Option, none, some}
 use lib.ListN.{length, length-append}
 use lib.Seq.{sets}
-use Rattle.octets.specs.Believed.Numbers.{addressRecordSize, numberWidth}
+use Rattle.octets.specs.Believed.Numbers.{numberWidth}
 use Rattle.octets.specs.Believed.Stored.{bytesOf}
+use Rattle.records.specs.Believed.AddressRecords.{addressRecordSize, AddressRecord, recordBytes, endOffset, addressLayout}
+use Rattle.records.specs.Ties.Ends.{setEnd}
 use Rattle.scanner.specs.Believed.Symbols.{Lexeme}
 use Rattle.scanner.specs.declared.Class.{Class}
-use Rattle.grammar.specs.Believed.Records.{AddressRecord, setEnd, recordBytes, endOffset}
-use Rattle.grammar.proofs.RecordLaws.{end-stored, record-behind}
 use Rattle.editions.specs.Ties.Places.{Walked, walkedBy, placeCount, nextPlace, effectOf, refuse, effect, stepFrom, addRecord, closeRecord, openGroup}
+use Rattle.records.proofs.EndLaws.{end-stored}
+use Rattle.records.proofs.TableLaws.{stored-last}
 use Rattle.editions.specs.declared.Walk.{Walk}
 use Rattle.editions.specs.declared.Stepped.{Stepped}
 use Rattle.editions.specs.declared.Stepped.the-variants.{On, Off}

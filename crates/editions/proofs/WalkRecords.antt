@@ -7,8 +7,9 @@ use mathlib.Core.Option.{some}
 use lib.ListN.{length}
 use Rattle.octets.specs.Believed.Choice.{pick}
 use Rattle.grammar.specs.Believed.Grammar.{Makes, Rule, Row, nil, leaf, branch, yieldThen, yield}
+use Rattle.records.specs.Believed.AddressRecords.{AddressRecord, recordBy}
 use Rattle.grammar.specs.Believed.Language.{positionOf}
-use Rattle.grammar.specs.Believed.Records.{AddressRecord, recordBy, lastEnd, recordOf, records}
+use Rattle.grammar.specs.Believed.Records.{lastEnd, recordOf, records}
 use Rattle.grammar.specs.Believed.Rfc822.{rulesOf, Notion, list, place, address, boxes, boxPlace, mailbox, routeAddr, addrSpec, route, hops, emptyPlaces, localPart, domain, subDomain, phrase, word, rfc822}
 use Rattle.grammar.proofs.Any.Records.{yield-append, last-append, Then, plain-then, record-then}
 use Rattle.grammar.proofs.Any.Silent.{silentRules, silent-records}

@@ -7,9 +7,9 @@ ghost use Prim.Native.Nat.{_+_, _*_, _≤_, _<_};
 ghost use lib.ListN.{length, getD};
 ghost use lib.Seq.{sets};
 ghost use Rattle.octets.specs.Believed.Choice.{both};
-ghost use Rattle.octets.specs.Believed.Numbers.{messageLimit, addressRecordSize};
+ghost use Rattle.octets.specs.Believed.Numbers.{messageLimit};
+ghost use Rattle.records.specs.Believed.AddressRecords.{addressRecordSize, recordBytes};
 ghost use Rattle.grammar.specs.Believed.Rfc733.{classNumber};
-ghost use Rattle.grammar.specs.Believed.Records.{recordBytes};
 ghost use Rattle.addresses.specs.Believed.Editions.{classIn822};
 ghost use Rattle.addresses.specs.Ties.Whole.{Body, WholeIs, TwiceIs, TextIs};
 ghost use Rattle.addresses.specs.Believed.Outcome.{AnsweredBy};
@@ -23,20 +23,20 @@ use crate::places::NEXT;
 use crate::places::PLACE_TABLE;
 use crate::places::PLACES;
 use crate::places::TABLE_SIZE;
-use grammar::AddressRecord;
-use grammar::Span;
 use grammar::Whole;
-use grammar::store_end;
-use grammar::store_record;
 use octets::answers::Answer;
 use octets::classes822::CLASSES_822;
-use octets::numbers::ADDRESS_RECORD_SIZE;
 use octets::numbers::BODY_OUT_OF_ORDER;
 use octets::numbers::EDITION_UNKNOWN;
 use octets::numbers::ENDS_TOO_SOON;
 use octets::numbers::MESSAGE_LIMIT;
 use octets::numbers::MESSAGE_TOO_LONG;
 use octets::numbers::NO_LIST_GOES_ON;
+use records::Span;
+use records::addresses::ADDRESS_RECORD_SIZE;
+use records::addresses::AddressRecord;
+use records::addresses::store;
+use records::addresses::store_end;
 use scanner::Class;
 use scanner::Next;
 
@@ -157,7 +157,7 @@ fn begin(
         end,
         name,
     };
-    store_record(table, number, address);
+    store(table, number, address);
 }
 
 // The record with a number, plus 1, comes to an end; where there is none, the symbol leads nowhere.

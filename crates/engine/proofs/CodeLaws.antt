@@ -6,8 +6,7 @@ use mathlib.Core.List.{List}
 use native.Mathlib.Omega.{arith}
 use lib.ListN.{getD, set}
 use lib.Seq.{sets}
-use Rattle.octets.specs.Believed.Numbers.{addressRecordSize}
-use Rattle.grammar.specs.Believed.Records.{recordBy, recordBytes}
+use Rattle.records.specs.Believed.AddressRecords.{addressRecordSize, recordBy, recordBytes}
 use Rattle.grammar.specs.Believed.Rfc733.{kindNumber, typedKind}
 use Rattle.grammar.specs.Executable.Trees733.{Lexeme, AddressList, Address, typed}
 use Rattle.grammar.specs.Executable.Machine733.{Here, inList, inTyped, Level, top, inAngle, inGroup, Spot, State, close, levelsHere}

@@ -6,16 +6,16 @@ use mathlib.Core.List.{List}
 use native.Mathlib.Omega.{arith}
 use lib.ListN.{getD}
 use lib.Seq.{sets}
-use Rattle.octets.specs.Believed.Numbers.{addressRecordSize}
 use Rattle.octets.specs.Believed.Choice.{pick}
 use Rattle.octets.specs.Believed.Letters.{sameLetters}
 use Rattle.octets.specs.Believed.Text.{bytes}
-use Rattle.grammar.specs.Believed.Records.{recordBy, recordBytes}
 use Rattle.grammar.specs.Believed.Rfc733.{kindNumber, typedKind, angleList, group, include, postal, otherTyped}
+use Rattle.records.specs.Believed.AddressRecords.{addressRecordSize, recordBy, recordBytes, addressLayout}
+use Rattle.records.proofs.TableLaws.{stored-in-front}
 use Rattle.grammar.specs.Executable.Trees733.{Lexeme, Place, Address, typed}
 use Rattle.grammar.specs.Executable.Machine733.{Here, inList, inTyped, Level, top, inAngle, inGroup, asList, close, levelsHere, levelsAt}
 use Rattle.grammar.proofs.Rfc733.TreeRecords.{listCount, addressCount, addressRecords, addressRecord}
-use Rattle.grammar.proofs.RecordLaws.{stored-behind, stored-around}
+use Rattle.grammar.proofs.RecordLaws.{stored-behind}
 use Rattle.engine.specs.Ties.Actions.{afterAddress}
 use Rattle.engine.specs.Ties.Stands.{modeOf, placeOf, numberHere, parentAt, parentHere, Entry, HoldsHere, HoldsLevel, storedHere, storedLevel}
 use Rattle.engine.specs.Ties.Turns.{kindAt, KindIs, OpenHere, LevelAt, Closing, Closed}
@@ -116,7 +116,7 @@ closed-typed lent stack table after depth end h t x u a c e =
     record {
       is-open = record { depth-is = refl; holds = c .is-open .holds .1; deep = omega (arith, c .is-open .deep, c .is-open .depth-is) };
       end-is = c .end-is;
-      stored = stored-around (storedHere lent h) table after (numberHere h) (addressRecord (typed t x u a) (levelsHere h) (parentHere h)) (addressRecords a (suc (levelsHere h)) (suc (numberHere h)) (suc (numberHere h)))
+      stored = stored-in-front addressLayout (storedHere lent h) (numberHere h) (addressRecord (typed t x u a) (levelsHere h) (parentHere h)) (addressRecords a (suc (levelsHere h)) (suc (numberHere h)) (suc (numberHere h)))
           (c .stored) (e ∙ ap (λ z. sets table (numberHere h * addressRecordSize) (recordBytes (recordBy (kindNumber (typedKind (x .meaning))) (levelsHere h) (parentHere h) (t .start) z (x .start) (x .end)))) (c .end-is));
     }
 

@@ -7,13 +7,13 @@ use lib.ListN.{length, getD}
 use lib.Seq.{sets}
 use Rattle.octets.specs.Believed.Numbers.{levelLimit}
 use Rattle.octets.specs.Believed.Text.{part}
+use Rattle.records.specs.Believed.AddressRecords.{tableBytes}
 use Rattle.scanner.specs.Believed.Scanning.{scanBy}
 use Rattle.scanner.specs.Believed.Answers.{nextOf}
 use Rattle.scanner.specs.declared.Next.{Next}
 use Rattle.scanner.specs.declared.Next.the-variants.{Found}
 use Rattle.scanner.specs.Ties.Meanings.{meaningAt}
 use Rattle.grammar.specs.Believed.Language.{unfinished}
-use Rattle.grammar.specs.Believed.Records.{tableBytes}
 use Rattle.grammar.specs.Believed.Rfc733.{classNumber}
 use Rattle.grammar.specs.Executable.Machines.{ended, stopped, atEnd, standsBy}
 use Rattle.grammar.specs.Executable.Trees733.{Class, Atom, asRow}

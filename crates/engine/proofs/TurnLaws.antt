@@ -7,10 +7,11 @@ use mathlib.Core.Option.{Option}
 use native.Mathlib.Omega.{arith}
 use lib.ListN.{length, length-set}
 use lib.Seq.{sets}
-use Rattle.octets.specs.Believed.Numbers.{levelLimit, addressRecordSize, noListGoesOn, tooManyLevels}
+use Rattle.octets.specs.Believed.Numbers.{levelLimit, noListGoesOn, tooManyLevels}
 use Rattle.octets.specs.Believed.Text.{part}
+use Rattle.records.specs.Believed.AddressRecords.{addressRecordSize, AddressRecord, recordBy, recordBytes, tableBytes, addressLayout}
+use Rattle.records.proofs.TableLaws.{stored-in-front}
 use Rattle.grammar.specs.Believed.Language.{unfit, tooDeep}
-use Rattle.grammar.specs.Believed.Records.{AddressRecord, recordBy, recordBytes, tableBytes}
 use Rattle.grammar.specs.Believed.Rfc733.{kindNumber, typedKind, group}
 use Rattle.grammar.specs.Executable.Machines.{go}
 use Rattle.grammar.specs.Executable.Trees733.{Class, Atom, Quoted, Lexeme, Word, atomWord, quotedWord, Phrase, one, more, empty, comma, AddressList, idle, Address, mailbox, angle, quoted}
@@ -18,7 +19,6 @@ use Rattle.grammar.specs.Executable.Trees733 as trees
 use Rattle.grammar.specs.Executable.Machine733.{Here, inList, inTyped, Level, top, inAngle, inGroup, State, list, phrase, firstAt, nextAt, node, want, asList, close, enter, levelsHere, levelsAt, stepOn}
 use Rattle.grammar.proofs.Rfc733.Complete.{begin, enter-within, enter-beyond}
 use Rattle.grammar.proofs.Rfc733.TreeRecords.{listCount, addressCount, addressRecord, listRecords, nameStart, nameEnd, wordLexeme}
-use Rattle.grammar.proofs.RecordLaws.{stored-around}
 use Rattle.engine.specs.Ties.Actions.{modeNumber, afterAddress, atWords}
 use Rattle.engine.specs.Ties.Stands.{modeOf, levelSize, placeOf, Ordered, numberHere, parentAt, parentHere, Entry, HoldsHere, HoldsLevel, storedHere, storedList, FirstAtom, NameIs, Stands}
 use Rattle.engine.specs.Ties.Turns.{kindIf, levelIf, endIf, loneKind, kindAt, KindIs, Ended, lone, boxed, OpenHere, LevelAt, Closing, Closed, Follows, GoesTo, StopsBy, Opening, AtClose, AtTyped}
@@ -346,14 +346,14 @@ module _ {text lent stack table : List ℕ} {t : Lexeme} {depth free kind next e
       record {
         is-open = op;
         end-is = x .end-is;
-        stored = stored-around (storedHere lent h) table after (numberHere h) (addressRecord (angle o v l t) (levelsHere h) (parentHere h)) (listRecords l (suc (levelsHere h)) (suc (numberHere h)) (suc (numberHere h))) (x .stored)
+        stored = stored-in-front addressLayout (storedHere lent h) (numberHere h) (addressRecord (angle o v l t) (levelsHere h) (parentHere h)) (listRecords l (suc (levelsHere h)) (suc (numberHere h)) (suc (numberHere h))) (x .stored)
             (g ∙ ap (λ r. sets table (numberHere h * addressRecordSize) (recordBytes r)) (same-record level (levelsHere h) (parentHere h) refl q refl (x .end-is) refl refl));
       }
   mark-closing false h o v l x level q op after g =
       record {
         is-open = op;
         end-is = x .end-is;
-        stored = stored-around (storedHere lent h) table after (numberHere h) (addressRecord (trees.group o v l t) (levelsHere h) (parentHere h)) (listRecords l (suc (levelsHere h)) (suc (numberHere h)) (suc (numberHere h))) (x .stored)
+        stored = stored-in-front addressLayout (storedHere lent h) (numberHere h) (addressRecord (trees.group o v l t) (levelsHere h) (parentHere h)) (listRecords l (suc (levelsHere h)) (suc (numberHere h)) (suc (numberHere h))) (x .stored)
             (g ∙ ap (λ r. sets table (numberHere h * addressRecordSize) (recordBytes r)) (same-record level (levelsHere h) (parentHere h) refl q refl (x .end-is) refl refl));
       }
 

@@ -41,14 +41,10 @@ use crate::things::GREATER_THAN;
 use crate::things::LESS_THAN;
 use crate::things::SEMICOLON;
 use crate::things::WORD;
-use grammar::AddressRecord;
-use grammar::Span;
 use grammar::Whole;
-use grammar::store_record;
 use grammar::typed_kind;
 use octets::answers::Answer;
 use octets::classes::CLASSES;
-use octets::numbers::ADDRESS_RECORD_SIZE;
 use octets::numbers::BODY_OUT_OF_ORDER;
 use octets::numbers::ENDS_TOO_SOON;
 use octets::numbers::LEVEL_LIMIT;
@@ -56,6 +52,10 @@ use octets::numbers::MESSAGE_LIMIT;
 use octets::numbers::MESSAGE_TOO_LONG;
 use octets::numbers::NO_LIST_GOES_ON;
 use octets::numbers::TOO_MANY_LEVELS;
+use records::Span;
+use records::addresses::ADDRESS_RECORD_SIZE;
+use records::addresses::AddressRecord;
+use records::addresses::store;
 use scanner::Class;
 use scanner::Next;
 
@@ -201,7 +201,7 @@ fn put_level(stack: &[u32; STACK_SIZE], table: &mut [u8], level: usize, end: usi
         end,
         name,
     };
-    store_record(table, number_of(stack, level, NUMBER) as usize, address);
+    store(table, number_of(stack, level, NUMBER) as usize, address);
 }
 
 // An address has ended: so have the typed addresses right around it. The levels still open.
@@ -236,7 +236,7 @@ fn complete(stack: &[u32; STACK_SIZE], table: &mut [u8], engine: Engine) -> usiz
         end: engine.at,
         name,
     };
-    store_record(table, engine.free, address);
+    store(table, engine.free, address);
     close_typed(stack, table, engine.depth, engine.at)
 }
 

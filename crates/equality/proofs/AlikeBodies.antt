@@ -8,13 +8,14 @@ use lib.Dec.{ltb}
 use lib.ListN.{length, take}
 use lib.Seq.{sets}
 use Rattle.octets.specs.Believed.Choice.{pick}
-use Rattle.octets.specs.Believed.Numbers.{messageLimit, levelLimit, addressRecordSize}
+use Rattle.octets.specs.Believed.Numbers.{messageLimit, levelLimit}
 use Rattle.octets.specs.Believed.Stored.{roomFor}
 use Rattle.octets.specs.declared.answers.Answer.the-variants.{Accepted, Refused, NoRoom}
+use Rattle.records.specs.Believed.AddressRecords.{addressRecordSize, tableBytes}
 use Rattle.scanner.specs.Believed.Scanning.{Scanned, next, scan, symbolsOf}
 use Rattle.scanner.specs.Believed.Answers.{unlessFault, faultOf}
 use Rattle.grammar.specs.Believed.Language.{Verdict, accepted, refused, number, positionOf}
-use Rattle.grammar.specs.Believed.Records.{count, records, tableBytes}
+use Rattle.grammar.specs.Believed.Records.{count, records}
 use Rattle.grammar.specs.Believed.Rfc733.{Derivation}
 use Rattle.grammar.specs.Executable.Machine733.{answer}
 use Rattle.grammar.proofs.Rfc733.Condition3.{answer-derives}

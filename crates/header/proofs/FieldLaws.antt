@@ -10,7 +10,8 @@ use lib.Dec.{eqb}
 use lib.ListN.{length, drop, getD}
 use Rattle.octets.specs.Believed.Classes.{isWhite}
 use Rattle.octets.specs.Believed.Octets.{colonByte}
-use Rattle.header.specs.Believed.Fields.{Field, fieldOf, Header, field, ended, fault, fieldsOf, State, lineStart, inName, inBody, beforeLineFeed, nameHolds, nameStartsWith, crlf, endsBody, headerAt, headerOf}
+use Rattle.header.specs.Believed.Fields.{Header, field, ended, fault, fieldsOf, State, lineStart, inName, inBody, beforeLineFeed, nameHolds, nameStartsWith, crlf, endsBody, headerAt, headerOf}
+use Rattle.records.specs.Believed.FieldRecords.{Field, noField}
 use Rattle.header.proofs.ByteLaws.{crlf-last, body-other}
 use Rattle.header.proofs.HeaderLaws.{ends, moves, empty-line, name-starts, no-name, name-ends, name-fault, name-white, name-other, body-fault, body-goes, body-ends}
 
@@ -121,10 +122,6 @@ abbrev pub Ascend : List ℕ → ℕ → Header → Type 0
 Ascend message start (field f rest) = Found message start f rest × Ascend message (f .bodyEnd + 2) rest
 Ascend message start ended = start ≤ length message
 Ascend message start (fault number position) = start ≤ length message
-
--- what `getD` gives past the fields
-abbrev pub noField : Field
-noField = fieldOf 0 0 0 0
 
 module _ (message : List ℕ) where
   ascend : (h : Header) (start : ℕ) → start ≤ length message → headerAt message start lineStart ≡ h → Ascend message start h

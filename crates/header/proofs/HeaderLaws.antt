@@ -10,7 +10,8 @@ use lib.Seq.{drop-cons}
 use Rattle.octets.specs.Believed.Classes.{isWhite}
 use Rattle.octets.specs.Believed.Numbers.{nameFault, byteAbove127}
 use Rattle.octets.specs.Believed.Octets.{colonByte}
-use Rattle.header.specs.Believed.Fields.{fieldOf, field, ended, fault, State, lineStart, inName, inBody, beforeLineFeed, nameHolds, nameStartsWith, crlf, endsBody, atLineStart, atName, atBody, move, atEnd, follow, headerFrom, headerAt}
+use Rattle.header.specs.Believed.Fields.{field, ended, fault, State, lineStart, inName, inBody, beforeLineFeed, nameHolds, nameStartsWith, crlf, endsBody, atLineStart, atName, atBody, move, atEnd, follow, headerFrom, headerAt}
+use Rattle.records.specs.Believed.FieldRecords.{fieldOf}
 use Rattle.header.proofs.ByteLaws.{first-byte}
 
 module _ (message : List ℕ) where

@@ -2,7 +2,6 @@
 pub mod ByteLaws
 pub mod HeaderLaws
 pub mod FieldLaws
-pub mod RecordLaws
 pub mod ReadBack
 pub mod StepLaws
 pub mod SplitLaws

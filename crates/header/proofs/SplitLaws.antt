@@ -2,19 +2,21 @@
 use mathlib.Core.Path.{_≡_, refl, sym, ap, _∙_}
 use mathlib.Core.List.{List}
 use Prim.Native.Nat.{ℕ, _+_, _*_, _≤_, _<_}
+use native.Mathlib.Numerals.{add-one}
 use native.Mathlib.Omega.{arith}
 use borrow.Author.Tests.{lt-ltb, le-ltb}
 use lib.ListN.{length}
 use lib.Seq.{sets, length-sets}
-use Rattle.octets.specs.Believed.Numbers.{messageLimit, fieldRecordSize, messageTooLong}
+use Rattle.octets.specs.Believed.Numbers.{messageLimit, messageTooLong}
 use Rattle.octets.specs.Believed.Stored.{roomFor}
 use Rattle.octets.specs.Believed.Answers.{Answered}
 use Rattle.octets.proofs.AnswerLaws.{answered}
 use Rattle.octets.specs.declared.answers.Answer.{Answer}
 use Rattle.octets.specs.declared.answers.Answer.the-variants.{Accepted, Refused, NoRoom}
-use Rattle.header.specs.Believed.Fields.{fieldOf, Header, ended, fault, lineStart, headerAt, headerOf}
-use Rattle.header.specs.Believed.Split.{recordOf, recordsOf, answerIn, answerFor, splitAnswer, tableAfter, splitTable}
-use Rattle.header.proofs.RecordLaws.{records-stored}
+use Rattle.records.specs.Believed.FieldRecords.{fieldOf, fieldLayout, fieldRecordSize, fieldBytes, fieldTable}
+use Rattle.records.proofs.TableLaws.{stored-first}
+use Rattle.header.specs.Believed.Fields.{Header, ended, fault, fieldsOf, lineStart, headerAt, headerOf}
+use Rattle.header.specs.Believed.Split.{answerIn, answerFor, splitAnswer, tableAfter, splitTable}
 use Rattle.header.proofs.StepLaws.{Gave}
 
 -- what is left at a position, after `count` fields
@@ -23,11 +25,11 @@ pub record Left (message : List ℕ) (room : ℕ) (lent table : List ℕ) (at co
   pub few : count ≤ at
   pub same-length : length table ≡ length lent
   pub answer : answerIn room 0 (headerOf message) ≡ answerIn room count (headerAt message at lineStart)
-  pub stored : sets lent 0 (recordsOf (headerOf message)) ≡ sets table (count * fieldRecordSize) (recordsOf (headerAt message at lineStart))
+  pub stored : sets lent 0 (fieldTable (fieldsOf (headerOf message))) ≡ sets table (count * fieldRecordSize) (fieldTable (fieldsOf (headerAt message at lineStart)))
 
 -- the whole header is answered and stored
 abbrev pub Done : List ℕ → ℕ → List ℕ → Answer → List ℕ → Type 0
-Done message room lent r table = (r ≡ answerIn room 0 (headerOf message)) × (table ≡ sets lent 0 (recordsOf (headerOf message)))
+Done message room lent r table = (r ≡ answerIn room 0 (headerOf message)) × (table ≡ sets lent 0 (fieldTable (fieldsOf (headerOf message))))
 
 pub at-start : (message : List ℕ) (room : ℕ) (lent : List ℕ) → Left message room lent lent 0 0
 at-start message room lent = record { within = omega arith; few = omega arith; same-length = refl; answer = refl; stored = refl }
@@ -35,7 +37,7 @@ at-start message room lent = record { within = omega arith; few = omega arith; s
 module _ {message : List ℕ} {room : ℕ} {lent table : List ℕ} {at count : ℕ} (left : Left message room lent table at count) where
   -- a field is stored
   pub after-field : {a b c d : ℕ} {next : List ℕ} → Gave message at a b c d (headerAt message at lineStart)
-      → next ≡ sets table (count * fieldRecordSize) (recordOf (fieldOf a b c d)) → Left message room lent next (d + 2) (count + 1)
+      → next ≡ sets table (count * fieldRecordSize) (fieldBytes (fieldOf a b c d)) → Left message room lent next (d + 2) (count + 1)
   unfolding answerIn
   after-field {a} {b} {c} {d} gave e =
       record {
@@ -45,20 +47,20 @@ module _ {message : List ℕ} {room : ℕ} {lent table : List ℕ} {at count : �
         answer = left .answer ∙ ap (λ (h : Header). answerIn room count h) (gave .is);
         stored =
             left .stored
-            ∙ rw (gave .is) (records-stored table count (fieldOf a b c d) (headerAt message (d + 2) lineStart) ∙ rw (sym e));
+            ∙ rw (gave .is, add-one count) (stored-first fieldLayout table count (fieldOf a b c d) (fieldsOf (headerAt message (d + 2) lineStart)) ∙ rw (sym e));
       }
 
   -- nothing more is stored at the header's end and at a fault
   pub at-no-room : headerAt message at lineStart ≡ ended → room < count → Done message room lent (NoRoom count) table
-  unfolding answerIn recordsOf
+  unfolding answerIn
   at-no-room e h = (sym (left .answer ∙ rw (e, lt-ltb room count h)), sym (left .stored ∙ rw e))
 
   pub at-accepted : headerAt message at lineStart ≡ ended → count ≤ room → Done message room lent (Accepted count) table
-  unfolding answerIn recordsOf
+  unfolding answerIn
   at-accepted e h = (sym (left .answer ∙ rw (e, le-ltb room count h)), sym (left .stored ∙ rw e))
 
   pub at-fault : {n p : ℕ} → headerAt message at lineStart ≡ fault n p → Done message room lent (Refused n p) table
-  unfolding answerIn recordsOf
+  unfolding answerIn
   at-fault e = (sym (left .answer ∙ rw e), sym (left .stored ∙ rw e))
 
 -- the answer of splitting, and the table afterwards

@@ -4,7 +4,8 @@ use mathlib.Core.List.{List}
 use Prim.Native.Nat.{ℕ, _+_, _≤_, _<_}
 use native.Mathlib.Omega.{arith}
 use lib.ListN.{length}
-use Rattle.header.specs.Believed.Fields.{fieldOf, Header, field, ended, fault, lineStart, headerAt}
+use Rattle.records.specs.Believed.FieldRecords.{fieldOf}
+use Rattle.header.specs.Believed.Fields.{Header, field, ended, fault, lineStart, headerAt}
 use Rattle.header.specs.Ties.Steps.{firstOf}
 use Rattle.header.specs.declared.fields.Next.the-variants.{Field, End, Fault}
 use Rattle.header.proofs.FieldLaws.{First, first}

@@ -4,19 +4,22 @@ ghost use Prim.Native.Nat.{_+_, _*_, _≤_, _<_};
 ghost use lib.ListN.{length, drop};
 ghost use lib.Seq.{sets};
 ghost use Rattle.octets.specs.Believed.Classes.{isWhite};
-ghost use Rattle.octets.specs.Believed.Numbers.{messageLimit, fieldRecordSize};
-ghost use Rattle.header.specs.Believed.Fields.{nameHolds, nameStartsWith, crlf, endsBody, lineStart, inName, inBody, fieldOf, headerAt, headerOf};
+ghost use Rattle.octets.specs.Believed.Numbers.{messageLimit};
+ghost use Rattle.header.specs.Believed.Fields.{nameHolds, nameStartsWith, crlf, endsBody, lineStart, inName, inBody, fieldsOf, headerAt, headerOf};
 ghost use Rattle.octets.specs.Believed.Answers.{Answered};
-ghost use Rattle.header.specs.Believed.Split.{recordOf, recordsOf, answerIn, splitAnswer, splitTable};
+ghost use Rattle.records.specs.Believed.FieldRecords.{fieldTable};
+ghost use Rattle.header.specs.Believed.Split.{answerIn, splitAnswer, splitTable};
 ghost use Rattle.header.specs.Ties.Steps.{firstOf, GoesOn};
 use octets::answers::Answer;
 use octets::numbers::BYTE_ABOVE_127;
-use octets::numbers::FIELD_RECORD_SIZE;
 use octets::numbers::HEADER_NOT_ENDED;
 use octets::numbers::MESSAGE_LIMIT;
 use octets::numbers::MESSAGE_TOO_LONG;
 use octets::numbers::NAME_FAULT;
-use octets::stored::store_two;
+use records::Span;
+use records::fields::FIELD_RECORD_SIZE;
+use records::fields::FieldRecord;
+use records::fields::store;
 
 // What stands at a line start.
 enum Next {
@@ -31,16 +34,6 @@ enum Next {
 const CR: u8 = 13;
 
 const LF: u8 = 10;
-
-// The bytes of a position in a record.
-const POSITION_WIDTH: usize = 2;
-
-// Where the second, third and fourth position of a record stand.
-const SECOND: usize = POSITION_WIDTH;
-
-const THIRD: usize = 2 * POSITION_WIDTH;
-
-const FOURTH: usize = 3 * POSITION_WIDTH;
 
 // Whether a byte is SPACE or HTAB.
 fn is_white(b: u8) -> bool
@@ -185,42 +178,25 @@ fn next_field(message: &[u8], at: usize) -> Next
     Next::Fault(NAME_FAULT, at)
 }
 
-// Store a field's record from a place on; past the end nothing is stored.
-fn store_record(
-    table: &mut [u8],
-    place: usize,
-    name_start: usize,
-    name_end: usize,
-    body_start: usize,
-    body_end: usize,
-)
-    requires { ⌜ place ≤ fieldRecordSize * messageLimit ⌝ }
-    ensures { λ _. ⌜ now (table .exit) ≡ sets (now (table .entry)) place (recordOf (fieldOf «name_start» «name_end» «body_start» «body_end»)) ⌝ }
-{
-    store_two(table, place, name_start);
-    store_two(table, place + SECOND, name_end);
-    store_two(table, place + THIRD, body_start);
-    store_two(table, place + FOURTH, body_end);
-}
-
 // Store the records of the fields up to the header's end or its fault, and answer as for a table in which `room` records fit.
 fn store_fields(message: &[u8], room: usize, table: &mut [u8]) -> Answer
     requires { ⌜ length (now message) ≤ messageLimit ⌝ }
-    ensures { λ r. ⌜ (r ≡ answerIn room 0 (headerOf (now (message .entry)))) × (now (table .exit) ≡ sets (now (table .entry)) 0 (recordsOf (headerOf (now (message .entry))))) ⌝ }
+    ensures { λ r. ⌜ (r ≡ answerIn room 0 (headerOf (now (message .entry)))) × (now (table .exit) ≡ sets (now (table .entry)) 0 (fieldTable (fieldsOf (headerOf (now (message .entry)))))) ⌝ }
 {
     let mut at: usize = 0;
     let mut count: usize = 0;
     loop {
         match next_field(message, at) {
             Next::Field(name_start, name_end, body_start, body_end) => {
-                store_record(
-                    table,
-                    count * FIELD_RECORD_SIZE,
-                    name_start,
-                    name_end,
-                    body_start,
-                    body_end,
-                );
+                let name = Span {
+                    start: name_start,
+                    end: name_end,
+                };
+                let body = Span {
+                    start: body_start,
+                    end: body_end,
+                };
+                store(table, count, FieldRecord { name, body });
                 count += 1;
                 at = body_end + 2;
             }

@@ -2,7 +2,7 @@
 use mathlib.Core.Path.{_≡_, refl, sym, ap, subst, _∙_}
 use mathlib.Core.Bool.{Bool, true, false}
 use mathlib.Core.List.{List, [], _∷_, _++_}
-use Prim.Native.Nat.{ℕ, _+_, _/_, _≤_}
+use Prim.Native.Nat.{ℕ, _+_, _*_, _/_, _≤_}
 use native.Mathlib.Omega.{arith}
 use borrow.Author.Tests.{ltb-false}
 use denote.Enum.Declared.{tagOf}
@@ -11,20 +11,22 @@ use lib.Dec.{ltb}
 use lib.ListN.{length}
 use lib.Seq.{sets}
 use lib.IntN.{ℤ}
-use Rattle.octets.specs.Believed.Numbers.{addressRecordSize, tableRecords, tooLittleRoom}
+use Rattle.octets.specs.Believed.Numbers.{tableRecords, tooLittleRoom}
 use Rattle.octets.specs.Believed.Octets.{lineFeedByte}
-use Rattle.octets.specs.Believed.Text.{bytes}
+use Rattle.octets.specs.Believed.Text.{bytes, part}
 use Rattle.octets.specs.Ties.Writing.{WroteBy}
-use Rattle.octets.proofs.Writes.{wrote-as, wrote-three}
+use Rattle.octets.proofs.Writes.{wrote-as, wrote-both, wrote-three}
 use Rattle.octets.specs.declared.answers.Answer.{Answer}
 use Rattle.octets.specs.declared.answers.Answer.the-variants.{Accepted, Refused, NoRoom}
-use Rattle.header.specs.Believed.Names.{holdsAddresses}
+use Rattle.records.specs.Believed.AddressRecords.{addressRecordSize, noRecord, tableBytes, recordIn}
+use Rattle.records.specs.Believed.FieldRecords.{Field}
+use Rattle.header.specs.Believed.Names.{knownOf, holdsAddresses}
 use Rattle.header.specs.declared.names.Known.{Known}
 use Rattle.header.specs.declared.names.Known.the-variants as known
 use Rattle.header.proofs.names.Known.{the-type}
 use Rattle.scanner.specs.declared.Class.{Class}
 use Rattle.grammar.specs.Believed.Grammar.{Row}
-use Rattle.grammar.specs.Believed.Records.{noRecord, count, records, tableBytes, recordIn}
+use Rattle.grammar.specs.Believed.Records.{count, records}
 use Rattle.grammar.proofs.Any.Records.{length-records}
 use Rattle.grammar.proofs.Any.Positions.{ReadBack}
 use Rattle.addresses.specs.Believed.Outcome.{Outcome, refusal, derived, outcomeBy}
@@ -32,12 +34,12 @@ use Rattle.editions.specs.Believed.Outcome.{outcomeOf}
 use Rattle.editions.proofs.Judgements.{AnsweredBy, JudgedOf, refusedAt, listed as list-of, judged-of, unchanged-733}
 use Rattle.dates.specs.declared.DateAnswer.{DateAnswer}
 use Rattle.dates.specs.declared.DateAnswer.the-variants as date
-use Rattle.listing.specs.Believed.Lines.{signed, addressLine, refusedLine}
-use Rattle.listing.specs.Believed.Listing.{each, listed, unlessRefused, addressBody, dateText, otherBody, body}
+use Rattle.listing.specs.Believed.Lines.{signed, fieldLine, addressLine, refusedLine}
+use Rattle.listing.specs.Believed.Listing.{each, listed, unlessRefused, addressBody, dateText, otherBody, body, fieldText}
 use Rattle.listing.specs.Ties.Putting.{tabulate}
 use Rattle.listing.proofs.TableLaws.{tabulated}
 
-module _ (edition : ℕ) (message : List ℕ) (start end : ℕ) (table : List ℕ) (size : 24576 ≡ length table) where
+module _ (edition : ℕ) (message : List ℕ) (start end : ℕ) (table : List ℕ) (size : tableRecords * addressRecordSize ≡ length table) where
   -- what the reader's answer says of what is printed
   abbrev pub Printed : Answer → List ℕ → Type 0
   Printed (Accepted many) after =
@@ -113,3 +115,9 @@ other-name known.To message start end rest o = refl
 other-name known.Cc message start end rest o = refl
 other-name known.Bcc message start end rest o = refl
 other-name known.Other message start end rest o = refl
+
+-- a field's line, and then the lines of its body
+pub field-text : (edition : ℕ) (message : List ℕ) (f : Field) {k : Known} {store : List ℕ → ℕ → List ℕ → List ℕ} {o p q : List ℕ} {n a b : ℕ} → k ≡ knownOf (part message (f .nameStart) (f .nameEnd))
+    → WroteBy store (fieldLine f) o n p a → WroteBy store (body edition k message (f .bodyStart) (f .bodyEnd)) p a q b → WroteBy store (fieldText edition message f) o n q b
+unfolding fieldText
+field-text edition message f e w x = wrote-both {f = fieldLine f} w (rw e at x)

@@ -1,17 +1,15 @@
 -- A line is written part by part. Assumes nothing.
 use mathlib.Core.Path.{_≡_}
 use mathlib.Core.List.{List, _∷_, _++_}
-use Prim.Native.Nat.{ℕ, _+_, _*_}
-use native.Mathlib.Omega.{arith}
-use Rattle.octets.specs.Believed.Numbers.{fieldRecordSize, addressRecordSize}
+use Prim.Native.Nat.{ℕ}
 use Rattle.octets.specs.Believed.Octets.{lineFeedByte}
-use Rattle.octets.specs.Believed.Stored.{numberAt}
 use Rattle.octets.specs.Believed.Text.{bytes}
 use Rattle.octets.specs.Ties.Writing.{WroteBy}
 use Rattle.octets.proofs.Writes.{wrote-both}
-use Rattle.grammar.specs.Believed.Records.{recordIn}
+use Rattle.records.specs.Believed.FieldRecords.{Field}
+use Rattle.records.specs.Believed.AddressRecords.{AddressRecord}
 use Rattle.listing.specs.Believed.Lines.{spaced, fieldLine, addressLine, refusedLine}
-use Rattle.listing.specs.Ties.Putting.{number, four, fieldIn}
+use Rattle.listing.specs.Ties.Putting.{number, four}
 
 -- the end of a line
 abbrev ending : List ℕ → List ℕ
@@ -22,21 +20,12 @@ abbrev word : List ℕ → List ℕ → List ℕ
 word letters rest = letters ++ rest
 
 module _ {store : List ℕ → ℕ → List ℕ → List ℕ} where
-  -- the same number
-  wrote-number : {x y : ℕ} {o p : List ℕ} {n m : ℕ} → x ≡ y → WroteBy store (number x) o n p m → WroteBy store (number y) o n p m
-  wrote-number e w = rw e at w
-
-  -- four numbers of a table
-  pub four-numbers : (table : List ℕ) (at : ℕ) {w x y z : ℕ} {o p q r s : List ℕ} {n a b c d : ℕ}
-      → w ≡ numberAt 2 table at → x ≡ numberAt 2 table (at + 2) → y ≡ numberAt 2 table (at + 4) → z ≡ numberAt 2 table (at + 6)
-      → WroteBy store (number w) o n p a → WroteBy store (number x) p a q b → WroteBy store (number y) q b r c → WroteBy store (number z) r c s d
-      → WroteBy store (four table at) o n s d
-  four-numbers table at e f g h w x y z =
-      wrote-both {f = number (numberAt 2 table at)} {g = λ rest. number (numberAt 2 table (at + 2)) (number (numberAt 2 table (at + 4)) (number (numberAt 2 table (at + 6)) rest))}
-      (wrote-number e w)
-      (wrote-both {f = number (numberAt 2 table (at + 2))} {g = λ rest. number (numberAt 2 table (at + 4)) (number (numberAt 2 table (at + 6)) rest)}
-      (wrote-number f x)
-      (wrote-both {f = number (numberAt 2 table (at + 4))} {g = number (numberAt 2 table (at + 6))} (wrote-number g y) (wrote-number h z)))
+  -- four numbers
+  pub four-numbers : (w x y z : ℕ) {o p q r s : List ℕ} {n a b c d : ℕ} → WroteBy store (number w) o n p a → WroteBy store (number x) p a q b → WroteBy store (number y) q b r c → WroteBy store (number z) r c s d
+      → WroteBy store (four w x y z) o n s d
+  four-numbers w x y z f g h k =
+      wrote-both {f = number w} {g = λ rest. number x (number y (number z rest))} f
+      (wrote-both {f = number x} {g = λ rest. number y (number z rest)} g (wrote-both {f = number y} {g = number z} h k))
 
   -- the line of a refusal
   pub refused-line : (x y : ℕ) {o p q r s : List ℕ} {n a b c d : ℕ}
@@ -47,32 +36,24 @@ module _ {store : List ℕ → ℕ → List ℕ → List ℕ} where
       (wrote-both {f = number x} {g = λ rest. number y (ending rest)} f (wrote-both {f = number y} {g = ending} g e))
 
   -- the line of a field record
-  pub field-line : (table : List ℕ) (i : ℕ) {o p q r : List ℕ} {n a b c : ℕ}
-      → WroteBy store (word (bytes "field")) o n p a → WroteBy store (four table (i * fieldRecordSize)) p a q b → WroteBy store ending q b r c → WroteBy store (fieldLine (fieldIn table i)) o n r c
+  pub field-line : (f : Field) {o p q r : List ℕ} {n a b c : ℕ}
+      → WroteBy store (word (bytes "field")) o n p a → WroteBy store (four (f .nameStart) (f .nameEnd) (f .bodyStart) (f .bodyEnd)) p a q b → WroteBy store ending q b r c → WroteBy store (fieldLine f) o n r c
   unfolding spaced
-  field-line table i w f e =
-      wrote-both {f = word (bytes "field")} {g = λ rest. four table (i * fieldRecordSize) (ending rest)} w
-      (wrote-both {f = four table (i * fieldRecordSize)} {g = ending} f e)
+  field-line f w x e =
+      let all = four (f .nameStart) (f .nameEnd) (f .bodyStart) (f .bodyEnd) in
+      wrote-both {f = word (bytes "field")} {g = λ rest. all (ending rest)} w (wrote-both {f = all} {g = ending} x e)
 
   -- the line of an address record
-  pub address-line : (table : List ℕ) (i : ℕ) {x y z : ℕ} {o p q r s t u : List ℕ} {n a b c d e f : ℕ}
-      → x ≡ numberAt 1 table (i * addressRecordSize) → y ≡ numberAt 1 table (i * addressRecordSize + 1) → z ≡ numberAt 2 table (i * addressRecordSize + 2)
-      → WroteBy store (word (bytes "address")) o n p a → WroteBy store (number x) p a q b → WroteBy store (number y) q b r c → WroteBy store (number z) r c s d
-      → WroteBy store (four table (i * addressRecordSize + 4)) s d t e → WroteBy store ending t e u f → WroteBy store (addressLine (recordIn table i)) o n u f
+  pub address-line : (r : AddressRecord) {o p q s t u v : List ℕ} {n a b c d e f : ℕ}
+      → WroteBy store (word (bytes "address")) o n p a → WroteBy store (number (r .kind)) p a q b → WroteBy store (number (r .depth)) q b s c → WroteBy store (number (r .parent)) s c t d
+      → WroteBy store (four (r .start) (r .end) (r .nameStart) (r .nameEnd)) t d u e → WroteBy store ending u e v f → WroteBy store (addressLine r) o n v f
   unfolding spaced
-  address-line table i g h k w x y z v e =
-      let at = i * addressRecordSize in
-      let six : at + 4 + 2 ≡ at + 6 = omega arith in
-      let eight : at + 4 + 4 ≡ at + 8 = omega arith in
-      let ten : at + 4 + 6 ≡ at + 10 = omega arith in
-      rw (← six, ← eight, ← ten)
-      (wrote-both {f = word (bytes "address")}
-      {g = λ rest. number (numberAt 1 table at) (number (numberAt 1 table (at + 1)) (number (numberAt 2 table (at + 2)) (number (numberAt 2 table (at + 4)) (number (numberAt 2 table (at + 4 + 2)) (number (numberAt 2 table (at + 4 + 4)) (number (numberAt 2 table (at + 4 + 6)) (ending rest)))))))}
-      w
-      (wrote-both {f = number (numberAt 1 table at)} {g = λ rest. number (numberAt 1 table (at + 1)) (number (numberAt 2 table (at + 2)) (number (numberAt 2 table (at + 4)) (number (numberAt 2 table (at + 4 + 2)) (number (numberAt 2 table (at + 4 + 4)) (number (numberAt 2 table (at + 4 + 6)) (ending rest))))))}
-      (wrote-number g x)
-      (wrote-both {f = number (numberAt 1 table (at + 1))} {g = λ rest. number (numberAt 2 table (at + 2)) (number (numberAt 2 table (at + 4)) (number (numberAt 2 table (at + 4 + 2)) (number (numberAt 2 table (at + 4 + 4)) (number (numberAt 2 table (at + 4 + 6)) (ending rest)))))}
-      (wrote-number h y)
-      (wrote-both {f = number (numberAt 2 table (at + 2))} {g = λ rest. number (numberAt 2 table (at + 4)) (number (numberAt 2 table (at + 4 + 2)) (number (numberAt 2 table (at + 4 + 4)) (number (numberAt 2 table (at + 4 + 6)) (ending rest))))}
-      (wrote-number k z)
-      (wrote-both {f = λ rest. number (numberAt 2 table (at + 4)) (number (numberAt 2 table (at + 4 + 2)) (number (numberAt 2 table (at + 4 + 4)) (number (numberAt 2 table (at + 4 + 6)) rest)))} {g = ending} v e)))))
+  address-line r w k d p x e =
+      let kind = number (r .kind) in
+      let depth = number (r .depth) in
+      let parent = number (r .parent) in
+      let spans = four (r .start) (r .end) (r .nameStart) (r .nameEnd) in
+      wrote-both {f = word (bytes "address")} {g = λ rest. kind (depth (parent (spans (ending rest))))} w
+      (wrote-both {f = kind} {g = λ rest. depth (parent (spans (ending rest)))} k
+      (wrote-both {f = depth} {g = λ rest. parent (spans (ending rest))} d
+      (wrote-both {f = parent} {g = λ rest. spans (ending rest)} p (wrote-both {f = spans} {g = ending} x e))))

@@ -5,16 +5,17 @@ use Prim.Native.Nat.{ℕ, _+_, _*_, _<_}
 use native.Mathlib.Omega.{arith}
 use lib.ListN.{length, getD, drop}
 use lib.Seq.{sets}
-use Rattle.octets.specs.Believed.Numbers.{fieldRecordSize, tableRecords}
+use Rattle.octets.specs.Believed.Numbers.{tableRecords}
 use Rattle.octets.specs.Ties.Writing.{WroteBy, inWindow}
 use Rattle.octets.proofs.Writes.{nothing-more, window-all}
 use Rattle.octets.specs.declared.answers.Answer.{Answer}
 use Rattle.octets.specs.declared.answers.Answer.the-variants.{Accepted, Refused, NoRoom}
-use Rattle.header.specs.Believed.Fields.{Field, fieldsOf, headerOf}
+use Rattle.records.specs.Believed.FieldRecords.{noField, fieldRecordSize, fieldIn}
+use Rattle.header.specs.Believed.Fields.{fieldsOf, headerOf}
 use Rattle.header.specs.Believed.Split.{answerFor, splitAnswer, splitTable}
-use Rattle.header.proofs.FieldLaws.{noField, fields-ordered}
-use Rattle.header.proofs.ReadBack.{Stands, accept}
-use Rattle.listing.specs.Ties.Putting.{tabulate, fieldIn, Holds, Fits}
+use Rattle.header.proofs.FieldLaws.{fields-ordered}
+use Rattle.header.proofs.ReadBack.{accept}
+use Rattle.listing.specs.Ties.Putting.{tabulate, Holds, Fits}
 use Rattle.listing.proofs.TableLaws.{tabulated}
 
 -- a text that is written from its start on
@@ -22,24 +23,18 @@ pub whole : (from : ℕ) {f : List ℕ → List ℕ} {o p : List ℕ} {r : ℕ} 
     → (r ≡ length text) × (p ≡ sets o 0 (drop from text))
 whole from {f} {o} {p} {r} w e = rw (← e) (omega (arith, w .count []), sym (nothing-more from p r) ∙ sym (w .same []) ∙ window-all from o (f []))
 
--- a field that stands in a table is the one in it
-field-is : (table : List ℕ) (i : ℕ) (f : Field) → Stands table (i * fieldRecordSize) f → fieldIn table i ≡ f
-field-is table i f s = rw (s .name-start, s .name-end, s .body-start, s .body-end)
-
-module _ (message table : List ℕ) (size : 16384 ≡ length table) where
+module _ (message table : List ℕ) (size : tableRecords * fieldRecordSize ≡ length table) where
   -- a table after splitting holds the fields
   held : (n : ℕ) → splitAnswer message table ≡ Accepted n → Holds message (splitTable message table) n
   held n e =
       let a = accept message table n e in
-      let is : (k : ℕ) → k < n → fieldIn (splitTable message table) k ≡ getD (fieldsOf (headerOf message)) k noField
-      = λ k l. field-is (splitTable message table) k (getD (fieldsOf (headerOf message)) k noField) (a .stand k l) in
       record {
         few = omega (arith, a .fits, size);
         named = λ k l.
             let o = fields-ordered message k (omega (arith, a .count)) in
-            rw (is k l) (record { order = omega (arith, o .named); within = omega (arith, o .colon, o .bodied, o .within) });
+            rw (a .are k l) (record { order = omega (arith, o .named); within = omega (arith, o .colon, o .bodied, o .within) });
         are = ap (λ m. tabulate (fieldIn (splitTable message table)) m 0) (a .count)
-            ∙ tabulated (fieldIn (splitTable message table)) (fieldsOf (headerOf message)) noField 0 (λ k l. let z : 0 + k ≡ k = omega arith in rw z (is k (omega (arith, a .count))));
+            ∙ tabulated (fieldIn (splitTable message table)) (fieldsOf (headerOf message)) noField 0 (λ k l. let z : 0 + k ≡ k = omega arith in rw z (a .are k (omega (arith, a .count))));
       }
 
   by-answer : (r : Answer) → splitAnswer message table ≡ r → Fits message (splitTable message table) r

@@ -8,12 +8,13 @@ ghost use lib.ListN.{length, drop};
 ghost use lib.Seq.{sets};
 ghost use Rattle.octets.specs.Believed.Numbers.{tableRecords};
 ghost use Rattle.octets.specs.Believed.Text.{part};
-ghost use Rattle.grammar.specs.Believed.Records.{recordIn};
+ghost use Rattle.records.specs.Believed.AddressRecords.{addressRecordSize, recordIn};
+ghost use Rattle.records.specs.Believed.FieldRecords.{fieldRecordSize, fieldIn};
 ghost use Rattle.octets.specs.Ties.Writing.{countLimit, WroteBy, inWindow};
 ghost use Rattle.header.specs.Believed.Names.{knownOf};
 ghost use Rattle.listing.specs.Believed.Lines.{decimal, signed as signedText, addressLine, refusedLine};
 ghost use Rattle.listing.specs.Believed.Listing.{each, addressBody, dateText, body as bodyText, fieldText, headerText, listing};
-ghost use Rattle.listing.specs.Ties.Putting.{lineLimit, bodyLimit, fieldLimit, listingLimit, tabulate, number as numberText, four, fieldIn, Named, AllNamed, Fits};
+ghost use Rattle.listing.specs.Ties.Putting.{lineLimit, bodyLimit, fieldLimit, tabulate, number as numberText, four, Named, AllNamed, Fits};
 ghost use Rattle.dates.specs.Believed.Outcome.{dateAnswer};
 use dates::DateAnswer;
 use dates::read_date;
@@ -23,27 +24,31 @@ use header::names::Known;
 use header::names::holds_addresses;
 use header::names::known_name;
 use octets::answers::Answer;
-use octets::numbers::ADDRESS_RECORD_SIZE;
-use octets::numbers::FIELD_RECORD_SIZE;
+use octets::numbers::TABLE_RECORDS;
 use octets::numbers::TOO_LITTLE_ROOM;
-use octets::stored::load_byte;
-use octets::stored::load_two;
 use octets::stored::store_byte;
+use records::addresses::ADDRESS_RECORD_SIZE;
+use records::fields::FIELD_RECORD_SIZE;
 
 pub mod printing;
 
-// A table of 2,048 field records.
-fn field_table() -> [u8; 16384]
-    ensures { λ r. ⌜ 16384 ≡ length r ⌝ }
+// The bytes of a table of field records, and of one of address records.
+const FIELD_TABLE_SIZE: usize = TABLE_RECORDS * FIELD_RECORD_SIZE;
+
+const ADDRESS_TABLE_SIZE: usize = TABLE_RECORDS * ADDRESS_RECORD_SIZE;
+
+// A table of field records.
+fn field_table() -> [u8; FIELD_TABLE_SIZE]
+    ensures { λ r. ⌜ tableRecords * fieldRecordSize ≡ length r ⌝ }
 {
-    [0; 16384]
+    [0; FIELD_TABLE_SIZE]
 }
 
-// A table of 2,048 address records.
-fn address_table() -> [u8; 24576]
-    ensures { λ r. ⌜ 24576 ≡ length r ⌝ }
+// A table of address records.
+fn address_table() -> [u8; ADDRESS_TABLE_SIZE]
+    ensures { λ r. ⌜ tableRecords * addressRecordSize ≡ length r ⌝ }
 {
-    [0; 24576]
+    [0; ADDRESS_TABLE_SIZE]
 }
 
 // One byte, if it lies in the window.
@@ -109,15 +114,15 @@ fn put_number(x: usize, from: usize, out: &mut [u8], n: usize) -> usize
     put_decimal(x as u64, from, out, m)
 }
 
-// Four numbers of two bytes from a place of a table on.
-fn put_four(table: &[u8], at: usize, from: usize, out: &mut [u8], n: usize) -> usize
-    requires { ⌜ (at ≤ listingLimit) × (n + 84 ≤ countLimit) ⌝ }
-    ensures { λ r. ⌜ WroteBy (inWindow from) (four (now (table .entry)) at) (now (out .entry)) n (now (out .exit)) r × (r ≤ n + 84) ⌝ }
+// Four numbers.
+fn put_four(w: usize, x: usize, y: usize, z: usize, from: usize, out: &mut [u8], n: usize) -> usize
+    requires { ⌜ n + 84 ≤ countLimit ⌝ }
+    ensures { λ r. ⌜ WroteBy (inWindow from) (four w x y z) (now (out .entry)) n (now (out .exit)) r × (r ≤ n + 84) ⌝ }
 {
-    let a = put_number(load_two(table, at), from, out, n);
-    let b = put_number(load_two(table, at + 2), from, out, a);
-    let c = put_number(load_two(table, at + 4), from, out, b);
-    put_number(load_two(table, at + 6), from, out, c)
+    let a = put_number(w, from, out, n);
+    let b = put_number(x, from, out, a);
+    let c = put_number(y, from, out, b);
+    put_number(z, from, out, c)
 }
 
 // The line of a refusal.
@@ -133,15 +138,24 @@ fn put_refused(number: u8, position: usize, from: usize, out: &mut [u8], n: usiz
 
 // The line of an address record of a table.
 fn put_address(table: &[u8], i: usize, from: usize, out: &mut [u8], n: usize) -> usize
-    requires { ⌜ (i < tableRecords) × (n + lineLimit ≤ countLimit) ⌝ }
+    requires { ⌜ n + lineLimit ≤ countLimit ⌝ }
     ensures { λ r. ⌜ WroteBy (inWindow from) (addressLine (recordIn (now (table .entry)) i)) (now (out .entry)) n (now (out .exit)) r × (r ≤ n + lineLimit) ⌝ }
 {
-    let at = i * ADDRESS_RECORD_SIZE;
+    let address = records::addresses::load(table, i);
     let a = put_bytes(b"address", from, out, n);
-    let b = put_number(load_byte(table, at) as usize, from, out, a);
-    let c = put_number(load_byte(table, at + 1) as usize, from, out, b);
-    let d = put_number(load_two(table, at + 2), from, out, c);
-    let e = put_four(table, at + 4, from, out, d);
+    let b = put_number(address.kind as usize, from, out, a);
+    let c = put_number(address.depth as usize, from, out, b);
+    let d = put_number(address.parent, from, out, c);
+    let name = address.name;
+    let e = put_four(
+        address.start,
+        address.end,
+        name.start,
+        name.end,
+        from,
+        out,
+        d,
+    );
     put(from, out, e, b'\n')
 }
 
@@ -243,17 +257,17 @@ fn put_field(
     out: &mut [u8],
     n: usize,
 ) -> usize
-    requires { ⌜ (i < tableRecords) × Named (now message) (fieldIn (now fields) i) × (n + fieldLimit ≤ countLimit) ⌝ }
+    requires { ⌜ Named (now message) (fieldIn (now fields) i) × (n + fieldLimit ≤ countLimit) ⌝ }
     ensures { λ r. ⌜ WroteBy (inWindow from) (fieldText edition (now (message .entry)) (fieldIn (now (fields .entry)) i)) (now (out .entry)) n (now (out .exit)) r × (r ≤ n + fieldLimit) ⌝ }
 {
-    let at = i * FIELD_RECORD_SIZE;
+    let field = records::fields::load(fields, i);
     let a = put_bytes(b"field", from, out, n);
-    let b = put_four(fields, at, from, out, a);
+    let name = field.name;
+    let body = field.body;
+    let b = put_four(name.start, name.end, body.start, body.end, from, out, a);
     let c = put(from, out, b, b'\n');
-    let known = name_at(message, load_two(fields, at), load_two(fields, at + 2));
-    let start = load_two(fields, at + 4);
-    let end = load_two(fields, at + 6);
-    put_body(message, edition, known, start, end, from, out, c)
+    let known = name_at(message, name.start, name.end);
+    put_body(message, edition, known, body.start, body.end, from, out, c)
 }
 
 // The lines of the first field records of a table, each with those of its body.

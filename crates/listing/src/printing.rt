@@ -1,17 +1,22 @@
 // The program of an edition: it reads one message from standard input and prints its listing.
 ghost use mathlib.Core.Path.{_≡_};
-ghost use Prim.Native.Nat.{_<_};
+ghost use Prim.Native.Nat.{_+_, _<_};
 ghost use lib.ListN.{length};
+ghost use Rattle.octets.specs.Believed.Numbers.{messageLimit};
 use crate::write_listing;
 use libc::STDERR_FILENO;
 use libc::STDIN_FILENO;
 use libc::STDOUT_FILENO;
+use octets::numbers::MESSAGE_LIMIT;
 
-// Room for one byte more than a message may have.
-fn message_room() -> [u8; 32769]
-    ensures { λ r. ⌜ 32769 ≡ length r ⌝ }
+// The bytes of the program's buffer: one more than a message may have.
+const BUFFER_SIZE: usize = MESSAGE_LIMIT + 1;
+
+// Room for a message.
+fn message_room() -> [u8; BUFFER_SIZE]
+    ensures { λ r. ⌜ messageLimit + 1 ≡ length r ⌝ }
 {
-    [0; 32769]
+    [0; BUFFER_SIZE]
 }
 
 // Print the first bytes of a text.

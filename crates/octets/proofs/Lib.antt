@@ -7,4 +7,3 @@ pub mod LetterLaws
 pub mod StoredLaws
 pub mod Parts
 pub mod Writes
-pub mod RecordsBack

@@ -4,10 +4,6 @@
 pub const MESSAGE_LIMIT: usize = 32768;
 // The most levels of addresses.
 pub const LEVEL_LIMIT: usize = 64;
-// The bytes of a field record.
-pub const FIELD_RECORD_SIZE: usize = 8;
-// The bytes of an address record.
-pub const ADDRESS_RECORD_SIZE: usize = 12;
 // The records of a table that the program or a tool keeps itself.
 pub const TABLE_RECORDS: usize = 2048;
 // The bytes of a record of the store of lists.

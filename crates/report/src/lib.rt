@@ -5,10 +5,10 @@ use octets::answers::Answer;
 use octets::answers::count;
 use octets::answers::number;
 use octets::answers::position;
-use octets::numbers::ADDRESS_RECORD_SIZE;
 use octets::numbers::MESSAGE_LIMIT;
 use octets::stored::load_byte;
 use octets::stored::load_two;
+use records::addresses::ADDRESS_RECORD_SIZE;
 
 // What stands in a room when a program lends it.
 pub const UNTOUCHED: u8 = 170;

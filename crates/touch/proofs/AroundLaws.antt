@@ -8,7 +8,7 @@ use borrow.Author.Tests.{leb-true, leb-false, ltb-true, ltb-false}
 use lib.Dec.{leb, ltb}
 use lib.ListN.{length, getD, length-append}
 use Rattle.octets.specs.Believed.Choice.{pick}
-use Rattle.grammar.specs.Believed.Records.{AddressRecord, noRecord}
+use Rattle.records.specs.Believed.AddressRecords.{AddressRecord, noRecord}
 use Rattle.touch.specs.Believed.Around.{covers, aroundFrom, around, firstPlus, Climbs, over, up, AroundClimbs}
 use Rattle.touch.proofs.Nesting.{Nest, nil, node, flatten, height, Well, well-le, Nested}
 

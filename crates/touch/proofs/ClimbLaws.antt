@@ -10,7 +10,7 @@ use lib.Dec.{ltb}
 use lib.ListN.{length, getD, set, drop}
 use lib.Seq.{sets, drop-cons, drop-length}
 use Rattle.octets.specs.Believed.Choice.{pick}
-use Rattle.grammar.specs.Believed.Records.{AddressRecord, noRecord, recordIn}
+use Rattle.records.specs.Believed.AddressRecords.{AddressRecord, noRecord, recordIn}
 use Rattle.touch.specs.Believed.Around.{covers, aroundFrom, around, firstPlus, Climbs, over, up}
 use Rattle.touch.specs.Ties.Climbing.{Holds, MayClimb}
 

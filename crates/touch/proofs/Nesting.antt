@@ -5,7 +5,8 @@ use mathlib.Core.Path.{_≡_, refl, sym, ap, _∙_}
 use mathlib.Core.List.{List, [], _∷_, _++_, append-assoc, append-nil}
 use lib.ListN.{length}
 use Rattle.grammar.specs.Believed.Grammar.{levels}
-use Rattle.grammar.specs.Believed.Records.{AddressRecord, records}
+use Rattle.records.specs.Believed.AddressRecords.{AddressRecord}
+use Rattle.grammar.specs.Believed.Records.{records}
 use Rattle.grammar.specs.Believed.Rfc733.{Derivation, DerivedList}
 use Rattle.grammar.specs.Executable.Trees733.{LessThan, GreaterThan, Comma, Semicolon, Colon, Sym, of, Place, empty, comma, AddressList, idle, full, Address, mailbox, angle, group, quoted, typed}
 use Rattle.grammar.proofs.Rfc733.Trees.{nodesThen, placeThen, listThen, addressThen, placeLevels, listLevels, addressLevels}

@@ -8,16 +8,17 @@ use borrow.Author.Tests.{le-ltb, lt-ltb, le-leb, lt-leb, ltb-false}
 use lib.Dec.{ltb}
 use lib.ListN.{length}
 use lib.Seq.{sets}
-use Rattle.octets.specs.Believed.Numbers.{levelLimit, tableRecords, addressRecordSize, bodyOutOfOrder}
+use Rattle.octets.specs.Believed.Numbers.{levelLimit, tableRecords, bodyOutOfOrder}
 use Rattle.octets.specs.declared.answers.Answer.{Answer}
 use Rattle.octets.specs.declared.answers.Answer.the-variants as reader
+use Rattle.records.specs.Believed.AddressRecords.{addressRecordSize, tableBytes, noRecord}
 use Rattle.scanner.specs.Believed.Answers.{bodyScanned}
 use Rattle.scanner.specs.Believed.Categories.{categoryAt}
 use Rattle.scanner.specs.declared.Class.{Class}
 use Rattle.scanner.specs.declared.Category.{Category}
 use Rattle.scanner.proofs.BodyChecks.{Clean, when-clean, when-refused}
 use Rattle.grammar.specs.Believed.Language.{Verdict, accepted, refused, number, positionOf}
-use Rattle.grammar.specs.Believed.Records.{count, records, tableBytes}
+use Rattle.grammar.specs.Believed.Records.{count, records}
 use Rattle.grammar.specs.Believed.Rfc733.{Derivation}
 use Rattle.grammar.specs.Executable.Machine733.{answer}
 use Rattle.grammar.proofs.Rfc733.Condition3.{answer-accepts, answer-derives, decides}
@@ -33,7 +34,6 @@ use Rattle.addresses.proofs.RecordsRead.{record-read}
 use Rattle.expected.specs.Believed.Things.{sumOf}
 use Rattle.expected.specs.Executable.Named.{named, expectedIn}
 use Rattle.expected.proofs.NameLaws.{before-refused, names-right}
-use Rattle.grammar.specs.Believed.Records.{noRecord}
 use Rattle.touch.specs.Believed.Around.{around, firstPlus, Climbs}
 use Rattle.touch.specs.Believed.Answers.{told, AnsweredBy, Outcome, unchanged, refusal, byteOf, ofList}
 use Rattle.touch.specs.Believed.Touched.{decided, touched}

@@ -5,22 +5,22 @@ ghost use mathlib.Core.Path.{_≡_};
 ghost use Prim.Native.Nat.{_+_, _*_, _≤_, _<_};
 ghost use lib.ListN.{length};
 ghost use Rattle.octets.specs.Believed.Choice.{pick};
-ghost use Rattle.octets.specs.Believed.Numbers.{tableRecords, addressRecordSize};
+ghost use Rattle.octets.specs.Believed.Numbers.{tableRecords};
 ghost use Rattle.octets.specs.Ties.Writing.{countLimit};
-ghost use Rattle.grammar.specs.Believed.Records.{recordIn};
+ghost use Rattle.records.specs.Believed.AddressRecords.{addressRecordSize, recordIn};
 ghost use Rattle.touch.specs.Believed.Around.{covers};
 ghost use Rattle.touch.specs.Believed.Answers.{numberOf, positionOf, countOf, categoryOf, namesOf, categoryNumber, AnsweredBy};
 ghost use Rattle.touch.specs.Believed.Touched.{touched};
 ghost use Rattle.touch.specs.Believed.ByGrammar.{ByGrammar};
 ghost use Rattle.touch.specs.Ties.Climbing.{LastAroundIs, MayClimb, ClimbIs, SomeList, ListIs};
-use grammar::load_record;
 use octets::answers::Answer;
 use octets::numbers::ACCEPTED;
-use octets::numbers::ADDRESS_RECORD_SIZE;
 use octets::numbers::BODY_OUT_OF_ORDER;
 use octets::numbers::TABLE_RECORDS;
 use octets::numbers::TOO_LITTLE_ROOM;
 use octets::stored::store_number;
+use records::addresses::ADDRESS_RECORD_SIZE;
+use records::addresses::load;
 use scanner::Category;
 
 // The bytes of the tool's own table.
@@ -122,7 +122,7 @@ fn own_table() -> [u8; TABLE_SIZE]
 fn is_around(table: &[u8], number: usize, place: usize) -> bool
     ensures { λ r. ⌜ r ≡ covers place (recordIn (now (table .entry)) number) ⌝ }
 {
-    let address = load_record(table, number);
+    let address = load(table, number);
     if place < address.start {
         return false;
     }
@@ -164,7 +164,7 @@ fn climb(table: &[u8], parent: usize, path: &mut [u64], at: usize) -> usize
     }
     let number = parent - 1;
     store_number(path, at, number as u64);
-    let address = load_record(table, number);
+    let address = load(table, number);
     climb(table, address.parent, path, at + 1)
 }
 

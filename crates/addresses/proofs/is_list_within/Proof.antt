@@ -3,6 +3,7 @@ use mathlib.Core.Path.{sym}
 use native.Mathlib.Omega.{arith}
 use lib.ListN.{length}
 use Rattle.octets.specs.Believed.Classes.{classOf, classTable}
+use Rattle.octets.specs.Believed.Numbers.{levelLimit}
 use Rattle.scanner.proofs.BodyChecks.{Clean, clean}
 use Rattle.addresses.proofs.WithinLaws.{whole-text, within-refused, within-told}
 use borrow.Author.Needs.{needs}
@@ -32,7 +33,7 @@ returns-2 : tie.Need-returns-2
 unfolding classTable classOf
 returns-2 c =
     let a = c .before .before .before .before .before .before .args in
-    within-told (a .levels) (a .text .now) (passed (c .before .before .before)) 64 (omega arith) (c .ends-within .ensures)
+    within-told (a .levels) (a .text .now) (passed (c .before .before .before)) levelLimit (omega arith) (c .ends-within .ensures)
 
 ends-within-requires-2 : tie.Need-ends-within-requires-2
 unfolding classTable classOf

@@ -4,18 +4,19 @@ use mathlib.Core.Path.{_≡_}
 use mathlib.Core.List.{List}
 use lib.ListN.{length, take}
 use lib.Seq.{sets}
-use Rattle.octets.specs.Believed.Numbers.{messageLimit, levelLimit, addressRecordSize, accepted, tooLittleRoom}
+use Rattle.octets.specs.Believed.Numbers.{messageLimit, levelLimit, accepted, tooLittleRoom}
 use Rattle.octets.specs.Believed.Answers.{telling, told}
 use Rattle.octets.specs.Believed.Stored.{roomFor}
 use Rattle.octets.specs.declared.answers.Answer.{Answer}
 use Rattle.octets.specs.declared.answers.Answer.the-variants.{Accepted}
+use Rattle.records.specs.Believed.AddressRecords.{addressRecordSize, tableBytes}
 use Rattle.scanner.specs.Believed.Scanning.{scanBy}
 use Rattle.scanner.specs.Believed.Answers.{faultOf}
 use Rattle.scanner.specs.Believed.Symbols.{Symbol}
 use Rattle.scanner.specs.declared.Class.{Class}
 use Rattle.grammar.specs.Believed.Grammar.{Row, Derived, levels}
 use Rattle.grammar.specs.Believed.Language.{Refusal, refused, number, positionOf, Right}
-use Rattle.grammar.specs.Believed.Records.{count, records, tableBytes}
+use Rattle.grammar.specs.Believed.Records.{count, records}
 use Rattle.grammar.specs.Believed.Rfc733.{Derivation}
 use Rattle.addresses.specs.Believed.Editions.{Edition, edition733}
 use Rattle.addresses.specs.Believed.Editions.{symbolsIn}

@@ -7,17 +7,18 @@ use lib.ListN.{take}
 use lib.Seq.{sets}
 use Rattle.octets.specs.Believed.Choice.{pick}
 use Rattle.octets.specs.Believed.Answers.{Answered}
-use Rattle.octets.specs.Believed.Numbers.{levelLimit, addressRecordSize}
+use Rattle.octets.specs.Believed.Numbers.{levelLimit}
 use Rattle.octets.specs.Believed.Stored.{roomFor}
 use Rattle.octets.specs.declared.answers.Answer.{Answer}
 use Rattle.octets.specs.declared.answers.Answer.the-variants.{Accepted, Refused, NoRoom}
+use Rattle.records.specs.Believed.AddressRecords.{addressRecordSize, tableBytes}
 use Rattle.scanner.specs.Believed.Symbols.{Symbol}
 use Rattle.scanner.specs.Believed.Scanning.{scanBy}
 use Rattle.scanner.specs.Believed.Answers.{bodyChecked, unlessFault}
 use Rattle.scanner.specs.declared.Class.{Class}
 use Rattle.grammar.specs.Believed.Grammar.{Row}
 use Rattle.grammar.specs.Believed.Language.{Verdict, accepted, refused, number, positionOf}
-use Rattle.grammar.specs.Believed.Records.{count, records, tableBytes}
+use Rattle.grammar.specs.Believed.Records.{count, records}
 use Rattle.grammar.specs.Believed.Rfc733.{Derivation}
 use Rattle.grammar.specs.Executable.Machine733.{answer}
 use Rattle.addresses.specs.Believed.Editions.{Edition, edition733, symbolsIn}

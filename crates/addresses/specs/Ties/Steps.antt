@@ -6,15 +6,15 @@ use mathlib.Core.Option.{Option, none, some}
 use Prim.Native.Nat.{ℕ, _+_, _*_, _-_, _≤_, _<_}
 use lib.ListN.{length}
 use lib.Seq.{sets}
-use Rattle.octets.specs.Believed.Numbers.{messageLimit, noListGoesOn, endsTooSoon}
+use Rattle.octets.specs.Believed.Numbers.{messageLimit, noListGoesOn, endsTooSoon, levelLimit}
 use Rattle.octets.specs.declared.answers.Answer.the-variants.{Accepted}
+use Rattle.records.specs.Believed.AddressRecords.{tableBytes, addressRecordSize}
 use Rattle.scanner.specs.Believed.Scanning.{scanBy, symbolsOf}
 use Rattle.scanner.specs.Believed.Answers.{faultOf}
 use Rattle.scanner.specs.declared.Next.{Next}
 use Rattle.scanner.specs.declared.Next.the-variants.{Found, Ended, Fault}
 use Rattle.scanner.specs.Ties.Meanings.{meaningAt}
 use Rattle.grammar.specs.Believed.Language.{Refusal, refused, number, positionOf}
-use Rattle.grammar.specs.Believed.Records.{tableBytes}
 use Rattle.grammar.specs.Believed.Rfc733.{sameClass}
 use Rattle.grammar.specs.Executable.Trees733.{Class, Atom, Quoted, At, LessThan, GreaterThan, Semicolon, Colon, Lexeme, Sym, of, oneOf, atomWord, quotedWord, Phrase, one, more, Nodes, empty, AddressList, idle, Address, angle, group}
 use Rattle.grammar.proofs.Rfc733.Trees.{phraseThen, nameThen, nodesThen, atomColon}
@@ -28,7 +28,7 @@ use Rattle.addresses.specs.declared.NodesRead.{NodesRead}
 use Rattle.addresses.specs.declared.NodesRead.the-variants.{Behind, Stopped}
 use Rattle.addresses.specs.declared.Words.{Words}
 use Rattle.addresses.specs.declared.Frame.{Frame}
-use Rattle.grammar.specs.declared.Span.{Span}
+use Rattle.records.specs.declared.Span.{Span}
 use Rattle.addresses.specs.declared.TypedAtom.{TypedAtom}
 use Rattle.addresses.specs.declared.TypedAtom.the-variants.{Typed, Nameless}
 use Rattle.addresses.specs.declared.Enclosure.{Enclosure}
@@ -201,7 +201,7 @@ module _ (classes text : List ℕ) where
     pub ahead-ok : Ahead last ahead
     pub last-is : last ≡ addressEnd tree
     pub count : free ≡ frame .number + addressCount tree
-    pub stored : after ≡ sets table (frame .number * 12) (tableBytes (addressRecords tree (64 - frame .levels) (frame .parent) (frame .number)))
+    pub stored : after ≡ sets table (frame .number * addressRecordSize) (tableBytes (addressRecords tree (levelLimit - frame .levels) (frame .parent) (frame .number)))
     pub from : start < last
     pub within : last ≤ length text
     pub free-low : free ≤ last
@@ -217,7 +217,7 @@ module _ (classes text : List ℕ) where
   -- the text is not too long, at most 64 levels are left, and there are no more records than bytes so far
   pub record Ready (frame : Frame) (start : ℕ) : Type 0 where
     pub short : length text ≤ messageLimit
-    pub levels-low : frame .levels ≤ 64
+    pub levels-low : frame .levels ≤ levelLimit
     pub number-low : frame .number ≤ start
 
   -- a symbol that may begin an address, or fits nowhere
@@ -254,7 +254,7 @@ module _ (classes text : List ℕ) where
     pub ends : ListEnds (symbolsAhead ahead)
     pub ahead-ok : Ahead last ahead
     pub count : free ≡ frame .number + listCount tree
-    pub stored : after ≡ sets table (frame .number * 12) (tableBytes (listRecords tree (64 - frame .levels) (frame .parent) (frame .number)))
+    pub stored : after ≡ sets table (frame .number * addressRecordSize) (tableBytes (listRecords tree (levelLimit - frame .levels) (frame .parent) (frame .number)))
     pub from : at ≤ last
     pub within : last ≤ length text
     pub free-low : free ≤ last

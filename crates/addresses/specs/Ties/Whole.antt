@@ -7,13 +7,14 @@ use lib.ListN.{length}
 use lib.Seq.{sets}
 use Rattle.octets.specs.Believed.Numbers.{messageLimit}
 use Rattle.octets.specs.declared.answers.Answer.{Answer}
+use Rattle.records.specs.Believed.AddressRecords.{tableBytes}
 use Rattle.scanner.specs.Believed.Scanning.{scanBy}
 use Rattle.scanner.specs.Believed.Answers.{unlessFault}
 use Rattle.scanner.specs.Believed.Symbols.{Symbol}
 use Rattle.scanner.specs.declared.Class.{Class}
 use Rattle.grammar.specs.Believed.Grammar.{Row}
 use Rattle.grammar.specs.Believed.Language.{Refusal, Verdict, accepted, refused, number, positionOf}
-use Rattle.grammar.specs.Believed.Records.{count, records, tableBytes}
+use Rattle.grammar.specs.Believed.Records.{count, records}
 use Rattle.grammar.specs.Executable.Machine733.{answer}
 use Rattle.addresses.specs.Believed.Outcome.{refusal, byVerdict, decided}
 use Rattle.addresses.specs.Ties.Steps.{symbolsFrom, Faultless}

@@ -19,14 +19,14 @@ cast-depth c = search needs
 parent-of-requires : tie.Need-parent-of-requires
 parent-of-requires c κs = search needs
 
-store-record-requires : tie.Need-store-record-requires
-store-record-requires c κs = search needs
+store-requires : tie.Need-store-requires
+store-requires c κs = search needs
 
 same-length : tie.Need-same-length
 same-length c = search needs
 
 returns : tie.Need-returns
-returns c = c .before .before .store-record .ensures ∙ rw (c .before .before .before .before .parent-of .ensures, c .before .before .before .before .before .one-if2 .ensures .0, c .before .before .before .before .before .before .one-if .ensures .0)
+returns c = c .before .before .store .ensures ∙ rw (c .before .before .before .before .parent-of .ensures, c .before .before .before .before .before .one-if2 .ensures .0, c .before .before .before .before .before .before .one-if .ensures .0)
 
 pub begin-spec : {M : Type 1} → statement M
 begin-spec =
@@ -37,6 +37,6 @@ begin-spec =
     add-depth
     cast-depth
     parent-of-requires
-    store-record-requires
+    store-requires
     same-length
     returns)

@@ -6,9 +6,10 @@ use mathlib.Core.List.{List, [], _∷_, _++_}
 use mathlib.Core.Option.{Option, none, some}
 use lib.ListN.{length, getD}
 use Rattle.octets.specs.Believed.Choice.{pick, both}
+use Rattle.records.specs.Believed.AddressRecords.{AddressRecord, recordBy}
+use Rattle.records.specs.Ties.Ends.{setEnd}
 use Rattle.scanner.specs.Believed.Symbols.{Symbol, Lexeme}
 use Rattle.scanner.specs.declared.Class.{Class}
-use Rattle.grammar.specs.Believed.Records.{AddressRecord, recordBy, setEnd}
 use Rattle.grammar.specs.Believed.Rfc733.{classNumber}
 
 -- ---- places

@@ -5,11 +5,11 @@ use mathlib.Core.List.{List, [], _∷_}
 use mathlib.Core.Option.{none, some}
 use lib.ListN.{length, getD}
 use lib.Seq.{sets}
-use Rattle.octets.specs.Believed.Numbers.{addressRecordSize, numberWidth}
+use Rattle.octets.specs.Believed.Numbers.{numberWidth}
 use Rattle.octets.specs.Believed.Stored.{bytesOf}
+use Rattle.records.specs.Believed.AddressRecords.{addressRecordSize, AddressRecord, recordBy, endOffset, tableBytes}
 use Rattle.scanner.specs.Believed.Symbols.{Symbol}
 use Rattle.scanner.specs.declared.Class.{Class}
-use Rattle.grammar.specs.Believed.Records.{AddressRecord, recordBy, endOffset, tableBytes}
 use Rattle.editions.specs.Ties.Places.{Walked, walkedBy, placeCount, Effect, nothing, firstWord, furtherWord, mailboxRecord, mailboxEnd, angleRecord, angleEnd, groupRecord, groupEnd, refuse, oneIf, parentOf, stepFrom}
 use Rattle.editions.specs.declared.Walk.{Walk}
 use Rattle.editions.specs.declared.Stepped.{Stepped}

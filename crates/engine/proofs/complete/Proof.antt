@@ -14,8 +14,8 @@ cast-t7 c = search needs
 parent-at-requires : tie.Need-parent-at-requires
 parent-at-requires c κs = let p = c .before .before .before .pre in record { here = p .here; is-open = ended-open (p .state) (p .here) (p .address) (p .stands) (p .ended) }
 
-store-record-requires : tie.Need-store-record-requires
-store-record-requires c κs = search needs
+store-requires : tie.Need-store-requires
+store-requires c κs = search needs
 
 close-typed-requires : tie.Need-close-typed-requires
 close-typed-requires c κs =
@@ -25,7 +25,7 @@ close-typed-requires c κs =
       here = p .here;
       address = p .address;
       closing = complete-closing (p .state) (p .here) (p .address) _ _ (p .stands) (p .ended) (c .before .before .before .before .before .before .before .lone-kind .ensures)
-          (c .before .before .before .before .before .parent-at .ensures (p .here) (ended-open (p .state) (p .here) (p .address) (p .stands) (p .ended))) (c .before .before .before .store-record .ensures);
+          (c .before .before .before .before .before .parent-at .ensures (p .here) (ended-open (p .state) (p .here) (p .address) (p .stands) (p .ended))) (c .before .before .before .store .ensures);
     }
 
 same-length : tie.Need-same-length
@@ -35,7 +35,7 @@ returns : tie.Need-returns
 returns c =
     λ text lent s h a x g.
     c .before .before .close-typed .ensures lent h a
-    (complete-closing s h a _ _ x g (c .before .before .before .before .before .before .before .before .before .before .lone-kind .ensures) (c .before .before .before .before .before .before .before .before .parent-at .ensures h (ended-open s h a x g)) (c .before .before .before .before .before .before .store-record .ensures))
+    (complete-closing s h a _ _ x g (c .before .before .before .before .before .before .before .before .before .before .lone-kind .ensures) (c .before .before .before .before .before .before .before .before .parent-at .ensures h (ended-open s h a x g)) (c .before .before .before .before .before .before .store .ensures))
 
 pub complete-spec : {M : Type 1} → statement M
 complete-spec =
@@ -44,7 +44,7 @@ complete-spec =
     lone-kind-requires
     cast-t7
     parent-at-requires
-    store-record-requires
+    store-requires
     close-typed-requires
     same-length
     returns)

@@ -6,9 +6,9 @@ use mathlib.Core.List.{List}
 use mathlib.Core.Option.{Option, none, some}
 use lib.ListN.{length, getD}
 use lib.Seq.{sets}
-use Rattle.octets.specs.Believed.Numbers.{messageLimit, levelLimit, addressRecordSize}
+use Rattle.octets.specs.Believed.Numbers.{messageLimit, levelLimit}
 use Rattle.octets.specs.Believed.Text.{part}
-use Rattle.grammar.specs.Believed.Records.{tableBytes}
+use Rattle.records.specs.Believed.AddressRecords.{addressRecordSize, tableBytes}
 use Rattle.grammar.specs.Believed.Rfc733.{kindNumber, typedKind, angleList, group}
 use Rattle.grammar.specs.Executable.Trees733.{Lexeme, Phrase, one, more, atomWord, quotedWord, idle, full, AddressList, Address}
 use Rattle.grammar.specs.Executable.Machine733.{Here, inList, inTyped, Level, top, inAngle, inGroup, State, list, phrase, firstAt, nextAt, node, want, levelsHere, levelsAt, fresh, Began}

@@ -8,13 +8,13 @@ use mathlib.Core.Option.{Option, none, some}
 use lib.Dec.{eqb}
 use lib.ListN.{length, getD}
 use lib.Seq.{sets}
-use Rattle.octets.specs.Believed.Numbers.{messageLimit, levelLimit, addressRecordSize, endsTooSoon}
+use Rattle.octets.specs.Believed.Numbers.{messageLimit, levelLimit, endsTooSoon}
 use Rattle.octets.specs.Believed.Choice.{pick}
 use Rattle.octets.specs.Believed.Text.{part}
+use Rattle.records.specs.Believed.AddressRecords.{addressRecordSize, recordBy, recordBytes, tableBytes}
 use Rattle.scanner.specs.declared.Class.{Class}
 use Rattle.scanner.specs.declared.Class.the-variants.{Atom, LessThan, GreaterThan}
 use Rattle.grammar.specs.Believed.Language.{Refusal, number}
-use Rattle.grammar.specs.Believed.Records.{recordBy, recordBytes, tableBytes}
 use Rattle.grammar.specs.Believed.Rfc733.{kindNumber, mailbox, angleList, group, quoted}
 use Rattle.grammar.specs.Executable.Machines.{Step, go, stop}
 use Rattle.grammar.specs.Executable.Trees733.{oneOf, Lexeme, Phrase, one, atomWord, quotedWord, Nodes, empty, AddressList, idle, Address}

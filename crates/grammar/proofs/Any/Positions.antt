@@ -1,5 +1,5 @@
 -- The positions of a record are positions of symbols, over any grammar: where no symbol lies past a position, no record does; and where
--- two bytes hold that position, the records are read back from a table. Assumes nothing.
+-- a number of a record holds that position, the records are read back from a table. Assumes nothing.
 use Prim.Native.Nat.{ℕ, zero, suc, _+_, _*_, _^_, _≤_, _<_}
 use native.Mathlib.Omega.{arith}
 use mathlib.Core.Path.{_≡_, refl, ap, _∙_}
@@ -7,14 +7,14 @@ use mathlib.Core.List.{List, [], _∷_, _++_}
 use mathlib.Core.Option.{Option, none, some}
 use lib.ListN.{length, getD}
 use lib.Seq.{sets}
-use Rattle.octets.specs.Believed.Numbers.{addressRecordSize, numberWidth}
-use Rattle.octets.specs.Believed.Stored.{numberFrom, numberAt}
-use Rattle.octets.proofs.RecordsBack.{joined, record-back, number-back}
+use Rattle.octets.specs.Believed.Numbers.{numberWidth}
+use Rattle.records.specs.Believed.AddressRecords.{AddressRecord, noRecord, addressRecordSize, tableBytes, recordIn}
+use Rattle.records.proofs.ReadBack.{address-back}
 use Rattle.scanner.specs.Believed.Symbols.{Symbol}
 use Rattle.grammar.specs.Believed.Grammar.{Makes, Rule, Row, nil, leaf, branch, yieldThen, yield}
 use Rattle.grammar.specs.Believed.Language.{positionOf}
-use Rattle.grammar.specs.Believed.Records.{AddressRecord, noRecord, lastEnd, partOf, nameOf, count, recordOf, recordsFrom, records, recordBytes, tableBytes, recordIn}
-use Rattle.grammar.proofs.Any.Records.{length-records, length-recordBytes, parent-smaller}
+use Rattle.grammar.specs.Believed.Records.{lastEnd, partOf, nameOf, count, recordOf, recordsFrom, records}
+use Rattle.grammar.proofs.Any.Records.{length-records, parent-smaller}
 
 -- ---- symbols
 
@@ -122,12 +122,7 @@ module _ {C N : Type 0} (limit : ℕ) where
 
 -- ---- read back from a table
 
--- the bytes of a table of records are joined
-table-joined : (rs : List AddressRecord) → tableBytes rs ≡ joined recordBytes rs
-table-joined [] = refl
-table-joined (r ∷ rs) = ap (λ (bytes : List ℕ). recordBytes r ++ bytes) (table-joined rs)
-
--- each record of a derivation whose number two bytes hold is read back from a table with room for all
+-- each record of a derivation whose number a record can hold is read back from a table with room for all
 abbrev pub ReadBack : {C N : Type 0} → Row C N → Type 0
 ReadBack k =
     (table : List ℕ) → count k * addressRecordSize ≤ length table → (i : ℕ) → i < count k → i < 256 ^ numberWidth
@@ -138,17 +133,5 @@ read-back k limit small u table fits i l h =
     let n : length (records k) ≡ count k = length-records k in
     let before : getD (records k) i noRecord .parent ≤ i = parent-smaller k i noRecord (omega arith) in
     let here = up-to-at limit (records k) i noRecord (records-up-to limit k u) (omega arith) in
-    let byte = record-back addressRecordSize recordBytes length-recordBytes noRecord (records k) table (omega arith) i (omega arith) 1 in
-    let two = number-back addressRecordSize recordBytes length-recordBytes noRecord (records k) table (omega arith) i (omega arith) 2 in
-    let e : i * addressRecordSize + 0 ≡ i * addressRecordSize = omega arith in
-    let at = i * addressRecordSize in
-    let r = getD (records k) i noRecord in
-    let t = sets table 0 (joined recordBytes (records k)) in
-    let kind : numberAt 1 t at ≡ r .kind = ap (numberFrom 0) (rw e at (byte 0 (omega arith))) ∙ omega arith in
-    let depth : numberAt 1 t (at + 1) ≡ r .depth = ap (numberFrom 0) (byte 1 (omega arith)) ∙ omega arith in
-    let parent : numberAt 2 t (at + 2) ≡ r .parent = two 2 _ (omega arith) refl (omega arith) in
-    let from : numberAt 2 t (at + 4) ≡ r .start = two 4 _ (omega arith) refl (omega (arith, here .start)) in
-    let to : numberAt 2 t (at + 6) ≡ r .end = two 6 _ (omega arith) refl (omega (arith, here .end)) in
-    let name-from : numberAt 2 t (at + 8) ≡ r .nameStart = two 8 _ (omega arith) refl (omega (arith, here .name-start)) in
-    let name-to : numberAt 2 t (at + 10) ≡ r .nameEnd = two 10 _ (omega arith) refl (omega (arith, here .name-end)) in
-    rw (table-joined (records k), kind, depth, parent, from, to, name-from, name-to)
+    address-back (records k) table (omega arith) i (omega arith)
+    (record { parent = omega arith; start = omega (arith, here .start); end = omega (arith, here .end); name-start = omega (arith, here .name-start); name-end = omega (arith, here .name-end) })

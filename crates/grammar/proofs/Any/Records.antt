@@ -1,14 +1,14 @@
--- Laws of records and their bytes, over any grammar. Assumes nothing.
+-- Laws of records, over any grammar. Assumes nothing.
 use Prim.Native.Nat.{ℕ, zero, suc, _+_, _*_, _≤_, _<_}
 use native.Mathlib.Omega.{arith}
 use mathlib.Core.Path.{_≡_, refl, sym, ap, _∙_}
 use mathlib.Core.List.{List, [], _∷_, _++_, append-assoc}
 use mathlib.Core.Option.{Option, none, some}
 use lib.ListN.{length, getD, length-append}
-use Rattle.octets.specs.Believed.Numbers.{addressRecordSize}
 use Rattle.scanner.specs.Believed.Symbols.{Symbol}
 use Rattle.grammar.specs.Believed.Grammar.{Makes, Rule, Row, nil, leaf, branch, yieldThen, yield}
-use Rattle.grammar.specs.Believed.Records.{AddressRecord, lastEnd, count, recordOf, recordsFrom, records, recordBytes, tableBytes}
+use Rattle.grammar.specs.Believed.Records.{lastEnd, count, recordOf, recordsFrom, records}
+use Rattle.records.specs.Believed.AddressRecords.{AddressRecord}
 
 -- ---- a parent's number is smaller than its child's
 
@@ -113,16 +113,3 @@ module _ {C N : Type 0} where
       (sym
       (append-assoc (rs ++ (recordOf m d p parts ∷ [])) (recordsFrom parts (suc d) (suc (length rs)) (suc (length rs))) (recordsFrom k d p (suc (length rs) + count parts))
       ∙ append-assoc rs (recordOf m d p parts ∷ []) (recordsFrom parts (suc d) (suc (length rs)) (suc (length rs)) ++ recordsFrom k d p (suc (length rs) + count parts))))
-
--- ---- bytes
-
-pub length-recordBytes : (r : AddressRecord) → length (recordBytes r) ≡ addressRecordSize
-length-recordBytes r = refl
-
-pub length-tableBytes : (rs : List AddressRecord) → length (tableBytes rs) ≡ addressRecordSize * length rs
-length-tableBytes [] = refl
-length-tableBytes (r ∷ rs) = omega (arith, length-append (recordBytes r) (tableBytes rs), length-recordBytes r, length-tableBytes rs)
-
-pub tableBytes-append : (rs ss : List AddressRecord) → tableBytes (rs ++ ss) ≡ tableBytes rs ++ tableBytes ss
-tableBytes-append [] ss = refl
-tableBytes-append (r ∷ rs) ss = ap (λ t. recordBytes r ++ t) (tableBytes-append rs ss) ∙ sym (append-assoc (recordBytes r) (tableBytes rs) (tableBytes ss))

@@ -8,9 +8,10 @@ use lib.ListN.{length}
 use Rattle.octets.specs.Believed.Letters.{lower, same}
 use Rattle.octets.specs.Believed.Numbers.{levelLimit}
 use Rattle.octets.specs.Believed.Text.{bytes}
+use Rattle.records.specs.Believed.AddressRecords.{AddressRecord, recordBy, tableBytes}
 use Rattle.grammar.specs.Believed.Grammar.{levels}
 use Rattle.grammar.specs.Believed.Language.{Verdict, accepted, refused, verdictNumber, verdictPosition}
-use Rattle.grammar.specs.Believed.Records.{AddressRecord, records}
+use Rattle.grammar.specs.Believed.Records.{records}
 use Rattle.grammar.specs.Believed.Rfc733.{Derivation, DerivedList}
 use Rattle.grammar.proofs.Any.OnlyRight.{unfit-none}
 use Rattle.grammar.specs.Executable.Trees733.{Class, Atom, Quoted, At, LessThan, GreaterThan, Semicolon, Colon, Stray, Sym, of}

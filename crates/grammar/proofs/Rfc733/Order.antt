@@ -6,7 +6,8 @@ use mathlib.Core.Path.{_≡_, ap, _∙_}
 use mathlib.Core.List.{List, [], _∷_}
 use mathlib.Core.Option.{Option, none, some}
 use lib.ListN.{length}
-use Rattle.grammar.specs.Believed.Records.{AddressRecord, count, records}
+use Rattle.records.specs.Believed.AddressRecords.{AddressRecord}
+use Rattle.grammar.specs.Believed.Records.{count, records}
 use Rattle.grammar.specs.Believed.Rfc733.{Derivation, DerivedList}
 use Rattle.grammar.proofs.Symbols.{leastBytes, InOrder}
 use Rattle.grammar.proofs.Any.Records.{length-records}

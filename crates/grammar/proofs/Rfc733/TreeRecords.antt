@@ -8,8 +8,9 @@ use mathlib.Core.Option.{Option, none, some}
 use Rattle.octets.specs.Believed.Choice.{pick}
 use Rattle.grammar.specs.Believed.Grammar.{nil, leaf, yield}
 use Rattle.grammar.specs.Believed.Language.{positionOf}
-use Rattle.grammar.specs.Believed.Records.{AddressRecord, recordBy, lastEnd, partOf, count, recordsFrom, records}
+use Rattle.grammar.specs.Believed.Records.{lastEnd, partOf, count, recordsFrom, records}
 use Rattle.grammar.specs.Believed.Rfc733.{Notion, list, place, address, phrase, atNodes, node, word, rulesOf, rfc733, Derivation, kindNumber, typedKind}
+use Rattle.records.specs.Believed.AddressRecords.{AddressRecord, recordBy}
 use Rattle.grammar.specs.Believed.Rfc733 as rfc
 use Rattle.grammar.specs.Executable.Trees733.{put, Lexeme, LessThan, GreaterThan, Colon, Semicolon, Comma, At, Sym, of, Word, atomWord, quotedWord, Phrase, one, more, Nodes, first, next, Place, empty, comma, AddressList, idle, full, Address, mailbox, angle, group, quoted, typed, phrasePiece, nodesPiece, placePiece, listPiece, addressPiece, asRow}
 use Rattle.grammar.proofs.Rfc733.Trees.{wordSymbol, phraseThen, nodesThen, listThen, addressThen}

@@ -1,41 +1,11 @@
--- Document 01, "Addresses": the records of a derivation, over any grammar that makes records, and their bytes.
-use Prim.Native.Nat.{ℕ, zero, suc, _+_, _*_}
+-- Document 01, "Addresses": the records of a derivation, over any grammar that makes records.
+use Prim.Native.Nat.{ℕ, zero, suc, _+_}
 use mathlib.Core.List.{List, [], _∷_, _++_}
 use mathlib.Core.Option.{Option, none, some}
-use Rattle.octets.specs.Believed.Numbers.{addressRecordSize, numberWidth}
-use Rattle.octets.specs.Believed.Stored.{bytesOf, numberAt}
+use Rattle.records.specs.Believed.AddressRecords.{AddressRecord}
 use Rattle.scanner.specs.Believed.Symbols.{Symbol}
 use Rattle.grammar.specs.Believed.Grammar.{Makes, Row, nil, leaf, branch, yield}
 use Rattle.grammar.specs.Believed.Language.{positionOf}
-
--- kind; depth, the number of addresses it lies in; parent's record number plus 1, or 0; its span; the span of its name
-pub record AddressRecord : Type 0 where
-  pub kind : ℕ
-  pub depth : ℕ
-  pub parent : ℕ
-  pub start : ℕ
-  pub end : ℕ
-  pub nameStart : ℕ
-  pub nameEnd : ℕ
-
--- .. of these numbers, in this order
-abbrev pub recordBy : ℕ → ℕ → ℕ → ℕ → ℕ → ℕ → ℕ → AddressRecord
-recordBy kind depth parent start end nameStart nameEnd =
-    record { kind = kind; depth = depth; parent = parent; start = start; end = end; nameStart = nameStart; nameEnd = nameEnd }
-
--- .. of zeros: what is read past the records
-abbrev pub noRecord : AddressRecord
-noRecord = recordBy 0 0 0 0 0 0 0
-
--- .. with another end
-abbrev pub withEnd : AddressRecord → ℕ → AddressRecord
-withEnd r e = recordBy (r .kind) (r .depth) (r .parent) (r .start) e (r .nameStart) (r .nameEnd)
-
--- records, one of which, by its number, gets another end
-abbrev pub setEnd : ℕ → ℕ → List AddressRecord → List AddressRecord
-setEnd i e [] = []
-setEnd zero e (r ∷ rs) = withEnd r e ∷ rs
-setEnd (suc i) e (r ∷ rs) = r ∷ setEnd i e rs
 
 -- ---- of symbols
 
@@ -101,33 +71,3 @@ module _ {C N : Type 0} where
   -- the records of a derivation
   abbrev pub records : Row C N → List AddressRecord
   records row = recordsFrom row 0 0 0
-
--- ---- bytes
-
--- the bytes of a record
-abbrev pub recordBytes : AddressRecord → List ℕ
-recordBytes r =
-    r .kind ∷ r .depth
-    ∷ (bytesOf numberWidth (r .parent)
-    ++ bytesOf numberWidth (r .start)
-    ++ bytesOf numberWidth (r .end)
-    ++ bytesOf numberWidth (r .nameStart)
-    ++ bytesOf numberWidth (r .nameEnd))
-
--- where the end stands in them
-abbrev pub endOffset : ℕ
-endOffset = 6
-
--- the bytes of a table of records
-abbrev pub tableBytes : List AddressRecord → List ℕ
-tableBytes [] = []
-tableBytes (r ∷ rs) = recordBytes r ++ tableBytes rs
-
--- the record in the bytes of a table from a place on; past its end stand zeros
-abbrev pub recordFrom : List ℕ → ℕ → AddressRecord
-recordFrom table at =
-    recordBy (numberAt 1 table at) (numberAt 1 table (at + 1)) (numberAt 2 table (at + 2)) (numberAt 2 table (at + 4)) (numberAt 2 table (at + 6)) (numberAt 2 table (at + 8)) (numberAt 2 table (at + 10))
-
--- the record with a number in a table
-abbrev pub recordIn : List ℕ → ℕ → AddressRecord
-recordIn table number = recordFrom table (number * addressRecordSize)

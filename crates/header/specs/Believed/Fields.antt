@@ -8,18 +8,7 @@ use Rattle.octets.specs.Believed.Choice.{pick, both, either}
 use Rattle.octets.specs.Believed.Classes.{within, isWhite}
 use Rattle.octets.specs.Believed.Numbers.{nameFault, byteAbove127, headerNotEnded}
 use Rattle.octets.specs.Believed.Octets.{lineFeedByte, returnByte, colonByte}
-
--- where a field's name and body start and end
-pub record Field : Type 0 where
-  pub nameStart : ℕ
-  pub nameEnd : ℕ
-  pub bodyStart : ℕ
-  pub bodyEnd : ℕ
-
--- the field with these positions
-abbrev pub fieldOf : ℕ → ℕ → ℕ → ℕ → Field
-fieldOf nameStart nameEnd bodyStart bodyEnd =
-    record { nameStart = nameStart; nameEnd = nameEnd; bodyStart = bodyStart; bodyEnd = bodyEnd }
+use Rattle.records.specs.Believed.FieldRecords.{Field, fieldOf}
 
 -- the fields in order, and then the header's end or the first fault: its number and position
 pub data Header : Type 0 where

@@ -1,27 +1,16 @@
 -- Document 01, "Fields" and "Answer numbers": the field records of a message, the answer of splitting it, and the lent table afterwards.
 use Prim.Native.Nat.{ℕ, _+_}
-use mathlib.Core.List.{List, [], _++_}
+use mathlib.Core.List.{List}
 use lib.Dec.{ltb}
 use lib.ListN.{length}
 use lib.Seq.{sets}
 use Rattle.octets.specs.Believed.Choice.{pick}
-use Rattle.octets.specs.Believed.Numbers.{messageLimit, fieldRecordSize, numberWidth, messageTooLong}
-use Rattle.octets.specs.Believed.Stored.{bytesOf, roomFor}
+use Rattle.octets.specs.Believed.Numbers.{messageLimit, messageTooLong}
+use Rattle.octets.specs.Believed.Stored.{roomFor}
 use Rattle.octets.specs.declared.answers.Answer.{Answer}
 use Rattle.octets.specs.declared.answers.Answer.the-variants.{Accepted, Refused, NoRoom}
-use Rattle.header.specs.Believed.Fields.{Field, Header, field, ended, fault, headerOf}
-
--- a field record: name start, name end, body start, body end, each high byte first
-unfoldable pub recordOf : Field → List ℕ
-recordOf f =
-    bytesOf numberWidth (f .nameStart)
-    ++ (bytesOf numberWidth (f .nameEnd) ++ (bytesOf numberWidth (f .bodyStart) ++ bytesOf numberWidth (f .bodyEnd)))
-
--- the records of the fields, in order
-unfoldable pub recordsOf : Header → List ℕ
-recordsOf (field f rest) = recordOf f ++ recordsOf rest
-recordsOf ended = []
-recordsOf (fault number position) = []
+use Rattle.records.specs.Believed.FieldRecords.{fieldRecordSize, fieldTable}
+use Rattle.header.specs.Believed.Fields.{Header, field, ended, fault, fieldsOf, headerOf}
 
 -- the answer where `room` records fit and `count` fields came before: a fault comes before too little room
 unfoldable pub answerIn : ℕ → ℕ → Header → Answer
@@ -40,7 +29,7 @@ splitAnswer message table = answerFor (roomFor fieldRecordSize table) message
 
 -- the table after an answer: the records at its front if the message is accepted, else as it was
 abbrev pub tableAfter : Answer → List ℕ → List ℕ → List ℕ
-tableAfter (Accepted written) message table = sets table 0 (recordsOf (headerOf message))
+tableAfter (Accepted written) message table = sets table 0 (fieldTable (fieldsOf (headerOf message)))
 tableAfter (Refused number position) message table = table
 tableAfter (NoRoom needed) message table = table
 

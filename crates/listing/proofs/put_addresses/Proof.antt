@@ -6,10 +6,10 @@ use borrow.Author.Needs.{needs}
 use lib.ListN.{length}
 use Rattle.octets.specs.Ties.Writing.{inWindow}
 use Rattle.octets.proofs.Writes.{LeftBy, left-all, left-as, left-after, left-none}
+use Rattle.records.specs.Believed.AddressRecords.{recordIn}
 use Rattle.listing.specs.Believed.Lines.{addressLine}
 use Rattle.listing.specs.Believed.Listing.{each}
 use Rattle.listing.specs.Ties.Putting.{lineLimit, tabulate}
-use Rattle.grammar.specs.Believed.Records.{recordIn}
 use Rattle.listing.proofs.TableLaws.{each-all, each-next, each-none}
 use Rattle.listing.proofs.put_addresses.Statement.{statement}
 use Rattle.listing.proofs.put_addresses.Tie as tie
@@ -28,7 +28,7 @@ loop-holds c =
     (omega arith, omega arith, refl, left-as (left-all _ _ _) (λ rest. each-all addressLine (recordIn (a .table .now)) (a .many) 0 rest))
 
 put-address-requires : tie.Need-put-address-requires Inv-loop μ-loop
-put-address-requires c κs = let l = c .before .before .loop in (omega arith, omega (arith, l .inv .0, l .inv .1))
+put-address-requires c κs = let l = c .before .before .loop in omega (arith, l .inv .0, l .inv .1)
 
 add-i : tie.Need-add-i Inv-loop μ-loop
 add-i c = search needs

@@ -6,8 +6,9 @@ use borrow.Author.Needs.{needs}
 use lib.ListN.{length}
 use Rattle.octets.specs.Ties.Writing.{inWindow}
 use Rattle.octets.proofs.Writes.{LeftBy, left-all, left-as, left-after, left-none}
+use Rattle.records.specs.Believed.FieldRecords.{fieldIn}
 use Rattle.listing.specs.Believed.Listing.{each, fieldText}
-use Rattle.listing.specs.Ties.Putting.{fieldLimit, tabulate, fieldIn}
+use Rattle.listing.specs.Ties.Putting.{fieldLimit, tabulate}
 use Rattle.listing.proofs.TableLaws.{each-all, each-next, each-none}
 use Rattle.listing.proofs.put_fields.Statement.{statement}
 use Rattle.listing.proofs.put_fields.Tie as tie
@@ -29,7 +30,7 @@ put-field-requires : tie.Need-put-field-requires Inv-loop μ-loop
 put-field-requires c κs =
     let l = c .before .before .loop in
     let p = c .before .before .before .before .before .before .pre in
-    (omega arith, p .1 (l .i) (omega arith), omega (arith, l .inv .0, l .inv .1))
+    (p .1 (l .i) (omega arith), omega (arith, l .inv .0, l .inv .1))
 
 add-i : tie.Need-add-i Inv-loop μ-loop
 add-i c = search needs

@@ -6,8 +6,8 @@ use lib.IntN.{ℤ, pos, negsuc}
 use Rattle.octets.specs.Believed.Choice.{pick}
 use Rattle.octets.specs.Believed.Octets.{lineFeedByte, spaceByte, minusByte, zeroByte}
 use Rattle.octets.specs.Believed.Text.{bytes}
-use Rattle.header.specs.Believed.Fields.{Field}
-use Rattle.grammar.specs.Believed.Records.{AddressRecord}
+use Rattle.records.specs.Believed.AddressRecords.{AddressRecord}
+use Rattle.records.specs.Believed.FieldRecords.{Field}
 
 -- the decimal digits of a number that has at most `most` of them
 unfoldable pub digitsOf : ℕ → ℕ → List ℕ → List ℕ

@@ -8,7 +8,8 @@ use Rattle.octets.specs.Believed.Numbers.{tableRecords, tooLittleRoom}
 use Rattle.octets.specs.Believed.Text.{part}
 use Rattle.octets.specs.declared.answers.Answer.{Answer}
 use Rattle.octets.specs.declared.answers.Answer.the-variants.{Accepted, Refused, NoRoom}
-use Rattle.header.specs.Believed.Fields.{Field, fieldsOf, headerOf}
+use Rattle.records.specs.Believed.FieldRecords.{Field}
+use Rattle.header.specs.Believed.Fields.{fieldsOf, headerOf}
 use Rattle.header.specs.Believed.Split.{answerFor}
 use Rattle.header.specs.Believed.Names.{knownOf, holdsAddresses}
 use Rattle.header.specs.declared.names.Known.{Known}

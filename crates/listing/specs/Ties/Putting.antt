@@ -3,12 +3,12 @@ use mathlib.Core.Path.{_≡_}
 use Prim.Native.Nat.{ℕ, zero, suc, _+_, _*_, _≤_, _<_}
 use mathlib.Core.List.{List, [], _∷_}
 use lib.ListN.{length}
-use Rattle.octets.specs.Believed.Numbers.{fieldRecordSize, tableRecords}
+use Rattle.octets.specs.Believed.Numbers.{tableRecords}
 use Rattle.octets.specs.Believed.Octets.{spaceByte}
-use Rattle.octets.specs.Believed.Stored.{numberAt}
 use Rattle.octets.specs.declared.answers.Answer.{Answer}
 use Rattle.octets.specs.declared.answers.Answer.the-variants.{Accepted, Refused, NoRoom}
-use Rattle.header.specs.Believed.Fields.{Field, fieldOf, fieldsOf, headerOf}
+use Rattle.records.specs.Believed.FieldRecords.{Field, fieldIn}
+use Rattle.header.specs.Believed.Fields.{fieldsOf, headerOf}
 use Rattle.listing.specs.Believed.Lines.{decimal}
 
 -- ---- bounds of what is put
@@ -19,15 +19,11 @@ lineLimit = 160
 
 -- the most bytes of the lines of a body
 abbrev pub bodyLimit : ℕ
-bodyLimit = 327840
+bodyLimit = tableRecords * lineLimit
 
 -- the most bytes of the lines of a field
 abbrev pub fieldLimit : ℕ
-fieldLimit = 328000
-
--- the most bytes of the lines of a message
-abbrev pub listingLimit : ℕ
-listingLimit = 1073741824
+fieldLimit = lineLimit + bodyLimit
 
 -- ---- tables
 
@@ -40,16 +36,9 @@ tabulate thing (suc many) i = thing i ∷ tabulate thing many (i + 1)
 abbrev pub number : ℕ → List ℕ → List ℕ
 number n rest = spaceByte ∷ decimal n rest
 
--- four numbers of two bytes from a place of a table on
-abbrev pub four : List ℕ → ℕ → List ℕ → List ℕ
-four table at rest =
-    number (numberAt 2 table at) (number (numberAt 2 table (at + 2)) (number (numberAt 2 table (at + 4)) (number (numberAt 2 table (at + 6)) rest)))
-
--- the field of a record of a table
-abbrev pub fieldIn : List ℕ → ℕ → Field
-fieldIn table i =
-    let at = i * fieldRecordSize in
-    fieldOf (numberAt 2 table at) (numberAt 2 table (at + 2)) (numberAt 2 table (at + 4)) (numberAt 2 table (at + 6))
+-- four numbers
+abbrev pub four : ℕ → ℕ → ℕ → ℕ → List ℕ → List ℕ
+four w x y z rest = number w (number x (number y (number z rest)))
 
 -- ---- what a table of fields holds
 

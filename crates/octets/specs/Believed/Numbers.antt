@@ -9,14 +9,6 @@ messageLimit = 32768
 abbrev pub levelLimit : ℕ
 levelLimit = 64
 
--- the bytes of a field record
-abbrev pub fieldRecordSize : ℕ
-fieldRecordSize = 8
-
--- the bytes of an address record
-abbrev pub addressRecordSize : ℕ
-addressRecordSize = 12
-
 -- the records that a table holds which the program or a tool keeps itself
 abbrev pub tableRecords : ℕ
 tableRecords = 2048

@@ -3,15 +3,15 @@ use Prim.Native.Nat.{ℕ, _<_}
 use native.Mathlib.Omega.{arith}
 use mathlib.Core.Path.{ap}
 use borrow.Author.Needs.{needs}
-use Rattle.grammar.specs.Believed.Records.{AddressRecord}
 use Rattle.touch.proofs.ClimbLaws.{climb-over, climb-parent, climb-on}
 use borrow.Fn.Kinds.{In}
 use borrow.Fn.PlainCycle.{Measures, is, falls, and}
 use Rattle.touch.proofs.climb.Reads as climb
 use Rattle.touch.proofs.climb.Kinds as climb-kinds
 use Rattle.touch.proofs.+climb.Lts-climb as climb-lts
-use Rattle.grammar.proofs.load_record.Reads as load-record-reads
+use Rattle.records.proofs.addresses.load.Reads as load-reads
 use Rattle.octets.proofs.stored.store_number.Reads as store-number-reads
+use Rattle.records.specs.Believed.AddressRecords.{AddressRecord}
 use Rattle.touch.proofs.+climb.{statement}
 use Rattle.touch.proofs.+climb.Tie.{close}
 
@@ -27,8 +27,8 @@ climb-below t = and 2 climb-kinds.ps (falls 2 climb-kinds.ps _<_ μ-climb t) cli
 climb-returns : (t : ℕ) → climb-lts.Need-returns (
   store-number-reads.Asked,
   store-number-reads.Learnt,
-  load-record-reads.Asked,
-  load-record-reads.Learnt,
+  load-reads.Asked,
+  load-reads.Learnt,
   climb-below t,
   climb.Post,
 ) (climb-at t) climb.Post
@@ -37,8 +37,8 @@ climb-returns t c = λ many rs ns h l k. climb-over k (omega arith)
 climb-sub-number : (t : ℕ) → climb-lts.Need-sub-number (
   store-number-reads.Asked,
   store-number-reads.Learnt,
-  load-record-reads.Asked,
-  load-record-reads.Learnt,
+  load-reads.Asked,
+  load-reads.Learnt,
   climb-below t,
   climb.Post,
 ) (climb-at t) climb.Post
@@ -47,28 +47,28 @@ climb-sub-number t c = search needs
 climb-store-number-requires : (t : ℕ) → climb-lts.Need-store-number-requires (
   store-number-reads.Asked,
   store-number-reads.Learnt,
-  load-record-reads.Asked,
-  load-record-reads.Learnt,
+  load-reads.Asked,
+  load-reads.Learnt,
   climb-below t,
   climb.Post,
 ) (climb-at t) climb.Post
 climb-store-number-requires t c κs = search needs
 
-climb-load-record-requires : (t : ℕ) → climb-lts.Need-load-record-requires (
+climb-load-requires : (t : ℕ) → climb-lts.Need-load-requires (
   store-number-reads.Asked,
   store-number-reads.Learnt,
-  load-record-reads.Asked,
-  load-record-reads.Learnt,
+  load-reads.Asked,
+  load-reads.Learnt,
   climb-below t,
   climb.Post,
 ) (climb-at t) climb.Post
-climb-load-record-requires t c κs = search needs
+climb-load-requires t c κs = search needs
 
 climb-add-climb : (t : ℕ) → climb-lts.Need-add-climb (
   store-number-reads.Asked,
   store-number-reads.Learnt,
-  load-record-reads.Asked,
-  load-record-reads.Learnt,
+  load-reads.Asked,
+  load-reads.Learnt,
   climb-below t,
   climb.Post,
 ) (climb-at t) climb.Post
@@ -77,21 +77,21 @@ climb-add-climb t c = search needs
 climb-climb-requires : (t : ℕ) → climb-lts.Need-climb-requires (
   store-number-reads.Asked,
   store-number-reads.Learnt,
-  load-record-reads.Asked,
-  load-record-reads.Learnt,
+  load-reads.Asked,
+  load-reads.Learnt,
   climb-below t,
   climb.Post,
 ) (climb-at t) climb.Post
 climb-climb-requires t c κs =
     let f = c .before .before .before .before .before .before .before .before .before .pre in
-    let (less, may) = climb-parent (f .1) (λ e. omega arith) (ap (λ (r : AddressRecord). r .parent) (c .before .load-record .ensures)) in
+    let (less, may) = climb-parent (f .1) (λ e. omega arith) (ap (λ (r : AddressRecord). r .parent) (c .before .load .ensures)) in
     (omega (arith, f .0), may)
 
 climb-same-length : (t : ℕ) → climb-lts.Need-same-length (
   store-number-reads.Asked,
   store-number-reads.Learnt,
-  load-record-reads.Asked,
-  load-record-reads.Learnt,
+  load-reads.Asked,
+  load-reads.Learnt,
   climb-below t,
   climb.Post,
 ) (climb-at t) climb.Post
@@ -100,22 +100,22 @@ climb-same-length t c = search needs
 climb-returns-2 : (t : ℕ) → climb-lts.Need-returns-2 (
   store-number-reads.Asked,
   store-number-reads.Learnt,
-  load-record-reads.Asked,
-  load-record-reads.Learnt,
+  load-reads.Asked,
+  load-reads.Learnt,
   climb-below t,
   climb.Post,
 ) (climb-at t) climb.Post
 climb-returns-2 t c =
     let a = c .before .before .before .before .before .before .before .before .before .before .before .before .args in
-    λ many rs ns h l k. climb-on (a .path .now) (a .at) h l (λ e. omega arith) (ap (λ (r : AddressRecord). r .parent) (c .before .before .before .before .load-record .ensures)) (c .before .before .before .before .before .before .before .store-number .ensures)
+    λ many rs ns h l k. climb-on (a .path .now) (a .at) h l (λ e. omega arith) (ap (λ (r : AddressRecord). r .parent) (c .before .before .before .before .load .ensures)) (c .before .before .before .before .before .before .before .store-number .ensures)
     (λ ns′ low k′. c .before .before .climb .ensures many rs ns′ h low k′) k
 
 pub +climb-spec : {M : Type 1} → statement M
 +climb-spec = close μ-climb λ t. climb-lts.spec (
   store-number-reads.Asked,
   store-number-reads.Learnt,
-  load-record-reads.Asked,
-  load-record-reads.Learnt,
+  load-reads.Asked,
+  load-reads.Learnt,
   climb-below t,
   climb.Post,
 )
@@ -124,7 +124,7 @@ pub +climb-spec : {M : Type 1} → statement M
     (climb-returns t)
     (climb-sub-number t)
     (climb-store-number-requires t)
-    (climb-load-record-requires t)
+    (climb-load-requires t)
     (climb-add-climb t)
     (climb-climb-requires t)
     (climb-same-length t)

@@ -2,7 +2,7 @@
 use mathlib.Core.List.{List}
 use Prim.Native.Nat.{_-_, _≤_}
 use native.Mathlib.Omega.{arith}
-use Rattle.grammar.specs.Believed.Records.{AddressRecord, recordIn}
+use Rattle.records.specs.Believed.AddressRecords.{AddressRecord, recordIn}
 use Rattle.touch.specs.Believed.Around.{covers}
 use Rattle.touch.specs.Ties.Climbing.{Holds}
 use Rattle.touch.proofs.ClimbLaws.{Looked, looked-none, looked-on, looked-all, later-low}

@@ -5,7 +5,7 @@ use mathlib.Core.List.{List, [], _∷_}
 use lib.Dec.{leb, ltb}
 use lib.ListN.{getD}
 use Rattle.octets.specs.Believed.Choice.{pick, both}
-use Rattle.grammar.specs.Believed.Records.{AddressRecord, noRecord}
+use Rattle.records.specs.Believed.AddressRecords.{AddressRecord, noRecord}
 
 -- ---- the records that cover a byte
 

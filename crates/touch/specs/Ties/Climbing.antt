@@ -5,7 +5,8 @@ use Prim.Native.Nat.{ℕ, _+_, _≤_, _<_}
 use lib.ListN.{length, getD}
 use lib.Seq.{sets}
 use Rattle.octets.specs.Believed.Numbers.{tableRecords}
-use Rattle.grammar.specs.Believed.Records.{AddressRecord, noRecord, records, recordIn}
+use Rattle.records.specs.Believed.AddressRecords.{AddressRecord, noRecord, recordIn}
+use Rattle.grammar.specs.Believed.Records.{records}
 use Rattle.grammar.specs.Believed.Rfc733.{Derivation}
 use Rattle.addresses.proofs.Judgements.{ListBody}
 use Rattle.touch.specs.Believed.Around.{around, firstPlus, Climbs}

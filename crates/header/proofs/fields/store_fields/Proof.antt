@@ -25,11 +25,8 @@ next-field-requires c κs = omega arith
 enum-known-name-start : tie.Need-enum-known-name-start Inv-loop μ-loop
 enum-known-name-start c = search needs
 
-mul-store-record : tie.Need-mul-store-record Inv-loop μ-loop
-mul-store-record c = omega arith
-
-store-record-requires : tie.Need-store-record-requires Inv-loop μ-loop
-store-record-requires c κs = omega arith
+store-requires : tie.Need-store-requires Inv-loop μ-loop
+store-requires c κs = omega arith
 
 add-count : tie.Need-add-count Inv-loop μ-loop
 add-count c = omega arith
@@ -56,7 +53,7 @@ loop-again c =
     let l = found .before .before .before .loop in
     let m : List ℕ = found .before .before .before .before .before .before .args .message .now in
     let g = gave m (l .at) (l .inv .within) (sym (found .name-start .given .1) ∙ found .before .before .next-field .ensures) in
-    after-field (l .inv) g (c .before .before .store-record .ensures)
+    after-field (l .inv) g (c .before .before .store .ensures)
 
 enum-told : tie.Need-enum-told Inv-loop μ-loop
 enum-told c = search needs
@@ -97,8 +94,7 @@ store-fields-spec =
     loop-holds
     next-field-requires
     enum-known-name-start
-    mul-store-record
-    store-record-requires
+    store-requires
     add-count
     add-at
     loop-less

@@ -1,0 +1,5 @@
+-- Laws of records that crates above cite.
+pub mod LayoutLaws
+pub mod TableLaws
+pub mod ReadBack
+pub mod EndLaws

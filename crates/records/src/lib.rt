@@ -1,0 +1,10 @@
+// Records of a table: their layout, and each stored and loaded by value.
+pub mod addresses;
+pub mod fields;
+pub mod positions;
+
+// Where a name, a body or an address starts and ends.
+pub struct Span {
+    pub start: usize,
+    pub end: usize,
+}
