@@ -12,7 +12,7 @@ use Rattle.octets.specs.Believed.Choice.{pick, both}
 use Rattle.octets.proofs.ChoiceLaws.{both-parts}
 use Rattle.octets.specs.Believed.Numbers.{levelLimit, leadsNowhere}
 use Rattle.octets.specs.Believed.Text.{bytes}
-use Rattle.grammar.specs.Believed.Rfc733.{sameClass, kindNumber, typedKind, include}
+use Rattle.grammar.specs.Believed.Rfc733.{kindNumber, typedKind, include}
 use Rattle.grammar.specs.Executable.Trees733.{Class, Atom, Quoted, At, LessThan, GreaterThan, Comma, Semicolon, Colon, Lexeme, Sym, of, atomWord, quotedWord, Phrase, one, more, Nodes, first, next, comma, AddressList, idle, full, mailbox, angle, group, quoted, typed}
 use Rattle.grammar.proofs.Rfc733.Trees.{wordSymbol, phraseThen, nodesThen, placeThen, listThen, addressThen, placeLawful, listLawful, addressLawful, placeLevels, listLevels, addressLevels}
 use Rattle.grammar.proofs.Readers.{endsAddress, AddressEnds}
@@ -28,7 +28,7 @@ use Rattle.plain.proofs.TreeMeanings.{wordMeaning, phraseMeaning, nameMeaning, 
 use Rattle.plain.proofs.Walks.{space-behind, no-colon-nodes, Begin, plainly, barely, namely, front, spot, comma-spot, Opens, spot-opens, joint, front-named, front-bare, front-plain}
 use Rattle.expansion.specs.Believed.Store.{leadsTo, onlyMailboxes, isMailbox}
 use Rattle.expansion.specs.Believed.Expansion.{Expansion, stopped, reached, andThen, Opening, expandInclude}
-use Rattle.expansion.specs.Ties.Walk.{Trail, halted, wrote, before, withoutTyped, withTyped, inTyped, isTyping, withList, levelsAfter, includeWord, includeNext, afterOne, opens, writing, skipping, innerAfter, WalkOpening, sought, walk}
+use Rattle.expansion.specs.Ties.Walk.{Trail, halted, wrote, before, withoutTyped, withTyped, inTyped, isTyping, withList, levelsAfter, includeWord, includeNext, includeHere, afterOne, opens, writing, skipping, innerAfter, WalkOpening, sought, includeTrail, walk}
 use Rattle.expansion.proofs.TreeExpansion.{placeExpansion, listExpansion, addressExpansion}
 use Rattle.expansion.proofs.Seeking.{Ending, at-greater, at-comma, at-semicolon, ending, no-mailbox, typed-no-mailbox, leads-typed, sought-address}
 
@@ -111,67 +111,47 @@ module _ (store : List ℕ) (opening : WalkOpening) (placeOf : ℕ → ℕ) (bas
 
   -- ---- where an address ends
 
-  joins-place : (xs : List Sym) → AddressEnds xs → (p q : Place) → afterComma p ≡ afterComma q → (s : List Bool) (u : ℕ) (k : Place → ℕ → Trail) → W p s xs u k ≡ W q s xs u k
-  joins-place [] j p q e s u k = ap (λ z. k z u) e
-  joins-place (x ∷ xs) j p q e s u k = by (ending (x .class) j)
-    where
-      go : Place → Class → Trail
-      go place c =
-          pick (both (sameClass Colon c) (both (opens place) (includeNext xs)))
-          (elim (pick (inTyped s) none (sought store (afterOne (afterOne xs)))) [
-            | none ↦ halted leadsNowhere (placeOf (x .lexeme .start)) u
-            | some i ↦ opening i (placeOf (x .lexeme .start)) (base + length s) (afterComma place) u (λ place′ u′. walk store opening placeOf base (skipping false) place′ s xs u′ k)
-          ])
-          (before (λ rest. symbolText c (x .lexeme .meaning) place (colonNext xs) rest) (W (after c place (colonNext xs)) (levelsAfter c place (colonNext xs) s) xs u k))
-
-      by : {c : Class} → Ending c → go p c ≡ go q c
-      by at-greater = refl
-      by at-comma = ap (λ z. before (λ rest. rest) (W z (withoutTyped s) xs u k)) e
-      by at-semicolon = refl
-
-  joins-typed : (xs : List Sym) → AddressEnds xs → (p : Place) (s : List Bool) (u : ℕ) (k : Place → ℕ → Trail) → W p (true ∷ s) xs u k ≡ W p s xs u k
-  joins-typed [] j p s u k = refl
-  joins-typed (x ∷ xs) j p s u k = by (ending (x .class) j)
-    where
-      go : List Bool → Class → Trail
-      go s′ c =
-          pick (both (sameClass Colon c) (both (opens p) (includeNext xs)))
-          (elim (pick (inTyped s′) none (sought store (afterOne (afterOne xs)))) [
-            | none ↦ halted leadsNowhere (placeOf (x .lexeme .start)) u
-            | some i ↦ opening i (placeOf (x .lexeme .start)) (base + length s′) (afterComma p) u (λ place′ u′. walk store opening placeOf base (skipping false) place′ s′ xs u′ k)
-          ])
-          (before (λ rest. symbolText c (x .lexeme .meaning) p (colonNext xs) rest) (W (after c p (colonNext xs)) (levelsAfter c p (colonNext xs) s′) xs u k))
-
-      by : {c : Class} → Ending c → go (true ∷ s) c ≡ go s c
-      by at-greater = refl
-      by at-comma = refl
-      by at-semicolon = refl
-
-  -- ---- skipping an Include
-
   abbrev skip : Bool → Place → List Bool → List Sym → ℕ → (Place → ℕ → Trail) → Trail
   skip inner place s xs u k = walk store opening placeOf base (skipping inner) place s xs u k
 
+  module _ (x : Sym) (xs : List Sym) (u : ℕ) (k : Place → ℕ → Trail) where
+    -- a symbol is written, with another class, place or levels than its own
+    abbrev written : Class → Place → List Bool → Trail
+    written c place s = before (λ rest. symbolText c (x .lexeme .meaning) place (colonNext xs) rest) (W (after c place (colonNext xs)) (levelsAfter c place (colonNext xs) s) xs u k)
+
+    -- .. or it begins an Include
+    abbrev walked-on : Class → Place → List Bool → Trail
+    walked-on c place s =
+        pick (includeHere c place xs) (includeTrail store opening (inTyped s) (placeOf (x .lexeme .start)) (base + length s) place xs u (λ place′ u′. skip false place′ s xs u′ k)) (written c place s)
+
+    ends-place : {c : Class} → Ending c → (p q : Place) → afterComma p ≡ afterComma q → (s : List Bool) → walked-on c p s ≡ walked-on c q s
+    ends-place at-greater p q e s = refl
+    ends-place at-comma p q e s = ap (λ z. before (λ rest. rest) (W z (withoutTyped s) xs u k)) e
+    ends-place at-semicolon p q e s = refl
+
+    ends-typed : {c : Class} → Ending c → (p : Place) (s : List Bool) → walked-on c p (true ∷ s) ≡ walked-on c p s
+    ends-typed at-greater p s = refl
+    ends-typed at-comma p s = refl
+    ends-typed at-semicolon p s = refl
+
+    ends-skip : {c : Class} → Ending c → (p : Place) (s : List Bool) → pick (endsAddress c) (written c p s) (skip (innerAfter c false) p s xs u k) ≡ walked-on c p s
+    ends-skip at-greater p s = refl
+    ends-skip at-comma p s = refl
+    ends-skip at-semicolon p s = refl
+
+  joins-place : (xs : List Sym) → AddressEnds xs → (p q : Place) → afterComma p ≡ afterComma q → (s : List Bool) (u : ℕ) (k : Place → ℕ → Trail) → W p s xs u k ≡ W q s xs u k
+  joins-place [] j p q e s u k = ap (λ z. k z u) e
+  joins-place (x ∷ xs) j p q e s u k = ends-place x xs u k (ending (x .class) j) p q e s
+
+  joins-typed : (xs : List Sym) → AddressEnds xs → (p : Place) (s : List Bool) (u : ℕ) (k : Place → ℕ → Trail) → W p (true ∷ s) xs u k ≡ W p s xs u k
+  joins-typed [] j p s u k = refl
+  joins-typed (x ∷ xs) j p s u k = ends-typed x xs u k (ending (x .class) j) p s
+
+  -- ---- skipping an Include
+
   joins-skip : (xs : List Sym) → AddressEnds xs → (p : Place) (s : List Bool) (u : ℕ) (k : Place → ℕ → Trail) → skip false p s xs u k ≡ W p s xs u k
   joins-skip [] j p s u k = refl
-  joins-skip (x ∷ xs) j p s u k = by (ending (x .class) j)
-    where
-      written : Class → Trail
-      written c = before (λ rest. symbolText c (x .lexeme .meaning) p (colonNext xs) rest) (W (after c p (colonNext xs)) (levelsAfter c p (colonNext xs) s) xs u k)
-
-      go : Class → Trail
-      go c =
-          pick (both (sameClass Colon c) (both (opens p) (includeNext xs)))
-          (elim (pick (inTyped s) none (sought store (afterOne (afterOne xs)))) [
-            | none ↦ halted leadsNowhere (placeOf (x .lexeme .start)) u
-            | some i ↦ opening i (placeOf (x .lexeme .start)) (base + length s) (afterComma p) u (λ place′ u′. walk store opening placeOf base (skipping false) place′ s xs u′ k)
-          ])
-          (written c)
-
-      by : {c : Class} → Ending c → pick (endsAddress c) (written c) (skip (innerAfter c false) p s xs u k) ≡ go c
-      by at-greater = refl
-      by at-comma = refl
-      by at-semicolon = refl
+  joins-skip (x ∷ xs) j p s u k = ends-skip x xs u k (ending (x .class) j) p s
 
   module _ (p : Place) (s : List Bool) (u : ℕ) (k : Place → ℕ → Trail) where
     skip-phrase : (n : Phrase) (inner : Bool) (xs : List Sym) → skip inner p s (phraseThen n xs) u k ≡ skip inner p s xs u k
