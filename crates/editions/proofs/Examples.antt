@@ -8,7 +8,7 @@ use lib.ListN.{length, replicate}
 use lib.Seq.{sets}
 use Rattle.octets.specs.Believed.Choice.{both}
 use Rattle.octets.specs.Believed.Classes.{classOf, classTable, classOf822, classTable822}
-use Rattle.octets.specs.Believed.Numbers.{addressRecordSize}
+use Rattle.records.specs.Believed.AddressRecords.{addressRecordSize}
 use Rattle.octets.specs.Believed.Letters.{lower, same, sameBytes}
 use Rattle.octets.specs.Believed.Text.{bytes}
 use Rattle.octets.specs.Believed.Answers.{numberOf, positionOf, countOf}

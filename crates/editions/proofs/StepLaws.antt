@@ -69,7 +69,7 @@ module _ {w : Walk} {class : Class} {next k : ℕ} (x : Leads w class next k) (s
   added kind a v n rs lent h =
       record {
         counted = omega (arith, length-append rs (new kind ∷ []), h .counted, n);
-        stored = a ∙ rw (h .stored, ← (h .counted)) (record-behind lent rs (new kind));
+        stored = a ∙ rw (h .stored, ← (h .counted)) (stored-last addressLayout lent rs (new kind));
       }
 
   adds : (n kind group angle : ℕ) → n < 9 → group ≤ w .free + 1 → angle ≤ w .free + 1 → ((rs : List AddressRecord) (m : List ℕ) → length rs ≡ w .free → Does n rs m (some (addRecord kind group angle next (walkedOf w rs) (lexeme m))))

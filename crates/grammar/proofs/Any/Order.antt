@@ -3,7 +3,7 @@ use Prim.Native.Nat.{ℕ, zero, suc, _≤_, _<_}
 use native.Mathlib.Omega.{arith}
 use mathlib.Core.List.{List, [], _∷_, _++_}
 use lib.ListN.{length, getD}
-use Rattle.grammar.specs.Believed.Records.{AddressRecord}
+use Rattle.records.specs.Believed.AddressRecords.{AddressRecord}
 
 -- a record's span lies between two positions, and its name in it
 pub record Lies (from to : ℕ) (r : AddressRecord) : Type 0 where
