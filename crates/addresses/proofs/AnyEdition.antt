@@ -13,9 +13,9 @@ use Rattle.octets.specs.declared.answers.Answer.{Answer}
 use Rattle.octets.specs.declared.answers.Answer.the-variants.{Accepted, Refused, NoRoom}
 use Rattle.scanner.specs.Believed.Symbols.{Symbol}
 use Rattle.scanner.specs.Believed.Scanning.{scanBy}
-use Rattle.scanner.specs.Believed.Answers.{unlessFault, faultOf}
+use Rattle.scanner.specs.Believed.Answers.{faultOf}
 use Rattle.scanner.specs.declared.Class.{Class}
-use Rattle.scanner.proofs.BodyChecks.{in-order, unless-none}
+use Rattle.scanner.proofs.BodyChecks.{in-order, unless-none, CleanBy}
 use Rattle.grammar.specs.Believed.Grammar.{Row}
 use Rattle.grammar.specs.Believed.Language.{Verdict, accepted, refused}
 use Rattle.grammar.specs.Believed.Records.{count, records}
@@ -27,7 +27,7 @@ use Rattle.records.specs.Believed.AddressRecords.{addressRecordSize, tableBytes
 use Rattle.addresses.specs.Believed.Editions.{symbolsIn}
 use Rattle.addresses.specs.Believed.Outcome.{Outcome, AnsweredBy, refusal, derived, byVerdict, decided, readIn, outcomeIn}
 use Rattle.addresses.specs.Believed.Condition3.{IsListIn, Settled, Condition3In}
-use Rattle.addresses.specs.Ties.Whole.{IsListed, IsRefused, WholeIs, TwiceIs, TextIs}
+use Rattle.addresses.specs.Ties.Whole.{IsListed, IsRefused, WholeIs, TwiceIs, Body}
 use Rattle.grammar.specs.declared.Whole.{Whole}
 use Rattle.grammar.specs.declared.Whole.the-variants as whole
 use Rattle.grammar.specs.declared.Whole.the-variants.{Listed}
@@ -66,15 +66,20 @@ module _ {N : Type 0} (edition : Edition N) (verdict : List (Symbol Class) → V
       → readIn edition verdict refuse derive message start end ≡ byVerdict refuse derive end (verdict (symbolsIn edition message start end))
   verdict-decides f refuse derive = in-order refuse message start end _ short ordered inside ∙ unless-none refuse (scanBy (edition .classes) (take end message) start) _ f
 
-  -- what the text holds is the outcome
-  pub text-outcome : {table after : List ℕ} {r : Answer} → TextIs (λ xs. verdict (edition .taken xs)) (edition .classes) (take end message) start table after r
+  -- what is decided of its symbols is the outcome
+  pub twice-outcome : faultOf (scanBy (edition .classes) (take end message) start) ≡ Accepted 0 → {table after : List ℕ} {r : Answer} → TwiceIs (λ xs. verdict (edition .taken xs)) (edition .classes) (take end message) start table after r
       → AnsweredBy (outcomeIn edition verdict message start end table) r after
-  text-outcome {table} x =
-      let text = take end message in
+  twice-outcome f {table} x =
       let z = verdict (symbolsIn edition message start end) in
-      let e : unlessFault (refusal table) (scanBy (edition .classes) text start) (decided (length text) table z) ≡ outcomeIn edition verdict message start end table =
-      ap (λ (n : ℕ). unlessFault (refusal table) (scanBy (edition .classes) text start) (decided n table z)) (length-take-le end message inside) ∙ sym (in-order (refusal table) message start end _ short ordered inside) in
+      let e : decided (length (take end message)) table z ≡ outcomeIn edition verdict message start end table =
+      ap (λ (n : ℕ). decided n table z) (length-take-le end message inside) ∙ sym (verdict-decides f (refusal table) (derived table)) in
       answered (x .answer-is ∙ ap (λ (o : Outcome). o .answer) e) (x .table-is ∙ ap (λ (o : Outcome). o .table) e)
+
+-- a clean body may be read
+pub clean-text : {classes message : List ℕ} {start end : ℕ} → CleanBy classes message start end → Body classes (take end message) start
+clean-text {message = message} {end = end} x =
+    let n = length-take-le end message (x .inside) in
+    record { inside = omega (arith, n, x .ordered); short = omega (arith, n, x .inside, x .short); faultless = record { none = x .faultless } }
 
 -- ---- condition 3
 

@@ -32,7 +32,7 @@ placed-in-order h (one {x = x} a b c q m rest) = (a, least (x .class) (x .lexeme
 
 module _ {message : List ℕ} {start end : ℕ} {k : Derivation} (b : ListBody message start end k) where
   pub in-body : InOrder start end (bodySymbols message start end)
-  in-body = let n = length-take-le end message (b .inside) in rw n at (placed-in-order (omega (arith, n, b .ordered)) (placed classTable (take end message) start))
+  in-body = let n = length-take-le end message (b .clean .inside) in rw n at (placed-in-order (omega (arith, n, b .clean .ordered)) (placed classTable (take end message) start))
 
   -- there are never more than half as many records as body bytes
   pub records-half : start + 2 * count k ≤ end

@@ -29,10 +29,7 @@ use Rattle.addresses.proofs.AnyEdition.{verdict-decides}
 
 -- a body within its message that scans without fault to a list with this derivation
 pub record ListBodyIn {N : Type 0} (edition : Edition N) (message : List ℕ) (start end : ℕ) (k : Row Class N) : Type 0 where
-  pub short : length message ≤ messageLimit
-  pub ordered : start ≤ end
-  pub inside : end ≤ length message
-  pub faultless : faultOf (scanBy (edition .classes) (take end message) start) ≡ Accepted 0
+  pub clean : CleanBy (edition .classes) message start end
   pub list : IsListIn edition (symbolsIn edition message start end) k
 
 -- a body that is refused with this number at this position, whatever is answered of it
@@ -46,14 +43,14 @@ pub data JudgedIn {N : Type 0} (edition : Edition N) (verdict : List (Symbol Cla
 
 -- a clean body that is a list
 pub list-body-in : {N : Type 0} (edition : Edition N) {message : List ℕ} {start end : ℕ} {k : Row Class N} → CleanBy (edition .classes) message start end → IsListIn edition (symbolsIn edition message start end) k → ListBodyIn edition message start end k
-list-body-in edition x l = record { short = x .short; ordered = x .ordered; inside = x .inside; faultless = x .faultless; list = l }
+list-body-in edition x l = record { clean = x; list = l }
 
 module _ {N : Type 0} (edition : Edition N) (least : ℕ) (answerOf : ℕ → List (Symbol Class) → Verdict Class (Row Class N)) (right : Decides (edition .grammar) (edition .list) least answerOf) (below : least ≤ levelLimit) where
   -- of a list it is answered what is to be answered of its derivation
   pub listed-read-in : {message : List ℕ} {start end : ℕ} {k : Row Class N} → ListBodyIn edition message start end k
       → {A : Type 0} (refuse : ℕ → ℕ → A) (derive : Row Class N → A) → readIn edition (answerOf levelLimit) refuse derive message start end ≡ derive k
   listed-read-in {message} {start} {end} b refuse derive =
-      verdict-decides edition (answerOf levelLimit) message start end (b .short) (b .ordered) (b .inside) (b .faultless) refuse derive
+      verdict-decides edition (answerOf levelLimit) message start end (b .clean .short) (b .clean .ordered) (b .clean .inside) (b .clean .faultless) refuse derive
       ∙ ap (byVerdict refuse derive end) (answer-accepts (edition .grammar) (edition .list) least answerOf right levelLimit below (b .list .derived) (b .list .within))
 
   module _ (message : List ℕ) (start end : ℕ) where
@@ -158,4 +155,4 @@ module _ (message : List ℕ) (start end : ℕ) where
   unscanned e A refuse derive = when-refused message start end refuse _ (sym e)
 
   pub list-scanned : {k : Derivation} → ListBody message start end k → bodyScanned message start end ≡ Accepted 0
-  list-scanned b = in-order Refused message start end _ (b .short) (b .ordered) (b .inside) ∙ b .faultless
+  list-scanned b = in-order Refused message start end _ (b .clean .short) (b .clean .ordered) (b .clean .inside) ∙ b .clean .faultless

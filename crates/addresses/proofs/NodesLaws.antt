@@ -16,7 +16,8 @@ use Rattle.grammar.proofs.Rfc733.Complete.{run-word}
 use Rattle.grammar.proofs.Symbols.{each-other}
 use Rattle.grammar.proofs.Rfc733.Readers.{AddressEnds}
 use Rattle.grammar.proofs.Rfc733.TreeRecords.{wordLexeme, nodesEnd}
-use Rattle.addresses.specs.Ties.Steps.{isWord, symbolsFrom, lexemeAt, symbolAt, symbolsAhead, Faultless, Standing, NodesEnd, Stops, NodesContext}
+use Rattle.addresses.specs.Ties.Steps.{isWord, symbolsFrom, lexemeAt, symbolAt, symbolsAhead, Standing, NodesEnd, Stops, NodesContext}
+use Rattle.scanner.specs.Ties.Steps.{Faultless}
 use Rattle.addresses.proofs.NextLaws.{NextIs}
 use Rattle.addresses.proofs.PhraseLaws.{wordOf, word-symbol, word-lexeme}
 

@@ -46,7 +46,7 @@ placed-up-to h (one a b c q m rest) = (omega arith, omega arith, placed-up-to h 
 pub body-read-back : {N : Type 0} (edition : Edition N) → TakesInPlace edition → {message : List ℕ} {start end : ℕ} {k : Row Class N} → ListBodyIn edition message start end k → ReadBack k
 body-read-back edition takes {message} {start} {end} {k} b =
     let text = take end message in
-    let within : length text ≤ messageLimit = omega (arith, length-take-le end message (b .inside), b .inside, b .short) in
+    let within : length text ≤ messageLimit = omega (arith, length-take-le end message (b .clean .inside), b .clean .inside, b .clean .short) in
     let u = takes messageLimit _ (placed-up-to within (placed (edition .classes) text start)) in
     read-back k messageLimit (omega arith) (rw (b .list .derived .yields) u)
 
@@ -55,7 +55,7 @@ body-read-back edition takes {message} {start} {end} {k} b =
 -- the record of each address is read back
 pub record-read : {message : List ℕ} {start end : ℕ} {k : Derivation} → ListBody message start end k → (table : List ℕ) → count k * addressRecordSize ≤ length table
     → (i : ℕ) → i < count k → recordIn (sets table 0 (tableBytes (records k))) i ≡ getD (records k) i noRecord
-record-read b table fits i l = body-read-back edition733 takes-733 b table fits i l (omega (arith, records-half b, b .inside, b .short))
+record-read b table fits i l = body-read-back edition733 takes-733 b table fits i l (omega (arith, records-half b, b .clean .inside, b .clean .short))
 
 -- ---- an accepted body
 

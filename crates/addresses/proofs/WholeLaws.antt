@@ -1,16 +1,19 @@
 -- A whole body: the verdict, and what follows from it for the answer and the table. Assumes nothing.
 use mathlib.Core.Path.{_≡_, refl, sym, ap, _∙_}
 use mathlib.Core.List.{List, [], _∷_}
-use Prim.Native.Nat.{ℕ, _≤_}
+use Prim.Native.Nat.{ℕ}
 use native.Mathlib.Nat.{zero-add}
 use native.Mathlib.Omega.{arith}
-use lib.ListN.{length, take}
+use lib.ListN.{take}
 use lib.Seq.{sets}
 use Rattle.octets.specs.Believed.Classes.{classTable}
-use Rattle.octets.specs.Believed.Numbers.{messageLimit, levelLimit, noListGoesOn}
+use Rattle.octets.specs.Believed.Numbers.{levelLimit, noListGoesOn}
 use Rattle.octets.specs.declared.answers.Answer.{Answer}
+use Rattle.octets.specs.declared.answers.Answer.the-variants.{Refused}
 use Rattle.octets.proofs.AnswerLaws.{answered}
 use Rattle.records.specs.Believed.AddressRecords.{tableBytes}
+use Rattle.scanner.specs.Believed.Answers.{bodyScanned}
+use Rattle.scanner.proofs.BodyChecks.{Clean, when-refused}
 use Rattle.scanner.specs.declared.Next.{Next}
 use Rattle.scanner.specs.declared.Next.the-variants.{Found}
 use Rattle.grammar.specs.Believed.Language.{unfit, accepted, refused}
@@ -23,10 +26,10 @@ use Rattle.grammar.proofs.Symbols.{each-of}
 use Rattle.grammar.proofs.Rfc733.Readers.{ListEnds, endsList}
 use Rattle.grammar.proofs.Rfc733.TreeRecords.{tree-records, tree-count}
 use Rattle.addresses.specs.Believed.Editions.{edition733}
-use Rattle.addresses.specs.Believed.Outcome.{Outcome, AnsweredBy, outcome}
+use Rattle.addresses.specs.Believed.Outcome.{Outcome, AnsweredBy, refusal, outcome}
 use Rattle.addresses.specs.Believed.Condition3.{Condition3}
 use Rattle.addresses.specs.Ties.Steps.{symbolsFrom, symbolsAhead, lexemeAt, ListRead, ListStops}
-use Rattle.addresses.specs.Ties.Whole.{IsListed, IsRefused, TextIs}
+use Rattle.addresses.specs.Ties.Whole.{IsListed, IsRefused, TwiceIs}
 use Rattle.addresses.specs.declared.Frame.{Frame}
 use Rattle.addresses.proofs.AnyEdition as any
 
@@ -86,8 +89,12 @@ promised message start end table o e =
     let a : AnsweredBy (outcome message start end table) (o .answer) (o .table) = answered (ap (λ (z : Outcome). z .answer) (sym e)) (ap (λ (z : Outcome). z .table) (sym e)) in
     (a, settles message start end table (o .answer) (o .table) a)
 
-pub text-promised : (message : List ℕ) (start end : ℕ) (table after : List ℕ) (r : Answer) → length message ≤ messageLimit → start ≤ end → end ≤ length message
-    → TextIs (answer levelLimit) classTable (take end message) start table after r → Promised message start end table r after
-text-promised message start end table after r h k l x =
-    let o = any.text-outcome edition733 (answer levelLimit) message start end h k l x in
+-- a body that is refused by the checks or by a fault, and one that is clean
+pub refused-promised : (message : List ℕ) (start end : ℕ) (table : List ℕ) {n p : ℕ} → Refused n p ≡ bodyScanned message start end → Promised message start end table (Refused n p) table
+refused-promised message start end table {n} {p} e = promised message start end table (refusal table n p) (when-refused message start end (refusal table) _ e)
+
+pub twice-promised : (message : List ℕ) (start end : ℕ) (table after : List ℕ) (r : Answer) → Clean message start end
+    → TwiceIs (answer levelLimit) classTable (take end message) start table after r → Promised message start end table r after
+twice-promised message start end table after r c x =
+    let o = any.twice-outcome edition733 (answer levelLimit) message start end (c .short) (c .ordered) (c .inside) (c .faultless) x in
     (o, settles message start end table r after o)

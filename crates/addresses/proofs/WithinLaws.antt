@@ -56,8 +56,7 @@ module _ (limit : ℕ) (text : List ℕ) where
   -- a list of no more levels is found
   pub within-few : {k : Derivation} → ListBody text 0 (length text) k → levels k ≤ limit → listWithin limit text ≡ true
   within-few b few =
-      let x : Clean text 0 (length text) = record { short = b .short; ordered = b .ordered; inside = b .inside; faultless = b .faultless } in
-      within-decided x (answer-accepts (min limit levelLimit) (b .list .derived) (omega (arith, b .list .within)))
+      within-decided (b .clean) (answer-accepts (min limit levelLimit) (b .list .derived) (omega (arith, b .list .within)))
 
   -- a list that is not found has more levels
   pub within-not : {k : Derivation} → ListBody text 0 (length text) k → listWithin limit text ≡ false → limit < levels k

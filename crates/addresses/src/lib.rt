@@ -10,8 +10,9 @@ ghost use Rattle.octets.specs.Believed.Text.{part};
 ghost use Rattle.octets.specs.Believed.Numbers.{messageLimit, levelLimit};
 ghost use Rattle.records.specs.Believed.AddressRecords.{recordBy, recordBytes, addressRecordSize};
 ghost use Rattle.grammar.specs.Executable.Machine733.{answer};
-ghost use Rattle.addresses.specs.Ties.Steps.{isWord, isQuoted, endsAddressNext, refusedNext, closing, enclosureKind, Faultless, Standing, Reached, WordsIs, NodesIs, TypedAtomIs, Opened, MailboxIs, Lone, LoneIs, CloseIs, Entered, ListIs, BeginsAddress, AddressAt, NamedFirst, EnclosedIs, ColonFirst, TypedFirst};
-ghost use Rattle.addresses.specs.Ties.Whole.{Body, WholeIs, endsWithin, TwiceIs, TextIs};
+ghost use Rattle.scanner.specs.Ties.Steps.{Faultless};
+ghost use Rattle.addresses.specs.Ties.Steps.{isWord, isQuoted, endsAddressNext, refusedNext, closing, enclosureKind, Standing, Reached, WordsIs, NodesIs, TypedAtomIs, Opened, MailboxIs, Lone, LoneIs, CloseIs, Entered, ListIs, BeginsAddress, AddressAt, NamedFirst, EnclosedIs, ColonFirst, TypedFirst};
+ghost use Rattle.addresses.specs.Ties.Whole.{Body, WholeIs, endsWithin, TwiceIs};
 ghost use Rattle.addresses.specs.Believed.Outcome.{AnsweredBy, outcome};
 ghost use Rattle.addresses.specs.Believed.Within.{listWithin};
 ghost use Rattle.addresses.specs.Believed.Condition3.{Condition3};
@@ -21,11 +22,8 @@ use grammar::Whole;
 use grammar::typed_kind;
 use octets::answers::Answer;
 use octets::classes::CLASSES;
-use octets::numbers::BODY_OUT_OF_ORDER;
 use octets::numbers::ENDS_TOO_SOON;
 use octets::numbers::LEVEL_LIMIT;
-use octets::numbers::MESSAGE_LIMIT;
-use octets::numbers::MESSAGE_TOO_LONG;
 use octets::numbers::NO_LIST_GOES_ON;
 use octets::numbers::TOO_MANY_LEVELS;
 use records::Span;
@@ -575,33 +573,16 @@ fn read_twice(classes: &[u8; 256], text: &[u8], table: &mut [u8], at: usize) -> 
     }
 }
 
-// A text from a position on: its first fault, or what it holds.
-fn read_text(classes: &[u8; 256], text: &[u8], table: &mut [u8], at: usize) -> Answer
-    requires { ⌜ (at ≤ length (now text)) × (length (now text) ≤ messageLimit) ⌝ }
-    ensures { λ r. ⌜ TextIs (answer levelLimit) (now (classes .entry)) (now (text .entry)) at (now (table .entry)) (now (table .exit)) r ⌝ }
-{
-    match scanner::fault_by(classes, text, at) {
-        Answer::Refused(number, place) => Answer::Refused(number, place),
-        _ => read_twice(classes, text, table, at),
-    }
-}
-
 // Read the address list in the body of a message from start up to end, and write its records into the table.
 pub fn read_addresses(message: &[u8], start: usize, end: usize, table: &mut [u8]) -> Answer
     ensures outcome { λ r. ⌜ AnsweredBy (outcome (now (message .entry)) start end (now (table .entry))) r (now (table .exit)) ⌝ }
     ensures condition3 { λ r. ⌜ Condition3 (now (message .entry)) start end (now (table .entry)) r (now (table .exit)) ⌝ }
 {
-    if MESSAGE_LIMIT < message.len() {
-        return Answer::Refused(MESSAGE_TOO_LONG, MESSAGE_LIMIT);
-    }
-    if end < start {
-        return Answer::Refused(BODY_OUT_OF_ORDER, 0);
-    }
-    if message.len() < end {
-        return Answer::Refused(BODY_OUT_OF_ORDER, 0);
+    if let Answer::Refused(number, place) = scanner::scan_body(message, start, end) {
+        return Answer::Refused(number, place);
     }
     let classes = &CLASSES;
-    read_text(classes, &message[..end], table, start)
+    read_twice(classes, &message[..end], table, start)
 }
 
 // Whether a text without fault is, whole, a list of at most so many levels.

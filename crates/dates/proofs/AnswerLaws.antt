@@ -8,8 +8,8 @@ use Rattle.octets.specs.Believed.Classes.{classTable}
 use Rattle.octets.specs.Believed.Numbers.{messageLimit}
 use Rattle.octets.specs.declared.answers.Answer.the-variants as answer
 use Rattle.scanner.specs.Believed.Scanning.{Scanned, scan}
-use Rattle.scanner.specs.Believed.Answers.{faultOf}
-use Rattle.scanner.proofs.BodyChecks.{in-order, unless-refused, unless-none}
+use Rattle.scanner.specs.Believed.Answers.{faultOf, bodyScanned}
+use Rattle.scanner.proofs.BodyChecks.{in-order, unless-none, when-refused}
 use Rattle.dates.specs.Believed.Parts.{Part, parts}
 use Rattle.dates.specs.Executable.Form.{readingOf}
 use Rattle.dates.specs.Ties.Steps.{left}
@@ -42,10 +42,6 @@ module _ (message : List ℕ) (start end : ℕ) (h : length message ≤ messageL
   unfolding dateAnswer
   checked = in-order Refused message start end _ h k l
 
-  -- a fault of scanning
-  pub with-fault : {number p : ℕ} → answer.Refused number p ≡ faultOf scanned → Refused number p ≡ dateAnswer message start end
-  with-fault e = sym (checked ∙ unless-refused Refused scanned _ e)
-
   module _ (e : faultOf scanned ≡ answer.Accepted 0) where
     -- no fault: what is read of the parts
     read : dateAnswer message start end ≡ readingAnswer start (readingOf (parts classTable scanned))
@@ -58,6 +54,11 @@ module _ (message : List ℕ) (start end : ℕ) (h : length message ≤ messageL
 
     by-grammar : Settled (parts classTable scanned) start (dateAnswer message start end)
     by-grammar = rw read (settled (parts classTable scanned) start)
+
+-- a body that is refused by the checks or by a fault
+pub unread : (message : List ℕ) (start end : ℕ) {number p : ℕ} → answer.Refused number p ≡ bodyScanned message start end → Refused number p ≡ dateAnswer message start end
+unfolding dateAnswer
+unread message start end e = sym (when-refused message start end Refused _ e)
 
 -- the two promises of the entry point
 pub promised : (message : List ℕ) (start end : ℕ) {r : DateAnswer} → r ≡ dateAnswer message start end

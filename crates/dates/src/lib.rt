@@ -8,11 +8,8 @@ use crate::moment::Moment;
 use octets::answers::Answer;
 use octets::classes::CLASSES;
 use octets::numbers::ACCEPTED;
-use octets::numbers::BODY_OUT_OF_ORDER;
 use octets::numbers::DATE_FORM;
 use octets::numbers::DATE_IMPOSSIBLE;
-use octets::numbers::MESSAGE_LIMIT;
-use octets::numbers::MESSAGE_TOO_LONG;
 
 mod calendar;
 mod form;
@@ -73,21 +70,11 @@ pub fn read_date(message: &[u8], start: usize, end: usize) -> DateAnswer
     ensures outcome { λ r. ⌜ (told r ≡ told (dateAnswer (now (message .entry)) start end)) × (r ≡ dateAnswer (now (message .entry)) start end) ⌝ }
     ensures by_grammar { λ r. ⌜ ByGrammar (now (message .entry)) start end r ⌝ }
 {
-    if MESSAGE_LIMIT < message.len() {
-        return DateAnswer::Refused(MESSAGE_TOO_LONG, MESSAGE_LIMIT);
-    }
-    if end < start {
-        return DateAnswer::Refused(BODY_OUT_OF_ORDER, 0);
-    }
-    if message.len() < end {
-        return DateAnswer::Refused(BODY_OUT_OF_ORDER, 0);
-    }
-    let classes = &CLASSES;
-    let text = &message[..end];
-    if let Answer::Refused(number, place) = scanner::fault_by(classes, text, start) {
+    if let Answer::Refused(number, place) = scanner::scan_body(message, start, end) {
         return DateAnswer::Refused(number, place);
     }
-    let Reading::Right(written) = crate::form::read_form(classes, text, start) else {
+    let classes = &CLASSES;
+    let Reading::Right(written) = crate::form::read_form(classes, &message[..end], start) else {
         return DateAnswer::Refused(DATE_FORM, start);
     };
     match crate::moment::moment_of(written) {

@@ -20,7 +20,8 @@ use Rattle.grammar.specs.Believed.Rfc733.{sameClass}
 use Rattle.grammar.specs.Executable.Machine822.{start}
 use Rattle.grammar.proofs.Rfc822.Condition3.{decides}
 use Rattle.addresses.specs.Believed.Editions.{classIn822, takenIn822}
-use Rattle.addresses.specs.Ties.Steps.{symbolsFrom, lexemeAt, Faultless}
+use Rattle.scanner.specs.Ties.Steps.{Faultless}
+use Rattle.addresses.specs.Ties.Steps.{symbolsFrom, lexemeAt}
 use Rattle.addresses.specs.Ties.Whole.{IsListed, IsRefused}
 use Rattle.addresses.proofs.ClassCases.{tag, by-class-not}
 use Rattle.addresses.proofs.NextLaws.{NextIs}

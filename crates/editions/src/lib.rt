@@ -9,9 +9,8 @@ ghost use lib.Seq.{sets};
 ghost use Rattle.octets.specs.Believed.Choice.{both};
 ghost use Rattle.octets.specs.Believed.Numbers.{messageLimit};
 ghost use Rattle.records.specs.Believed.AddressRecords.{addressRecordSize, recordBytes};
-ghost use Rattle.grammar.specs.Believed.Rfc733.{classNumber};
 ghost use Rattle.addresses.specs.Believed.Editions.{classIn822};
-ghost use Rattle.addresses.specs.Ties.Whole.{Body, WholeIs, TwiceIs, TextIs};
+ghost use Rattle.addresses.specs.Ties.Whole.{Body, WholeIs, TwiceIs};
 ghost use Rattle.addresses.specs.Believed.Outcome.{AnsweredBy};
 ghost use Rattle.editions.specs.Believed.Outcome.{verdict822, outcome822, outcomeOf, Condition3Of, NeverTooDeep};
 ghost use Rattle.editions.specs.Ties.Places.{placeCount, columns, nextPlace, placeTable, effectOf, endsAt, noGroup, oneIf, parentOf};
@@ -24,13 +23,11 @@ use crate::places::PLACE_TABLE;
 use crate::places::PLACES;
 use crate::places::TABLE_SIZE;
 use grammar::Whole;
+use grammar::class_number;
 use octets::answers::Answer;
 use octets::classes822::CLASSES_822;
-use octets::numbers::BODY_OUT_OF_ORDER;
 use octets::numbers::EDITION_UNKNOWN;
 use octets::numbers::ENDS_TOO_SOON;
-use octets::numbers::MESSAGE_LIMIT;
-use octets::numbers::MESSAGE_TOO_LONG;
 use octets::numbers::NO_LIST_GOES_ON;
 use records::Span;
 use records::addresses::ADDRESS_RECORD_SIZE;
@@ -64,25 +61,6 @@ const MAILBOX: u8 = 1;
 const ANGLE_ADDRESS: u8 = 2;
 
 const GROUP: u8 = 3;
-
-// The column of a class, from 0.
-fn class_number(class: Class) -> usize
-    ensures { λ r. ⌜ (r ≡ classNumber class) × (r < 11) ⌝ }
-{
-    match class {
-        Class::Atom => 0,
-        Class::Quoted => 1,
-        Class::At => 2,
-        Class::LessThan => 3,
-        Class::GreaterThan => 4,
-        Class::Comma => 5,
-        Class::Semicolon => 6,
-        Class::Colon => 7,
-        Class::Stray => 8,
-        Class::Dot => 9,
-        Class::Literal => 10,
-    }
-}
 
 // A number of the table: that of a place in a column.
 fn cell(places: &[u8; TABLE_SIZE], place: usize, column: usize) -> u8
@@ -322,37 +300,16 @@ fn read_twice(
     }
 }
 
-// A text from a position on: its first fault, or what it holds.
-fn read_text(
-    classes: &[u8; 256],
-    places: &[u8; TABLE_SIZE],
-    text: &[u8],
-    table: &mut [u8],
-    at: usize,
-) -> Answer
-    requires { ⌜ (at ≤ length (now text)) × (length (now text) ≤ messageLimit) × (now places ≡ placeTable) ⌝ }
-    ensures { λ r. ⌜ TextIs verdict822 (now (classes .entry)) (now (text .entry)) at (now (table .entry)) (now (table .exit)) r ⌝ }
-{
-    match scanner::fault_by(classes, text, at) {
-        Answer::Refused(number, place) => Answer::Refused(number, place),
-        _ => read_twice(classes, places, text, table, at),
-    }
-}
-
-// Read the address list of RFC 822 in the body of a message within its limit.
+// Read the address list of RFC 822 in the body of a message.
 fn read_822(message: &[u8], start: usize, end: usize, table: &mut [u8]) -> Answer
-    requires { ⌜ length (now message) ≤ messageLimit ⌝ }
     ensures { λ r. ⌜ AnsweredBy (outcome822 (now (message .entry)) start end (now (table .entry))) r (now (table .exit)) ⌝ }
 {
-    if end < start {
-        return Answer::Refused(BODY_OUT_OF_ORDER, 0);
-    }
-    if message.len() < end {
-        return Answer::Refused(BODY_OUT_OF_ORDER, 0);
-    }
     let classes = &CLASSES_822;
+    if let Answer::Refused(number, place) = scanner::scan_by(classes, message, start, end) {
+        return Answer::Refused(number, place);
+    }
     let places = &PLACE_TABLE;
-    read_text(classes, places, &message[..end], table, start)
+    read_twice(classes, places, &message[..end], table, start)
 }
 
 // Read the address list in the body of a message from start up to end by the rules of an edition, 733 or 822, and write its records
@@ -368,14 +325,14 @@ pub fn read_addresses(
     ensures condition3 { λ r. ⌜ Condition3Of edition (now (message .entry)) start end (now (table .entry)) r (now (table .exit)) ⌝ }
     ensures levels { λ r. ⌜ NeverTooDeep edition r ⌝ }
 {
-    if MESSAGE_LIMIT < message.len() {
-        return Answer::Refused(MESSAGE_TOO_LONG, MESSAGE_LIMIT);
-    }
     if edition == 733 {
         return addresses::read_addresses(message, start, end, table);
     }
     if edition == 822 {
         return read_822(message, start, end, table);
+    }
+    if let Answer::Refused(number, place) = scanner::check_body(message, 0, 0) {
+        return Answer::Refused(number, place);
     }
     Answer::Refused(EDITION_UNKNOWN, 0)
 }

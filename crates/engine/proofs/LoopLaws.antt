@@ -20,7 +20,8 @@ use Rattle.grammar.specs.Executable.Trees733.{Class, Atom, asRow}
 use Rattle.grammar.specs.Executable.Machine733.{State, stepOn, step, run, judge, asRows, answer}
 use Rattle.grammar.specs.Executable.Machine733 as machine
 use Rattle.grammar.proofs.Rfc733.TreeRecords.{tree-records, tree-count}
-use Rattle.addresses.specs.Ties.Steps.{symbolsFrom, symbolsAhead, lexemeAt, Faultless}
+use Rattle.addresses.specs.Ties.Steps.{symbolsFrom, symbolsAhead, lexemeAt}
+use Rattle.scanner.specs.Ties.Steps.{Faultless}
 use Rattle.addresses.specs.Ties.Whole.{Body, WholeIs}
 use Rattle.addresses.proofs.NextLaws.{NextIs, next-is}
 use Rattle.engine.specs.Ties.Actions.{modeNumber, columns, endColumn, modeCount, entry, rowOf, actionOf, actionTable}

@@ -6,9 +6,8 @@ ghost use mathlib.Core.Path.{_≡_};
 ghost use Prim.Native.Nat.{_+_, _*_, _≤_, _<_};
 ghost use lib.ListN.{length, getD, set};
 ghost use Rattle.octets.specs.Believed.Numbers.{messageLimit, levelLimit};
-ghost use Rattle.grammar.specs.Believed.Rfc733.{classNumber};
 ghost use Rattle.grammar.specs.Executable.Machine733.{answer};
-ghost use Rattle.addresses.specs.Ties.Whole.{Body, WholeIs, TwiceIs, TextIs};
+ghost use Rattle.addresses.specs.Ties.Whole.{Body, WholeIs, TwiceIs};
 ghost use Rattle.addresses.specs.Ties.Steps.{symbolsFrom};
 ghost use Rattle.addresses.specs.Believed.Outcome.{AnsweredBy, outcome};
 ghost use Rattle.addresses.specs.Believed.Condition3.{Condition3};
@@ -42,14 +41,12 @@ use crate::things::LESS_THAN;
 use crate::things::SEMICOLON;
 use crate::things::WORD;
 use grammar::Whole;
+use grammar::class_number;
 use grammar::typed_kind;
 use octets::answers::Answer;
 use octets::classes::CLASSES;
-use octets::numbers::BODY_OUT_OF_ORDER;
 use octets::numbers::ENDS_TOO_SOON;
 use octets::numbers::LEVEL_LIMIT;
-use octets::numbers::MESSAGE_LIMIT;
-use octets::numbers::MESSAGE_TOO_LONG;
 use octets::numbers::NO_LIST_GOES_ON;
 use octets::numbers::TOO_MANY_LEVELS;
 use records::Span;
@@ -100,25 +97,6 @@ enum Turned {
 enum Stopped {
     AtEnd(Engine),
     AtSymbol(u8, usize, Engine),
-}
-
-// The column of a class.
-fn column_of(class: Class) -> usize
-    ensures { λ r. ⌜ r ≡ classNumber class ⌝ }
-{
-    match class {
-        Class::Atom => 0,
-        Class::Quoted => 1,
-        Class::At => 2,
-        Class::LessThan => 3,
-        Class::GreaterThan => 4,
-        Class::Comma => 5,
-        Class::Semicolon => 6,
-        Class::Colon => 7,
-        Class::Stray => 8,
-        Class::Dot => 9,
-        Class::Literal => 10,
-    }
 }
 
 // An entry of the table.
@@ -490,7 +468,7 @@ fn run(
         let Next::Found(class, start, end) = scanner::next_by(classes, text, engine.at) else {
             return Stopped::AtEnd(engine);
         };
-        let action = action_at(actions, engine.mode, column_of(class));
+        let action = action_at(actions, engine.mode, class_number(class));
         match turn(text, stack, table, engine, action, class, start, end) {
             Turned::Stop(number) => return Stopped::AtSymbol(number, start, engine),
             Turned::On(after) => engine = after,
@@ -542,40 +520,17 @@ fn read_twice(
     }
 }
 
-// A text from a position on: its first fault, or what it holds.
-fn read_text(
-    classes: &[u8; 256],
-    actions: &[u8; TABLE_SIZE],
-    text: &[u8],
-    table: &mut [u8],
-    at: usize,
-) -> Answer
-    requires { ⌜ (at ≤ length (now text)) × (length (now text) ≤ messageLimit) × (now actions ≡ actionTable) ⌝ }
-    ensures { λ r. ⌜ TextIs (answer levelLimit) (now (classes .entry)) (now (text .entry)) at (now (table .entry)) (now (table .exit)) r ⌝ }
-{
-    match scanner::fault_by(classes, text, at) {
-        Answer::Refused(number, place) => Answer::Refused(number, place),
-        _ => read_twice(classes, actions, text, table, at),
-    }
-}
-
 // Read the address list in the body of a message from start up to end, and write its records into the table.
 pub fn read_addresses(message: &[u8], start: usize, end: usize, table: &mut [u8]) -> Answer
     ensures outcome { λ r. ⌜ AnsweredBy (outcome (now (message .entry)) start end (now (table .entry))) r (now (table .exit)) ⌝ }
     ensures condition3 { λ r. ⌜ Condition3 (now (message .entry)) start end (now (table .entry)) r (now (table .exit)) ⌝ }
 {
-    if MESSAGE_LIMIT < message.len() {
-        return Answer::Refused(MESSAGE_TOO_LONG, MESSAGE_LIMIT);
-    }
-    if end < start {
-        return Answer::Refused(BODY_OUT_OF_ORDER, 0);
-    }
-    if message.len() < end {
-        return Answer::Refused(BODY_OUT_OF_ORDER, 0);
+    if let Answer::Refused(number, place) = scanner::scan_body(message, start, end) {
+        return Answer::Refused(number, place);
     }
     let classes = &CLASSES;
     let actions = &ACTIONS;
-    read_text(classes, actions, &message[..end], table, start)
+    read_twice(classes, actions, &message[..end], table, start)
 }
 
 // The levels that stay open where an address ends: all but the typed ones right around it.
@@ -643,7 +598,7 @@ fn if_could(
     requires { ⌜ SomeStands (now stack) engine × (now actions ≡ actionTable) ⌝ }
     ensures { λ r. ⌜ (r ≤ n) × IfCouldIs (now (stack .entry)) engine class n r ⌝ }
 {
-    let action = action_at(actions, engine.mode, column_of(class));
+    let action = action_at(actions, engine.mode, class_number(class));
     if could(stack, engine, action, class) {
         return n;
     }

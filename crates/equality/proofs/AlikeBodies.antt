@@ -83,14 +83,14 @@ module _ {message other : List ℕ} {start end start′ end′ : ℕ} (c : Check
   list-again f l =
       let r = derived-alike (l .derived) (alike-symbols a) in
       let again : IsList (bodySymbols other start′ end′) (r .again) = record { derived = r .derived; within = omega (arith, r .deep, l .within) } in
-      (r .again, record { short = d .short; ordered = d .ordered; inside = d .inside; faultless = f; list = again }, r .means, r .counted)
+      (r .again, record { clean = record { short = d .short; ordered = d .ordered; inside = d .inside; faultless = f }; list = again }, r .means, r .counted)
 
   by-verdict : faultOf (scan (take end message) start) ≡ Accepted 0 → faultOf (scan (take end′ other) start′) ≡ Accepted 0 → (v : Verdict Class Derivation) → answer levelLimit (bodySymbols message start end) ≡ v → Alike message start end other start′ end′
   by-verdict f g (accepted k) e =
       let (p, q) = answer-derives levelLimit {xs = bodySymbols message start end} e in
       let l : IsList (bodySymbols message start end) k = record { derived = p; within = q } in
       let (j, b, m, n) = list-again g l in
-      both-listed k j (record { short = c .short; ordered = c .ordered; inside = c .inside; faultless = f; list = l }) b m n
+      both-listed k j (record { clean = record { short = c .short; ordered = c .ordered; inside = c .inside; faultless = f }; list = l }) b m n
   by-verdict f g (refused why rest) e =
       let (place, e′) = refused-alike levelLimit (alike-symbols a) why rest e in
       both-refused (number why) (positionOf end rest) (positionOf end′ place) (refused-read message start end (c .short) (c .ordered) (c .inside) f e) (refused-read other start′ end′ (d .short) (d .ordered) (d .inside) g e′)

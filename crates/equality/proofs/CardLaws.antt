@@ -67,7 +67,7 @@ equal-texts message other start end start′ end′ k j a b = (λ e. equal-lists
 -- with room enough the card is the plain text
 card-is : (lent : List ℕ) {message : List ℕ} {start end : ℕ} {k : Derivation} → AcceptedBody message start end k → length (plainText k) ≤ length lent → card (plainOutcome message start end lent) ≡ plainText k
 card-is lent {message} {start} {end} {k} a h =
-    let b = scanned-body message start end (a .scans) (record { derived = a .derived; within = a .within }) in
+    let b = scanned-body message start end (a .scans) (a .list) in
     ap card (listed-read b (refusal lent) (written lent)) ∙ rw (le-leb (length (plainText k)) (length lent) h) (take-append-seam (plainText k) (drop (length (plainText k)) lent))
 
 pub equal-cards : EqualCardsMeanEqualAddresses

@@ -32,12 +32,12 @@ module _ (place : Place) (may : MayHoldComment place) where
 
     still-accepted : (k : Derivation) → AcceptedWith place one k → StillAccepted place other k
     still-accepted k a =
-        let l : IsList (bodySymbols (messageWith place one) (place .start) (endWith place one)) k = record { derived = a .derived; within = a .within } in
+        let l : IsList (bodySymbols (messageWith place one) (place .start) (endWith place one)) k = a .list in
         let b = scanned-body (messageWith place one) (place .start) (endWith place one) (a .scans) l in
-        let (j, r, m, n) = list-again (checked one c) (checked other d) scans (faultless-too scans (b .faultless)) l in
+        let (j, r, m, n) = list-again (checked one c) (checked other d) scans (faultless-too scans (b .clean .faultless)) l in
         record {
           again = j;
-          accepted = record { scans = list-scanned _ _ _ r; derived = r .list .derived; within = r .list .within };
+          accepted = record { scans = list-scanned _ _ _ r; list = r .list };
           same = equal-lists m;
           text = same-plain k j m;
         }

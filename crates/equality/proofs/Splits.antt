@@ -5,8 +5,10 @@ use mathlib.Core.Path.{_≡_, refl, ap, _∙_}
 use mathlib.Core.Bool.{Bool, true, false}
 use mathlib.Core.List.{List, [], _∷_, _++_}
 use borrow.Author.Tests.{ne-eqb}
+use lib.Dec.{eqb}
 use lib.ListN.{length}
 use Rattle.octets.specs.Believed.Octets.{lineFeedByte, returnByte, openByte}
+use Rattle.octets.proofs.ChoiceLaws.{both-false}
 use Rattle.scanner.specs.Believed.Characters.{character, foldAt, InFold, none, lineFeed, white, charactersFrom}
 use Rattle.scanner.proofs.CharacterLaws.{plain-here, fold-within}
 
@@ -23,7 +25,7 @@ Apart [] post = Unit {0}
 Apart (b ∷ cs) post = (foldAt (b ∷ (cs ++ post)) 0 ≡ foldAt (b ∷ cs) 0) × Apart cs post
 
 fold-before-open : (b : ℕ) (cs post : List ℕ) → foldAt (b ∷ (cs ++ (openByte ∷ post))) 0 ≡ foldAt (b ∷ cs) 0
-fold-before-open b [] post = refl
+fold-before-open b [] post = rw (both-false (eqb b returnByte))
 fold-before-open b (c ∷ []) post = refl
 fold-before-open b (c ∷ d ∷ cs) post = refl
 
@@ -44,7 +46,7 @@ pub record NoLineEnd (b : ℕ) : Type 0 where
 
 fold-behind : (b : ℕ) (cs post : List ℕ) → NoLineEnd (lastByte b cs) → foldAt (b ∷ (cs ++ post)) 0 ≡ foldAt (b ∷ cs) 0
 fold-behind b [] post n = rw (ne-eqb b returnByte (n .no-return))
-fold-behind b (c ∷ []) post n = rw (ne-eqb c lineFeedByte (n .no-line-feed))
+fold-behind b (c ∷ []) post n = rw (ne-eqb c lineFeedByte (n .no-line-feed), both-false (eqb b returnByte))
 fold-behind b (c ∷ d ∷ cs) post n = refl
 
 -- the first ends with such a byte

@@ -101,11 +101,11 @@ module _ (message : List ℕ) (start end : ℕ) (store lent : List ℕ) where
           expands = expands;
           promised = λ k a. expansion-promised store a;
           without-include = λ k a n.
-              let f : AnsweredBy (expanded lent (reached (meaning k) 0)) r after = rw (without-include store (a .derived) n) at (expands k a) in
+              let f : AnsweredBy (expanded lent (reached (meaning k) 0)) r after = rw (without-include store (a .list .derived) n) at (expands k a) in
               let p = listed-read (accepted-list message start end a) (addresses.refusal lent) (written lent) in
               rw p (f .answered, f .openings-is);
           no-list = λ s n.
-              let w = scanned-unlisted message start end s (λ k d. n k (record { scans = s; derived = d .derived; within = d .within })) in
+              let w = scanned-unlisted message start end s (λ k d. n k (record { scans = s; list = d })) in
               let f = refused-with (w .reads) e in
               (record { why = w .why; rest = w .rest; right = w .right; tells = f .answered .told-is }, f .openings-is, f .answered .bytes-are);
           unread = λ n p s.

@@ -242,8 +242,7 @@ reads-back w n h =
       accepted =
           record {
             scans = in-order Refused t 0 (length t) (faultOf (scan (take (length t) t) 0)) h (omega arith) (omega arith) ∙ rw take-length (r .faultless);
-            derived = rw take-length (r .derived);
-            within = omega (arith, r .deep, n);
+            list = record { derived = rw take-length (r .derived); within = omega (arith, r .deep, n) };
           };
       means = r .means;
       text = ap (λ m. addressesText m []) (r .means);
@@ -261,4 +260,4 @@ promised (reached m u) (f, h) =
 pub expansion-promised : {message : List ℕ} {start end : ℕ} (store : List ℕ) {k : Derivation} → AcceptedBody message start end k → Promised (expansion store k)
 expansion-promised {message} {start} {end} store {k} a =
     promised (expansion store k)
-    (row-fine store (λ i p d before u. openedWithin store openingLimit i p d before u) (opening-fine store openingLimit) (λ s. s) (take end message) start k 0 noAddress 0 (a .derived) (omega (arith, a .within)) (fine-none 0 (omega arith)) (omega arith))
+    (row-fine store (λ i p d before u. openedWithin store openingLimit i p d before u) (opening-fine store openingLimit) (λ s. s) (take end message) start k 0 noAddress 0 (a .list .derived) (omega (arith, a .list .within)) (fine-none 0 (omega arith)) (omega arith))

@@ -5,24 +5,18 @@ use mathlib.Core.List.{List}
 use Prim.Native.Nat.{ℕ, _+_, _≤_, _<_}
 use native.Mathlib.Nat.{add-zero}
 use native.Mathlib.Omega.{arith}
-use borrow.Author.Tests.{le-leb, lt-leb, eq-eqb, ne-eqb}
+use borrow.Author.Tests.{le-leb, lt-leb}
 use lib.Dec.{eqb}
 use lib.ListN.{length, drop, getD, List·getD-eq-default}
 use lib.Seq.{getD-drop}
-use Rattle.octets.specs.Believed.Choice.{both}
 use Rattle.octets.specs.Believed.Classes.{isWhite}
-use Rattle.octets.specs.Believed.Octets.{lineFeedByte, returnByte, colonByte}
+use Rattle.octets.specs.Believed.Octets.{returnByte, colonByte}
+use Rattle.octets.specs.Believed.Text.{crlfAt}
 use Rattle.octets.proofs.ChoiceLaws.{both-true, both-false}
+use Rattle.octets.proofs.LineLaws as line
 use Rattle.header.specs.Believed.Fields.{nameHolds, nameStartsWith, crlf, endsBody}
 
 module _ (b : ℕ) where
-  -- SPACE, else HTAB
-  pub white-space : b ≡ 32 → isWhite b ≡ true
-  white-space e = rw (eq-eqb b 32 e)
-
-  pub white-else : (b ≡ 32 → ⊥) → isWhite b ≡ eqb b 9
-  white-else n = rw (ne-eqb b 32 n)
-
   -- a name holds white space and does not start with it
   pub holds-white : isWhite b ≡ true → nameHolds b ≡ true
   unfolding nameHolds
@@ -55,19 +49,16 @@ module _ (message : List ℕ) (at : ℕ) where
   pub first-byte : getD (drop at message) 0 0 ≡ getD message at 0
   first-byte = rw (getD-drop, add-zero)
 
-  two-bytes : crlf (drop at message) ≡ both (eqb (getD message at 0) returnByte) (eqb (getD message (at + 1) 0) lineFeedByte)
+  pub two-bytes : crlf (drop at message) ≡ crlfAt message at
   unfolding crlf
   two-bytes = simp (getD-drop, add-zero)
 
   -- CRLF at a position: CR there, and LF after it
   pub crlf-other : (getD message at 0 ≡ returnByte → ⊥) → crlf (drop at message) ≡ false
-  crlf-other n = two-bytes ∙ rw (ne-eqb _ _ n)
+  crlf-other n = two-bytes ∙ line.crlf-other message at n
 
   pub crlf-last : length message ≤ at + 1 → crlf (drop at message) ≡ false
-  crlf-last h = two-bytes ∙ rw (List·getD-eq-default message 0 h) (both-false (eqb (getD message at 0) returnByte))
-
-  pub crlf-second : getD message at 0 ≡ returnByte → crlf (drop at message) ≡ eqb (getD message (at + 1) 0) lineFeedByte
-  crlf-second e = two-bytes ∙ rw (eq-eqb _ _ e)
+  crlf-last h = two-bytes ∙ line.crlf-last message at h
 
   -- a body's end at a position: CRLF, and no white space after it
   pub body-other : crlf (drop at message) ≡ false → endsBody (drop at message) ≡ false

@@ -3,14 +3,15 @@ ghost use mathlib.Core.Path.{_≡_};
 ghost use Prim.Native.Nat.{_+_, _*_, _≤_, _<_};
 ghost use lib.ListN.{length, drop};
 ghost use lib.Seq.{sets};
-ghost use Rattle.octets.specs.Believed.Classes.{isWhite};
 ghost use Rattle.octets.specs.Believed.Numbers.{messageLimit};
-ghost use Rattle.header.specs.Believed.Fields.{nameHolds, nameStartsWith, crlf, endsBody, lineStart, inName, inBody, fieldsOf, headerAt, headerOf};
+ghost use Rattle.header.specs.Believed.Fields.{nameHolds, nameStartsWith, endsBody, lineStart, inName, inBody, fieldsOf, headerAt, headerOf};
 ghost use Rattle.octets.specs.Believed.Answers.{Answered};
 ghost use Rattle.records.specs.Believed.FieldRecords.{fieldTable};
 ghost use Rattle.header.specs.Believed.Split.{answerIn, splitAnswer, splitTable};
 ghost use Rattle.header.specs.Ties.Steps.{firstOf, GoesOn};
 use octets::answers::Answer;
+use octets::lines::is_crlf;
+use octets::lines::is_white;
 use octets::numbers::BYTE_ABOVE_127;
 use octets::numbers::HEADER_NOT_ENDED;
 use octets::numbers::MESSAGE_LIMIT;
@@ -29,20 +30,6 @@ enum Next {
     End,
     // A fault: its number and position.
     Fault(u8, usize),
-}
-
-const CR: u8 = 13;
-
-const LF: u8 = 10;
-
-// Whether a byte is SPACE or HTAB.
-fn is_white(b: u8) -> bool
-    ensures { λ r. ⌜ r ≡ isWhite b ⌝ }
-{
-    if b == b' ' {
-        return true;
-    }
-    b == b'\t'
 }
 
 // Whether a name may hold a byte.
@@ -69,20 +56,6 @@ fn name_starts_with(b: u8) -> bool
         return false;
     }
     name_holds(b)
-}
-
-// Whether CR and LF stand at a position.
-fn is_crlf(message: &[u8], at: usize) -> bool
-    requires { ⌜ at < length (now message) ⌝ }
-    ensures { λ r. ⌜ r ≡ crlf (drop at (now (message .entry))) ⌝ }
-{
-    if message[at] != CR {
-        return false;
-    }
-    if message.len() <= at + 1 {
-        return false;
-    }
-    message[at + 1] == LF
 }
 
 // Whether CR and LF stand there that SPACE or HTAB does not follow.

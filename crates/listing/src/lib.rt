@@ -2,7 +2,7 @@
 //
 // The lent part is a window on the text: of each byte put, its place in the text is counted, and it is stored if it lies in the window.
 ghost use mathlib.Core.Path.{_≡_};
-ghost use mathlib.Core.List.{[], _∷_, _++_};
+ghost use mathlib.Core.List.{_∷_, _++_};
 ghost use Prim.Native.Nat.{_+_, _*_, _≤_, _<_};
 ghost use lib.ListN.{length, drop};
 ghost use lib.Seq.{sets};
@@ -26,9 +26,10 @@ use header::names::known_name;
 use octets::answers::Answer;
 use octets::numbers::TABLE_RECORDS;
 use octets::numbers::TOO_LITTLE_ROOM;
-use octets::stored::store_byte;
 use records::addresses::ADDRESS_RECORD_SIZE;
 use records::fields::FIELD_RECORD_SIZE;
+use octets::writing::store_byte_in;
+use octets::writing::store_bytes_in;
 
 pub mod printing;
 
@@ -51,21 +52,12 @@ fn address_table() -> [u8; ADDRESS_TABLE_SIZE]
     [0; ADDRESS_TABLE_SIZE]
 }
 
-// One byte, if it lies in the window.
-fn store_in(from: usize, out: &mut [u8], n: usize, b: u8)
-    ensures { λ _. ⌜ now (out .exit) ≡ inWindow from (now (out .entry)) n (b ∷ []) ⌝ }
-{
-    if from <= n {
-        store_byte(out, n - from, b);
-    }
-}
-
 // One byte of the text, at its place in it.
 fn put(from: usize, out: &mut [u8], n: usize, b: u8) -> usize
     requires { ⌜ n < countLimit ⌝ }
     ensures { λ r. ⌜ WroteBy (inWindow from) (λ rest. b ∷ rest) (now (out .entry)) n (now (out .exit)) r × (r ≡ n + 1) ⌝ }
 {
-    store_in(from, out, n, b);
+    store_byte_in(from, out, n, b);
     n + 1
 }
 
@@ -74,13 +66,8 @@ fn put_bytes(text: &[u8], from: usize, out: &mut [u8], n: usize) -> usize
     requires { ⌜ n + length (now text) ≤ countLimit ⌝ }
     ensures { λ r. ⌜ WroteBy (inWindow from) (λ rest. now (text .entry) ++ rest) (now (out .entry)) n (now (out .exit)) r × (r ≡ n + length (now (text .entry))) ⌝ }
 {
-    let mut i: usize = 0;
-    let mut m = n;
-    while i < text.len() {
-        m = put(from, out, m, text[i]);
-        i += 1;
-    }
-    m
+    store_bytes_in(from, out, n, text);
+    n + text.len()
 }
 
 // A number.

@@ -4,6 +4,7 @@ pub mod AnswerLaws
 pub mod Tables
 pub mod ClassLaws
 pub mod LetterLaws
+pub mod LineLaws
 pub mod StoredLaws
 pub mod Parts
 pub mod Writes

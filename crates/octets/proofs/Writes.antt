@@ -7,12 +7,12 @@ use native.Mathlib.Nat.{zero-add}
 use native.Mathlib.Numerals.{add-one}
 use native.Mathlib.Omega.{arith}
 use borrow.Author.Tests.{le-leb, lt-leb}
-use lib.ListN.{length, drop, set, drop-of-length-le}
+use lib.ListN.{length, drop, set, drop-of-length-le, length-append}
 use lib.Seq.{sets, sets-eq}
 use Rattle.octets.specs.declared.answers.Answer.the-variants.{Accepted, NoRoom}
 use Rattle.octets.specs.Ties.Writing.{WroteBy, Wrote, inWindow}
 use Rattle.octets.specs.Believed.Fitting.{fittingAnswer, fittingText}
-use Rattle.octets.proofs.Parts.{no-front}
+use Rattle.octets.proofs.Parts.{no-front, sets-append}
 
 -- ---- texts written
 
@@ -86,6 +86,33 @@ nothing-more from out n =
       | yes h ↦ let none : List ℕ = [] in rw (lt-leb from n h, drop-of-length-le none {i = from - n} (omega arith))
       | no h ↦ rw (le-leb from n (omega arith))
     ]
+
+-- a text
+pub wrote-text : {out after : List ℕ} {n : ℕ} (t : List ℕ) → after ≡ sets out n t → Wrote (λ rest. t ++ rest) out n after (n + length t)
+wrote-text {out} {n = n} t e = record { same = λ rest. rw e (sets-append t rest out n); count = λ rest. rw length-append (omega arith) }
+
+window-text : (from : ℕ) (t rest out : List ℕ) (n : ℕ) → inWindow from out n (t ++ rest) ≡ inWindow from (inWindow from out n t) (n + length t) rest
+window-text from [] rest out n = let z : n + 0 ≡ n = omega arith in rw (nothing-more from out n, z)
+window-text from (b ∷ t) rest out n =
+    let z : n + 1 + length t ≡ n + suc (length t) = omega arith in
+    window-byte from out n b (t ++ rest) ∙ window-text from t rest (inWindow from out n (b ∷ [])) (n + 1)
+    ∙ rw (← (window-byte from out n b t), z)
+
+pub wrote-window-text : (from : ℕ) {out after : List ℕ} {n : ℕ} (t : List ℕ) → after ≡ inWindow from out n t → WroteBy (inWindow from) (λ rest. t ++ rest) out n after (n + length t)
+wrote-window-text from {out} {n = n} t e = record { same = λ rest. rw e (window-text from t rest out n); count = λ rest. rw length-append (omega arith) }
+
+module _ (from : ℕ) (out : List ℕ) (n : ℕ) (t : List ℕ) where
+  -- a text in the window, one that begins before it, and one that ends before it
+  pub text-within : from ≤ n → inWindow from out n t ≡ sets out (n - from) t
+  unfolding inWindow
+  text-within h = rw (le-leb from n h)
+
+  pub text-across : n < from → inWindow from out n t ≡ sets out 0 (drop (from - n) t)
+  unfolding inWindow
+  text-across h = rw (lt-leb from n h)
+
+  pub text-before : n < from → length t ≤ from - n → inWindow from out n t ≡ out
+  text-before h k = text-across h ∙ rw (drop-of-length-le t {i = from - n} k)
 
 -- from the text's start on, a window holds what stands from its own start on
 pub window-all : (from : ℕ) (out text : List ℕ) → inWindow from out 0 text ≡ sets out 0 (drop from text)

@@ -148,8 +148,7 @@ accepted-as body h e =
     let a : AcceptedBody body 0 (length body) k =
     record {
       scans = in-order Refused body 0 (length body) (faultOf (scan (take (length body) body) 0)) h (omega arith) (omega arith) ∙ rw take-length f;
-      derived = rw take-length d;
-      within = n;
+      list = record { derived = rw take-length d; within = n };
     } in
     (k, a, p)
 

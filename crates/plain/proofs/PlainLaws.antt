@@ -22,10 +22,10 @@ use Rattle.plain.proofs.RoundTrips.{round-trip, written-accepted}
 
 module _ (message : List ℕ) (start end : ℕ) where
   pub accepted-list : {k : Derivation} → AcceptedBody message start end k → ListBody message start end k
-  accepted-list a = scanned-body message start end (a .scans) (record { derived = a .derived; within = a .within })
+  accepted-list a = scanned-body message start end (a .scans) (a .list)
 
   list-accepted : {k : Derivation} → ListBody message start end k → AcceptedBody message start end k
-  list-accepted b = record { scans = list-scanned message start end b; derived = b .list .derived; within = b .list .within }
+  list-accepted b = record { scans = list-scanned message start end b; list = b .list }
 
   -- ---- the promises of the entry point
 
@@ -42,7 +42,7 @@ module _ (message : List ℕ) (start end : ℕ) where
             writes = λ k a. let f = listed-read (accepted-list a) (refusal lent) (written lent) in (ap told (p ∙ ap (λ (z : Outcome). z .answer) f), q ∙ ap (λ (z : Outcome). z .table) f);
             round-trip = λ k a h. round-trip a h;
             no-list = λ s n.
-                let w = scanned-unlisted message start end s (λ k d. n k (record { scans = s; derived = d .derived; within = d .within })) in
+                let w = scanned-unlisted message start end s (λ k d. n k (record { scans = s; list = d })) in
                 let f = w .reads Outcome (refusal lent) (written lent) in
                 (record { why = w .why; rest = w .rest; right = w .right; tells = ap told (p ∙ ap (λ (z : Outcome). z .answer) f) }, q ∙ ap (λ (z : Outcome). z .table) f);
             unread = λ n m s.

@@ -186,7 +186,7 @@ data-first [] r = refl
 data-first (b ∷ bs) r = first-byte (eqb b 34) (eqb b 92) (eqb b 13) (eqb b 10) b (dataText bs (34 ∷ r)) refl
 
 data-no-fold : (b : ℕ) (bs r : List ℕ) → foldAt (b ∷ dataText bs (34 ∷ r)) 0 ≡ false
-data-no-fold b bs r = rw (data-first bs r) (both-false (eqb b 13))
+data-no-fold b bs r = rw (data-first bs r, both-false (eqb b 13))
 
 -- one byte of data, with its backslash or without
 data-step : (x : Bool) (b : ℕ) (bs r : List ℕ) (p s : ℕ) (t : List ℕ) → T (pick x (hasKey takenKeys (tag (kindOf classTable b))) (hasKey dataKeys (tag (kindOf classTable b))))

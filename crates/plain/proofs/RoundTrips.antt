@@ -57,15 +57,14 @@ reread text at {k} d =
 -- a plain text of at most 32,768 bytes is accepted, with the same addresses, nesting, words and nodes, and written again it is the same bytes
 pub round-trip : {message : List ℕ} {start end : ℕ} {k : Derivation} → AcceptedBody message start end k → length (plainText k) ≤ messageLimit → RoundTrip k
 round-trip {message} {start} {end} {k} a h =
-    let (r, n) = reread (take end message) start (a .derived) in
+    let (r, n) = reread (take end message) start (a .list .derived) in
     let t : List ℕ = plainText k in
     record {
       again = r .again;
       accepted =
           record {
             scans = in-order Refused t 0 (length t) (faultOf (scan (take (length t) t) 0)) h (omega arith) (omega arith) ∙ rw take-length (r .faultless);
-            derived = rw take-length (r .derived);
-            within = omega (arith, r .deep, n, a .within);
+            list = record { derived = rw take-length (r .derived); within = omega (arith, r .deep, n, a .list .within) };
           };
       same = r .means;
       text = ap (λ m. addressesText m []) (r .means);
@@ -76,16 +75,16 @@ pub only-round-trip : {message : List ℕ} {start end : ℕ} {k again : Derivati
     → AcceptedBody (plainText k) 0 (length (plainText k)) again → SameAddresses again k × (plainText again ≡ plainText k)
 only-round-trip a h b =
     let r = round-trip a h in
-    let e = one-derivation (b .derived) (r .accepted .derived) in
+    let e = one-derivation (b .list .derived) (r .accepted .list .derived) in
     (ap meaning e ∙ r .same, ap plainText e ∙ r .text)
 
 -- the reader's verdict on an accepted body is its derivation
 pub verdict : {message : List ℕ} {start end : ℕ} {k : Derivation} → AcceptedBody message start end k → answer levelLimit (symbolsOf (scan (take end message) start)) ≡ accepted k
-verdict a = answer-accepts levelLimit (a .derived) (a .within)
+verdict a = answer-accepts levelLimit (a .list .derived) (a .list .within)
 
 -- what the walk writes of an accepted body is its plain text
 pub written-accepted : {message : List ℕ} {start end : ℕ} {k : Derivation} → AcceptedBody message start end k → writtenText classTable (take end message) start ≡ plainText k
-written-accepted a = walk-plain (a .derived)
+written-accepted a = walk-plain (a .list .derived)
 
 -- two accepted bodies have the same plain text exactly if they have the same addresses
 pub same-text : {message other : List ℕ} {start end start′ end′ : ℕ} {k k′ : Derivation} → AcceptedBody message start end k → AcceptedBody other start′ end′ k′
@@ -94,7 +93,7 @@ same-text {message} {other} {start} {end} {start′} {end′} {k} {k′} a b = (
   where
     there : plainText k ≡ plainText k′ → SameAddresses k k′
     there e =
-        let r = reread (take end message) start (a .derived) .0 in
-        let r′ = reread (take end′ other) start′ (b .derived) .0 in
+        let r = reread (take end message) start (a .list .derived) .0 in
+        let r′ = reread (take end′ other) start′ (b .list .derived) .0 in
         let d : DerivedList (r′ .again) (symbolsOf (scan (plainText k) 0)) = rw e (r′ .derived) in
         sym (r .means) ∙ ap meaning (one-derivation (r .derived) d) ∙ r′ .means

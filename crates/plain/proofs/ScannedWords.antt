@@ -13,8 +13,7 @@ use Rattle.octets.specs.Believed.Choice.{pick}
 use Rattle.octets.specs.Believed.Classes.{classOf, classTable, letter, white}
 use Rattle.octets.specs.Believed.Classes as classes
 use Rattle.octets.specs.Believed.Letters.{sameLetters}
-use Rattle.octets.specs.Believed.Octets.{lineFeedByte, returnByte}
-use Rattle.octets.specs.Believed.Text.{bytes}
+use Rattle.octets.specs.Believed.Text.{bytes, crlfAt}
 use Rattle.octets.proofs.ChoiceLaws.{both-parts, either-parts}
 use Rattle.scanner.specs.Believed.Kinds.{kindOfClass, kindOf, characterKind}
 use Rattle.scanner.specs.Believed.Characters.{Character, character, foldAt, InFold, lineFeed, charactersFrom, charactersAt}
@@ -81,7 +80,7 @@ Folding characters.white l = classes.isWhite (getD l 0 0) ≡ true
 -- a byte that may start a fold
 known-next : (x : Bool) (b : ℕ) (r : List ℕ) (p : ℕ) → foldAt (b ∷ r) 0 ≡ x → (Folding lineFeed r → KnownAll (charactersFrom lineFeed r (p + 1))) → KnownAll (charactersFrom characters.none r (p + 1))
     → KnownAll (elim x [ true ↦ charactersFrom lineFeed r (p + 1) | false ↦ character b p false ∷ charactersFrom characters.none r (p + 1) ])
-known-next true b r p e f g = f (both-parts (eqb (getD r 0 0) lineFeedByte) _ (both-parts (eqb b returnByte) _ e .1) .1)
+known-next true b r p e f g = f (both-parts (crlfAt (b ∷ r) 0) _ e .1)
 known-next false b r p e f g = (record { view = byte-view b; plain = λ q. q; data-is = λ q. datum b q }, g)
 
 known : (fold : InFold) (l : List ℕ) (p : ℕ) → Folding fold l → KnownAll (charactersFrom fold l p)

@@ -89,13 +89,8 @@ fn put_part(text: &[u8], start: usize, end: usize, out: &mut [u8], n: usize) -> 
     requires { ⌜ (start ≤ end) × (end ≤ length (now text)) × (n + (end - start) ≤ countLimit) ⌝ }
     ensures { λ r. ⌜ Wrote (λ rest. part (now (text .entry)) start end ++ rest) (now (out .entry)) n (now (out .exit)) r × (r ≡ n + (end - start)) ⌝ }
 {
-    let mut i = start;
-    let mut m = n;
-    while i < end {
-        m = put(out, m, text[i]);
-        i += 1;
-    }
-    m
+    octets::writing::store_bytes(out, n, &text[start..end]);
+    n + (end - start)
 }
 
 // The data of a quoted-string from a position inside it on.

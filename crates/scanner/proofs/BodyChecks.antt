@@ -18,7 +18,7 @@ use Rattle.octets.specs.declared.answers.Answer.the-variants.{Accepted, Refused
 use Rattle.octets.proofs.answers.Answer.{the-type}
 use Rattle.octets.proofs.ChoiceLaws.{either-true}
 use Rattle.scanner.specs.Believed.Scanning.{Scanned, ended, next, faultAt, scanBy, scan}
-use Rattle.scanner.specs.Believed.Answers.{bodyChecked, unlessFault, faultOf, bodyScanned}
+use Rattle.scanner.specs.Believed.Answers.{bodyChecked, unlessFault, faultOf, scannedBy, bodyScanned}
 
 module _ {A : Type 0} (refused : ℕ → ℕ → A) (message : List ℕ) (start end : ℕ) (otherwise : A) where
   pub too-long : messageLimit < length message → bodyChecked refused message start end otherwise ≡ refused messageTooLong messageLimit
@@ -50,6 +50,11 @@ module _ {A : Type 0} (refused : ℕ → ℕ → A) where
   unless-none (next x rest) otherwise e = unless-none rest otherwise e
   unless-none (faultAt n p) otherwise e = absurd (let z : _≡_ {A = ℕ} 0 1 = cc in omega arith)
 
+-- where there is no fault, none is scanned
+pub no-fault : (s : Scanned) {number p : ℕ} → faultOf s ≡ Accepted 0 → s ≡ faultAt number p → ⊥
+unfolding unlessFault
+no-fault s {number} {p} h e = let f : Refused number p ≡ Accepted 0 = rw e at h in let z : _≡_ {A = ℕ} 0 1 = cc in omega arith
+
 -- any but Refused
 abbrev pub NotRefused : Answer → Type 0
 NotRefused r = OneOf (0 ∷ 2 ∷ []) (tagOf the-type r)
@@ -64,11 +69,55 @@ fault-or-none ended r e o = refl
 fault-or-none (next x rest) r e o = fault-or-none rest r e o
 fault-or-none (faultAt n p) r e o = absurd (not-refused o e)
 
--- ---- a body, scanned by any classes
+-- ---- a body within its message, and that within its limit
 
--- the answer of scanning it
-abbrev pub scannedBy : List ℕ → List ℕ → ℕ → ℕ → Answer
-scannedBy classes message start end = bodyChecked Refused message start end (faultOf (scanBy classes (take end message) start))
+pub record Ordered (message : List ℕ) (start end : ℕ) : Type 0 where
+  pub short : length message ≤ messageLimit
+  pub ordered : start ≤ end
+  pub inside : end ≤ length message
+
+-- the checks refuse a body, or it is one
+pub data CheckCase (message : List ℕ) (start end : ℕ) : Type 0 where
+  unfit : (number p : ℕ) → Refused number p ≡ bodyChecked Refused message start end (Accepted 0) → CheckCase message start end
+  fit : Ordered message start end → CheckCase message start end
+
+module _ (message : List ℕ) (start end : ℕ) where
+  check-case : CheckCase message start end
+  check-case =
+      elim (decLt messageLimit (length message)) [
+        | yes h ↦ unfit messageTooLong messageLimit (sym (too-long Refused message start end (Accepted 0) h))
+        | no h ↦ elim (decLt end start) [
+          | yes k ↦ unfit bodyOutOfOrder 0 (sym (out-of-order Refused message start end (Accepted 0) (omega arith) k))
+          | no k ↦ elim (decLt (length message) end) [
+            | yes l ↦ unfit bodyOutOfOrder 0 (sym (past-the-end Refused message start end (Accepted 0) (omega arith) l))
+            | no l ↦ fit (record { short = omega arith; ordered = omega arith; inside = omega arith })
+          ]
+        ]
+      ]
+
+  -- what `check_body` does not refuse
+  pub passed : (r : Answer) → r ≡ bodyChecked Refused message start end (Accepted 0) → NotRefused r → Ordered message start end
+  passed r e o = elim check-case [ unfit number p f ↦ absurd (not-refused o (e ∙ sym f)) | fit x ↦ x ]
+
+  module _ {A : Type 0} (refused : ℕ → ℕ → A) (otherwise : A) where
+    pub in-its-order : Ordered message start end → bodyChecked refused message start end otherwise ≡ otherwise
+    in-its-order x = in-order refused message start end otherwise (x .short) (x .ordered) (x .inside)
+
+    by-tests : (a b : Bool) {number p : ℕ} (s : Scanned) → Refused number p ≡ pick a (Refused messageTooLong messageLimit) (pick b (Refused bodyOutOfOrder 0) (faultOf s))
+        → pick a (refused messageTooLong messageLimit) (pick b (refused bodyOutOfOrder 0) (unlessFault refused s otherwise)) ≡ refused number p
+    by-tests true b {number} {p} s e = let i : number ≡ messageTooLong = cc in let j : p ≡ messageLimit = cc in rw (i, j)
+    by-tests false true {number} {p} s e = let i : number ≡ bodyOutOfOrder = cc in let j : p ≡ 0 = cc in rw (i, j)
+    by-tests false false s e = unless-refused refused s otherwise e
+
+    by-checks : {number p : ℕ} (s : Scanned) → Refused number p ≡ bodyChecked Refused message start end (faultOf s) → bodyChecked refused message start end (unlessFault refused s otherwise) ≡ refused number p
+    by-checks s e = by-tests (ltb messageLimit (length message)) (either (ltb end start) (ltb (length message) end)) s e
+
+    -- what it refuses is refused so, whatever is answered of others
+    pub not-passed : {number p : ℕ} → Refused number p ≡ bodyChecked Refused message start end (Accepted 0) → bodyChecked refused message start end otherwise ≡ refused number p
+    unfolding unlessFault
+    not-passed e = by-checks ended e
+
+-- ---- a body, scanned by any classes
 
 -- it passes the checks and has no fault
 pub record CleanBy (classes message : List ℕ) (start end : ℕ) : Type 0 where
@@ -76,6 +125,11 @@ pub record CleanBy (classes message : List ℕ) (start end : ℕ) : Type 0 where
   pub ordered : start ≤ end
   pub inside : end ≤ length message
   pub faultless : faultOf (scanBy classes (take end message) start) ≡ Accepted 0
+
+-- a body is refused, or clean
+pub data BodyCaseBy (classes message : List ℕ) (start end : ℕ) : Type 0 where
+  refused-body : (number p : ℕ) → Refused number p ≡ scannedBy classes message start end → BodyCaseBy classes message start end
+  clean-body : CleanBy classes message start end → BodyCaseBy classes message start end
 
 -- a scan has a first fault or none
 data FaultCase (r : Answer) : Type 0 where
@@ -88,39 +142,30 @@ fault-case ended = faultless refl
 fault-case (next x rest) = fault-case rest
 fault-case (faultAt number p) = faulty number p refl
 
--- a body is refused, or clean
-pub data BodyCaseBy (classes message : List ℕ) (start end : ℕ) : Type 0 where
-  refused-body : (number p : ℕ) → Refused number p ≡ scannedBy classes message start end → BodyCaseBy classes message start end
-  clean-body : CleanBy classes message start end → BodyCaseBy classes message start end
-
 module _ (classes message : List ℕ) (start end : ℕ) where
   pub body-case-by : BodyCaseBy classes message start end
   body-case-by =
-      elim (decLt messageLimit (length message)) [
-        | yes h ↦ refused-body messageTooLong messageLimit (sym (too-long Refused message start end _ h))
-        | no h ↦ elim (decLt end start) [
-          | yes k ↦ refused-body bodyOutOfOrder 0 (sym (out-of-order Refused message start end _ (omega arith) k))
-          | no k ↦ elim (decLt (length message) end) [
-            | yes l ↦ refused-body bodyOutOfOrder 0 (sym (past-the-end Refused message start end _ (omega arith) l))
-            | no l ↦ elim (fault-case (scanBy classes (take end message) start)) [
-              | faulty number p e ↦ refused-body number p (e ∙ sym (in-order Refused message start end _ (omega arith) (omega arith) (omega arith)))
-              | faultless e ↦ clean-body (record { short = omega arith; ordered = omega arith; inside = omega arith; faultless = e })
-            ]
-          ]
+      elim (check-case message start end) [
+        | unfit number p f ↦ refused-body number p (sym (not-passed message start end Refused _ f))
+        | fit x ↦ elim (fault-case (scanBy classes (take end message) start)) [
+          | faulty number p e ↦ refused-body number p (e ∙ sym (in-its-order message start end Refused _ x))
+          | faultless e ↦ clean-body (record { short = x .short; ordered = x .ordered; inside = x .inside; faultless = e })
         ]
       ]
 
+  -- what `scan_by` does not refuse
+  pub clean-by : (r : Answer) → r ≡ scannedBy classes message start end → NotRefused r → CleanBy classes message start end
+  clean-by r e o = elim body-case-by [ refused-body number p f ↦ absurd (not-refused o (e ∙ sym f)) | clean-body x ↦ x ]
+
   module _ {A : Type 0} (refused : ℕ → ℕ → A) (otherwise : A) where
-    by-tests : (a b : Bool) {number p : ℕ} (s : Scanned) → Refused number p ≡ pick a (Refused messageTooLong messageLimit) (pick b (Refused bodyOutOfOrder 0) (faultOf s))
-        → pick a (refused messageTooLong messageLimit) (pick b (refused bodyOutOfOrder 0) (unlessFault refused s otherwise)) ≡ refused number p
-    by-tests true b {number} {p} s e = let i : number ≡ messageTooLong = cc in let j : p ≡ messageLimit = cc in rw (i, j)
-    by-tests false true {number} {p} s e = let i : number ≡ bodyOutOfOrder = cc in let j : p ≡ 0 = cc in rw (i, j)
-    by-tests false false s e = unless-refused refused s otherwise e
+    -- .. so something else is answered
+    pub when-clean-by : CleanBy classes message start end → bodyChecked refused message start end (unlessFault refused (scanBy classes (take end message) start) otherwise) ≡ otherwise
+    when-clean-by x = in-order refused message start end _ (x .short) (x .ordered) (x .inside) ∙ unless-none refused (scanBy classes (take end message) start) otherwise (x .faultless)
 
     -- a refused one is so with the same number and position, whatever is answered of others
     pub when-refused-by : {number p : ℕ} → Refused number p ≡ scannedBy classes message start end
         → bodyChecked refused message start end (unlessFault refused (scanBy classes (take end message) start) otherwise) ≡ refused number p
-    when-refused-by e = by-tests (ltb messageLimit (length message)) (either (ltb end start) (ltb (length message) end)) (scanBy classes (take end message) start) e
+    when-refused-by e = by-checks message start end refused otherwise (scanBy classes (take end message) start) e
 
 -- ---- a body that `scan_body` has looked at
 
@@ -133,12 +178,12 @@ module _ (message : List ℕ) (start end : ℕ) where
 
   -- it is not refused ..
   pub clean : (r : Answer) → r ≡ bodyScanned message start end → NotRefused r → Clean message start end
-  clean r e o = elim body-case [ refused-body number p f ↦ absurd (not-refused o (e ∙ sym f)) | clean-body x ↦ x ]
+  clean r e o = clean-by classTable message start end r e o
 
   module _ {A : Type 0} (refused : ℕ → ℕ → A) (otherwise : A) where
     -- .. so something else is answered
     pub when-clean : Clean message start end → bodyChecked refused message start end (unlessFault refused (scan (take end message) start) otherwise) ≡ otherwise
-    when-clean x = in-order refused message start end _ (x .short) (x .ordered) (x .inside) ∙ unless-none refused (scan (take end message) start) otherwise (x .faultless)
+    when-clean x = when-clean-by classTable message start end refused otherwise x
 
     -- it is refused, and so with the same number and position
     pub when-refused : {number p : ℕ} → Refused number p ≡ bodyScanned message start end → bodyChecked refused message start end (unlessFault refused (scan (take end message) start) otherwise) ≡ refused number p

@@ -201,11 +201,6 @@ comment-told Outside kind o start = absurd (miss (1 ∷ 2 ∷ []) 0 tt o)
 comment-told (Comment depth) kind o start = refl
 comment-told (Taking depth) kind o start = refl
 
--- where there is no fault, none is scanned
-pub no-fault : (s : Scanned) {number p : ℕ} → faultOf s ≡ Accepted 0 → s ≡ faultAt number p → ⊥
-unfolding unlessFault
-no-fault s {number} {p} h e = let f : Refused number p ≡ Accepted 0 = rw e at h in let z : _≡_ {A = ℕ} 0 1 = cc in omega arith
-
 -- ---- in a text
 
 -- no symbol is left

@@ -12,10 +12,10 @@ use borrow.Author.Tests.{eq-eqb, ne-eqb, eqb-true}
 use lib.Dec.{eqb}
 use lib.ListN.{length, drop, getD, drop-of-length-le, List·getD-eq-default}
 use lib.Seq.{getD-drop}
-use Rattle.octets.specs.Believed.Choice.{both}
 use Rattle.octets.specs.Believed.Classes.{isWhite}
-use Rattle.octets.specs.Believed.Octets.{lineFeedByte, returnByte}
-use Rattle.octets.proofs.ChoiceLaws.{both-parts, either-parts}
+use Rattle.octets.specs.Believed.Octets.{returnByte}
+use Rattle.octets.specs.Believed.Text.{crlfAt}
+use Rattle.octets.proofs.ChoiceLaws.{both-false, both-parts, either-parts}
 use Rattle.octets.proofs.Parts.{from-here}
 use Rattle.scanner.specs.Believed.Kinds.{kindOf, kindOfClass}
 use Rattle.scanner.specs.Believed.Characters.{character, foldAt, none, charactersFrom, charactersAt}
@@ -51,9 +51,8 @@ fold-here a b c rest p h = rw (h, charactersFrom)
 -- behind its CRLF stands SPACE or HTAB
 fold-white : (text : List ℕ) (i : ℕ) → foldAt text i ≡ true → (getD text (i + 2) 0 ≡ 32) ⊎ (getD text (i + 2) 0 ≡ 9)
 fold-white text i e =
-    let two = both-parts (eqb (getD text i 0) returnByte) _ e in
-    let three = both-parts (eqb (getD text (i + 1) 0) lineFeedByte) _ (two .1) in
-    ⊎-elim (λ z. inl (eqb-true _ _ z)) (λ z. inr (eqb-true _ _ z)) (either-parts (eqb (getD text (i + 2) 0) 32) (eqb (getD text (i + 2) 0) 9) (three .1))
+    let two = both-parts (crlfAt text i) _ e in
+    ⊎-elim (λ z. inl (eqb-true _ _ z)) (λ z. inr (eqb-true _ _ z)) (either-parts (eqb (getD text (i + 2) 0) 32) (eqb (getD text (i + 2) 0) 9) (two .1))
 
 in-range : (text : List ℕ) (i v : ℕ) → getD text i 0 ≡ suc v → i < length text
 in-range text i v e = elim (decLt i (length text)) [ yes h ↦ h | no h ↦ absurd (omega (arith, List·getD-eq-default {A = ℕ} text 0 {n = i} (omega arith))) ]
@@ -74,14 +73,9 @@ fold-at text at e =
     ∙ fold-here (getD text at 0) (getD text (at + 1) 0) (getD text (at + 2) 0) (drop (at + 3) text) at (rw d at (fold-drop text at ∙ e))
     ∙ rw (two, three)
 
-both-false : (x y : Bool) → both x (both y false) ≡ false
-both-false true true = refl
-both-false true false = refl
-both-false false y = refl
-
 -- there is no fold so near the end
 pub no-fold : (text : List ℕ) (i : ℕ) → length text ≤ i + 2 → foldAt text i ≡ false
-no-fold text i h = rw (List·getD-eq-default text 0 h) (both-false (eqb (getD text i 0) 13) (eqb (getD text (i + 1) 0) 10))
+no-fold text i h = rw (List·getD-eq-default text 0 h) (both-false (crlfAt text i))
 
 -- ---- what a test of the bytes at a position says of a fold there
 
@@ -93,11 +87,11 @@ return-kind classes b e = rw (eq-eqb b returnByte e)
 pub no-return : (text : List ℕ) (i : ℕ) → (getD text i 0 ≡ 13 → ⊥) → foldAt text i ≡ false
 no-return text i n = rw (ne-eqb (getD text i 0) 13 n)
 
-pub no-line-feed : (text : List ℕ) (i : ℕ) → getD text i 0 ≡ 13 → (getD text (i + 1) 0 ≡ 10 → ⊥) → foldAt text i ≡ false
-no-line-feed text i e n = rw (eq-eqb (getD text i 0) 13 e, ne-eqb (getD text (i + 1) 0) 10 n)
+pub no-crlf : (text : List ℕ) (i : ℕ) → crlfAt text i ≡ false → foldAt text i ≡ false
+no-crlf text i e = rw e
 
-pub line-end : (text : List ℕ) (i : ℕ) → getD text i 0 ≡ 13 → getD text (i + 1) 0 ≡ 10 → foldAt text i ≡ isWhite (getD text (i + 2) 0)
-line-end text i e n = rw (eq-eqb (getD text i 0) 13 e, eq-eqb (getD text (i + 1) 0) 10 n)
+pub line-end : (text : List ℕ) (i : ℕ) → crlfAt text i ≡ true → foldAt text i ≡ isWhite (getD text (i + 2) 0)
+line-end text i e = rw e
 
 -- ---- the first character
 

@@ -16,9 +16,9 @@ use Rattle.octets.specs.declared.answers.Answer.the-variants.{Accepted}
 use Rattle.scanner.specs.Believed.Characters.{charactersAt}
 use Rattle.scanner.specs.Believed.Scanning.{Scanned, ended, next, faultAt, State, outside, inComment, Move, go, halt, move, moveInComment, closed, symbolsOf, scanFrom, scanBy}
 use Rattle.scanner.specs.Believed.Scanning as scanning
-use Rattle.scanner.specs.Ties.Steps.{FirstCharacter}
+use Rattle.scanner.specs.Ties.Steps.{FirstCharacter, Faultless}
 use Rattle.scanner.specs.Believed.Categories.{ofSymbol, takenIn, behind, between, categoryOf, Told, InStray, here, further, ToldUnlessStray}
-use Rattle.scanner.specs.Ties.Gaps.{Faultless, stateOf}
+use Rattle.scanner.specs.Ties.Gaps.{stateOf}
 use Rattle.scanner.specs.declared.Class.{Class}
 use Rattle.scanner.specs.declared.Class.the-variants.{Atom, Quoted, At, LessThan, GreaterThan, Comma, Semicolon, Colon, Stray, Dot, Literal}
 use Rattle.scanner.specs.declared.Gap.{Gap}
@@ -29,9 +29,9 @@ use Rattle.scanner.specs.declared.Category.{Category}
 use Rattle.scanner.specs.declared.Category.the-variants as category
 use Rattle.scanner.proofs.CharacterLaws.{View, over, one, view, none-left}
 use Rattle.scanner.proofs.MoveLaws.{moves}
-use Rattle.scanner.proofs.Unfolding.{SymbolAt, Unfolded, no-symbol, a-symbol, a-fault, unfolded, OutsideIs, white-space, opens-comment, begins, faulty, outside-is, fault-on}
-use Rattle.scanner.proofs.BodyChecks.{Clean, clean}
-use Rattle.scanner.proofs.CategoryLaws.{moves-on, tells, no-fault, category-over, category-before, category-in, category-behind, category-inside}
+use Rattle.scanner.proofs.Unfolding.{SymbolAt, Unfolded, no-symbol, a-symbol, a-fault, unfolded, OutsideIs, white-space, opens-comment, begins, faulty, outside-is, faultless-on}
+use Rattle.scanner.proofs.BodyChecks.{no-fault, Clean, clean}
+use Rattle.scanner.proofs.CategoryLaws.{moves-on, tells, category-over, category-before, category-in, category-behind, category-inside}
 
 -- ---- in a symbol
 
@@ -175,10 +175,10 @@ module _ (classes text : List ℕ) (place : ℕ) where
         | no l ↦ elim (decLt place end) [
           | yes m ↦ rw (category-in x place (omega arith) m) (symbol-told class (part text start end) (in-symbol x n (omega arith) m))
           | no m ↦ rw (category-behind x place (omega arith))
-              (f end (omega (arith, x .from, x .starts)) (omega arith) (sym (fault-on classes text x) ∙ c) (behind-symbol x n))
+              (f end (omega (arith, x .from, x .starts)) (omega arith) (faultless-on classes text c x) (behind-symbol x n))
         ]
       ]
-  by-symbol at (a-fault e) h k c n f = absurd (no-fault _ c e)
+  by-symbol at (a-fault e) h k c n f = absurd (no-fault _ (c .none) e)
 
   run : (n at : ℕ) → place ≤ at + n → at ≤ place → place < length text → Faultless classes text at → Apart at → ToldIn at
   run zero at m h k c o = by-symbol at (unfolded classes text at) h k c o (λ q a b. absurd (omega arith))
@@ -190,4 +190,4 @@ pub told-unless-stray : (message : List ℕ) (start end : ℕ) → ToldUnlessStr
 told-unless-stray message start end e place h k n =
     let x : Clean message start end = clean message start end (Accepted 0) (sym e) (hit (0 ∷ 2 ∷ []) 0 tt) in
     rw (category-inside message start end place x h k)
-    (run classTable (take end message) place place start (omega arith) h (omega (arith, length-take-le end message (x .inside))) (x .faultless) n)
+    (run classTable (take end message) place place start (omega arith) h (omega (arith, length-take-le end message (x .inside))) (record { none = x .faultless }) n)

@@ -18,7 +18,7 @@ use Rattle.scanner.specs.Believed.Kinds.{kindOfClass, kindOf, characterK
 use Rattle.scanner.specs.Believed.Characters.{charactersAt}
 use Rattle.scanner.specs.Believed.Scanning.{ended, next, faultAt, outside, inQuoted, takingInQuoted, inLiteral, takingInLiteral, inComment, takingInComment, go, halt, symbol, atomClass, scanFrom, scanBy}
 use Rattle.scanner.specs.Believed.Answers.{nextOf, unlessFault, faultOf}
-use Rattle.scanner.specs.Ties.Steps.{FirstCharacter, AtomEnds, CommentEnds}
+use Rattle.scanner.specs.Ties.Steps.{FirstCharacter, AtomEnds, CommentEnds, Faultless}
 use Rattle.scanner.specs.declared.Class.{Class}
 use Rattle.scanner.specs.declared.Class.the-variants.{Atom, Quoted, At, LessThan, GreaterThan, Comma, Semicolon, Colon, Stray, Dot, Literal}
 use Rattle.scanner.specs.declared.Next.the-variants.{Found, Ended, Fault}
@@ -492,3 +492,6 @@ module _ (classes text : List ℕ) where
   pub fault-on : {at : ℕ} {class : Class} {start end : ℕ} → SymbolAt classes text at class start end → faultOf (scanBy classes text at) ≡ faultOf (scanBy classes text end)
   unfolding unlessFault
   fault-on x = rw (x .same)
+
+  pub faultless-on : {at : ℕ} {class : Class} {start end : ℕ} → Faultless classes text at → SymbolAt classes text at class start end → Faultless classes text end
+  faultless-on f x = record { none = sym (fault-on x) ∙ f .none }

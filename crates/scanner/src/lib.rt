@@ -9,11 +9,12 @@ ghost use Rattle.scanner.specs.Believed.Kinds.{kindOf};
 ghost use Rattle.scanner.specs.Believed.Characters.{foldAt, charactersAt};
 ghost use Rattle.scanner.specs.Believed.Scanning.{outside, inQuoted, inLiteral, atomClass, scanFrom, scanBy};
 ghost use Rattle.octets.specs.Believed.Answers.{told};
-ghost use Rattle.scanner.specs.Believed.Answers.{nextOf, nextTold, nextInBody, faultOf, bodyScanned};
+ghost use Rattle.octets.specs.declared.answers.Answer.the-variants.{Accepted, Refused};
+ghost use Rattle.scanner.specs.Believed.Answers.{bodyChecked, nextOf, nextTold, nextInBody, faultOf, scannedBy, bodyScanned};
 ghost use Rattle.scanner.specs.Believed.Categories.{ofSymbol, between, categoryOf, categoryAt};
-ghost use Rattle.scanner.specs.Ties.Steps.{StepIs, AtomEnds, CommentIs, FaultsFrom};
+ghost use Rattle.scanner.specs.Ties.Steps.{StepIs, AtomEnds, CommentIs, Faultless, FaultsFrom};
 ghost use Rattle.scanner.specs.Ties.Meanings.{datumAt};
-ghost use Rattle.scanner.specs.Ties.Gaps.{gapDepth, GapCategoryIs, PassedIs, PassedLow, Faultless};
+ghost use Rattle.scanner.specs.Ties.Gaps.{gapDepth, GapCategoryIs, PassedIs, PassedLow};
 ghost use Rattle.scanner.specs.declared.Gap.the-variants.{Comment as commentGap};
 ghost use Rattle.octets.specs.Believed.Text.{part};
 ghost use Rattle.octets.specs.Ties.Writing.{countLimit};
@@ -141,17 +142,13 @@ fn folds(text: &[u8], at: usize) -> bool
     requires { ⌜ at < length (now text) ⌝ }
     ensures { λ r. ⌜ r ≡ foldAt (now (text .entry)) at ⌝ }
 {
-    if text[at] != b'\r' {
-        return false;
+    if octets::lines::is_crlf(text, at) {
+        if text.len() - at < 3 {
+            return false;
+        }
+        return octets::lines::is_white(text[at + 2]);
     }
-    if text.len() - at < 3 {
-        return false;
-    }
-    if text[at + 1] != b'\n' {
-        return false;
-    }
-    let white = text[at + 2];
-    if white == b' ' { true } else { white == b'\t' }
+    false
 }
 
 // The first character at or after a position, folds dropped.
@@ -349,18 +346,28 @@ pub fn next_by(classes: &[u8; 256], text: &[u8], at: usize) -> Next
     }
 }
 
+// The checks before a body is looked at: number 1, then 13.
+pub fn check_body(message: &[u8], start: usize, end: usize) -> Answer
+    ensures { λ r. ⌜ r ≡ bodyChecked Refused (now (message .entry)) start end (Accepted 0) ⌝ }
+{
+    if MESSAGE_LIMIT < message.len() {
+        return Answer::Refused(MESSAGE_TOO_LONG, MESSAGE_LIMIT);
+    }
+    if end < start {
+        return Answer::Refused(BODY_OUT_OF_ORDER, 0);
+    }
+    if message.len() < end {
+        return Answer::Refused(BODY_OUT_OF_ORDER, 0);
+    }
+    Answer::Accepted(0)
+}
+
 // The next symbol at or after a position of a message's body that ends at end.
 pub fn next_symbol(message: &[u8], at: usize, end: usize) -> Next
     ensures outcome { λ r. ⌜ (nextTold r ≡ nextTold (nextInBody (now (message .entry)) at end)) × (r ≡ nextInBody (now (message .entry)) at end) ⌝ }
 {
-    if MESSAGE_LIMIT < message.len() {
-        return Next::Fault(MESSAGE_TOO_LONG, MESSAGE_LIMIT);
-    }
-    if end < at {
-        return Next::Fault(BODY_OUT_OF_ORDER, 0);
-    }
-    if message.len() < end {
-        return Next::Fault(BODY_OUT_OF_ORDER, 0);
+    if let Answer::Refused(number, place) = check_body(message, at, end) {
+        return Next::Fault(number, place);
     }
     let classes = &CLASSES;
     next_by(classes, &message[..end], at)
@@ -395,21 +402,22 @@ pub fn fault_by(classes: &[u8; 256], text: &[u8], at: usize) -> Answer
     }
 }
 
+// Scan the body of a message from start up to end by a table of classes that is handed on: refused by the checks or the first fault, or accepted.
+pub fn scan_by(classes: &[u8; 256], message: &[u8], start: usize, end: usize) -> Answer
+    ensures { λ r. ⌜ r ≡ scannedBy (now (classes .entry)) (now (message .entry)) start end ⌝ }
+{
+    if let Answer::Refused(number, place) = check_body(message, start, end) {
+        return Answer::Refused(number, place);
+    }
+    fault_by(classes, &message[..end], start)
+}
+
 // Scan the body of a message from start up to end: accepted, or the first fault.
 pub fn scan_body(message: &[u8], start: usize, end: usize) -> Answer
     ensures outcome { λ r. ⌜ (told r ≡ told (bodyScanned (now (message .entry)) start end)) × (r ≡ bodyScanned (now (message .entry)) start end) ⌝ }
 {
-    if MESSAGE_LIMIT < message.len() {
-        return Answer::Refused(MESSAGE_TOO_LONG, MESSAGE_LIMIT);
-    }
-    if end < start {
-        return Answer::Refused(BODY_OUT_OF_ORDER, 0);
-    }
-    if message.len() < end {
-        return Answer::Refused(BODY_OUT_OF_ORDER, 0);
-    }
     let classes = &CLASSES;
-    fault_by(classes, &message[..end], start)
+    scan_by(classes, message, start, end)
 }
 
 // What each byte of the symbol is that stands from start to end.

@@ -7,13 +7,12 @@ use Prim.Native.Nat.{ℕ, _+_, _*_, _-_, _≤_, _<_}
 use lib.ListN.{length}
 use lib.Seq.{sets}
 use Rattle.octets.specs.Believed.Numbers.{messageLimit, noListGoesOn, endsTooSoon, levelLimit}
-use Rattle.octets.specs.declared.answers.Answer.the-variants.{Accepted}
 use Rattle.records.specs.Believed.AddressRecords.{tableBytes, addressRecordSize}
 use Rattle.scanner.specs.Believed.Scanning.{scanBy, symbolsOf}
-use Rattle.scanner.specs.Believed.Answers.{faultOf}
 use Rattle.scanner.specs.declared.Next.{Next}
 use Rattle.scanner.specs.declared.Next.the-variants.{Found, Ended, Fault}
 use Rattle.scanner.specs.Ties.Meanings.{meaningAt}
+use Rattle.scanner.specs.Ties.Steps.{Faultless}
 use Rattle.grammar.specs.Believed.Language.{Refusal, refused, number, positionOf}
 use Rattle.grammar.specs.Believed.Rfc733.{sameClass}
 use Rattle.grammar.specs.Executable.Trees733.{Class, Atom, Quoted, At, LessThan, GreaterThan, Semicolon, Colon, Lexeme, Sym, of, oneOf, atomWord, quotedWord, Phrase, one, more, Nodes, empty, AddressList, idle, Address, angle, group}
@@ -106,15 +105,11 @@ module _ (classes text : List ℕ) where
   symbolsAhead Ended = []
   symbolsAhead (Fault number p) = []
 
-  -- no fault from a position on
-  pub record Faultless (at : ℕ) : Type 0 where
-    pub none : faultOf (scanBy classes text at) ≡ Accepted 0
-
   -- a symbol stands from a position to another, and there is no fault behind it
   pub record Standing (start end : ℕ) : Type 0 where
     pub starts : start < end
     pub within : end ≤ length text
-    pub faultless : Faultless end
+    pub faultless : Faultless classes text end
 
   abbrev pub Ahead : ℕ → Next → Type 0
   Ahead low (Found class start end) = (low ≤ start) × Standing start end
@@ -125,7 +120,7 @@ module _ (classes text : List ℕ) where
 
   pub record Reached (at : ℕ) : Type 0 where
     pub inside : at ≤ length text
-    pub faultless : Faultless at
+    pub faultless : Faultless classes text at
 
   pub record FirstWord (class : Class) (start end : ℕ) : Type 0 where
     pub word : isWord class ≡ true
@@ -185,7 +180,7 @@ module _ (classes text : List ℕ) where
     pub atom-starts : start < end
     pub end-before : end < behind
     pub within : behind ≤ length text
-    pub faultless : Faultless behind
+    pub faultless : Faultless classes text behind
 
   abbrev pub TypedAtomIs : ℕ → TypedAtom → Type 0
   TypedAtomIs at (Typed start end behind) = TypedFollows at start end behind
@@ -269,7 +264,7 @@ module _ (classes text : List ℕ) where
 
   pub record Entered (at : ℕ) (frame : Frame) : Type 0 where
     pub inside : at ≤ length text
-    pub faultless : Faultless at
+    pub faultless : Faultless classes text at
     pub ready : Ready frame at
 
   -- ---- the functions of the cycle

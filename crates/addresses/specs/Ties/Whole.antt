@@ -8,16 +8,15 @@ use lib.Seq.{sets}
 use Rattle.octets.specs.Believed.Numbers.{messageLimit}
 use Rattle.octets.specs.declared.answers.Answer.{Answer}
 use Rattle.records.specs.Believed.AddressRecords.{tableBytes}
-use Rattle.scanner.specs.Believed.Scanning.{scanBy}
-use Rattle.scanner.specs.Believed.Answers.{unlessFault}
 use Rattle.scanner.specs.Believed.Symbols.{Symbol}
+use Rattle.scanner.specs.Ties.Steps.{Faultless}
 use Rattle.scanner.specs.declared.Class.{Class}
 use Rattle.grammar.specs.Believed.Grammar.{Row}
 use Rattle.grammar.specs.Believed.Language.{Refusal, Verdict, accepted, refused, number, positionOf}
 use Rattle.grammar.specs.Believed.Records.{count, records}
 use Rattle.grammar.specs.Executable.Machine733.{answer}
-use Rattle.addresses.specs.Believed.Outcome.{refusal, byVerdict, decided}
-use Rattle.addresses.specs.Ties.Steps.{symbolsFrom, Faultless}
+use Rattle.addresses.specs.Believed.Outcome.{byVerdict, decided}
+use Rattle.addresses.specs.Ties.Steps.{symbolsFrom}
 use Rattle.grammar.specs.declared.Whole.{Whole}
 use Rattle.grammar.specs.declared.Whole.the-variants.{Listed, Refused}
 
@@ -53,8 +52,3 @@ module _ {N : Type 0} (verdict : List (Symbol Class) → Verdict Class (Row Clas
   pub record TwiceIs (at : ℕ) (table after : List ℕ) (r : Answer) : Type 0 where
     pub answer-is : r ≡ decided (length text) table (verdict (symbolsFrom classes text at)) .answer
     pub table-is : after ≡ decided (length text) table (verdict (symbolsFrom classes text at)) .table
-
-  -- .. unless there is a fault
-  pub record TextIs (at : ℕ) (table after : List ℕ) (r : Answer) : Type 0 where
-    pub answer-is : r ≡ unlessFault (refusal table) (scanBy classes text at) (decided (length text) table (verdict (symbolsFrom classes text at))) .answer
-    pub table-is : after ≡ unlessFault (refusal table) (scanBy classes text at) (decided (length text) table (verdict (symbolsFrom classes text at))) .table

@@ -1,9 +1,9 @@
 -- `engine::expected` meets its contract. Assumes nothing.
 use mathlib.Core.Path.{refl, sym, _∙_}
-use native.Mathlib.Omega.{arith}
 use lib.Seq.{length-take-le}
 use Rattle.octets.specs.Believed.Classes.{classOf, classTable}
 use Rattle.scanner.proofs.BodyChecks.{Clean, clean, when-clean, when-refused}
+use Rattle.addresses.proofs.AnyEdition.{clean-text}
 use Rattle.engine.specs.Ties.Actions.{actionTable}
 use borrow.Author.Needs.{needs}
 use Rattle.engine.proofs.expected.Statement.{statement}
@@ -29,11 +29,7 @@ slice-aggregate-expected-at-stop c = sym (length-take-le _ (c .before .before .b
 
 expected-at-stop-requires : tie.Need-expected-at-stop-requires
 unfolding actionTable classTable classOf
-expected-at-stop-requires c κs =
-    let a = c .before .before .before .before .before .before .args in
-    let x = checked (c .before .before .before) in
-    let n = length-take-le (a .end) (a .message .now) (x .inside) in
-    (record { inside = omega (arith, n, x .ordered); short = omega (arith, n, x .inside, x .short); faultless = record { none = x .faultless } }, refl)
+expected-at-stop-requires c κs = (clean-text (checked (c .before .before .before)), refl)
 
 returns-2 : tie.Need-returns-2
 unfolding classTable classOf

@@ -1,47 +1,54 @@
--- `engine::read_addresses` meets its contract: number 1, then number 13, then what the text holds; and condition 3. Assumes nothing.
+-- `engine::read_addresses` meets its contract: the checks and the first fault, then what the text holds; and condition 3. Assumes nothing.
 use mathlib.Core.Path.{refl, sym}
-use native.Mathlib.Omega.{arith}
 use lib.Seq.{length-take-le}
 use Rattle.octets.specs.Believed.Classes.{classOf, classTable}
-use Rattle.scanner.proofs.BodyChecks.{too-long, out-of-order, past-the-end}
-use Rattle.addresses.specs.Believed.Outcome.{refusal}
-use Rattle.addresses.proofs.WholeLaws.{promised, text-promised}
+use Rattle.scanner.proofs.BodyChecks.{Clean, clean}
+use Rattle.addresses.proofs.AnyEdition.{clean-text}
+use Rattle.addresses.proofs.WholeLaws.{refused-promised, twice-promised}
 use Rattle.engine.specs.Ties.Actions.{actionTable}
 use borrow.Author.Needs.{needs}
 use Rattle.engine.proofs.read_addresses.Statement.{statement}
 use Rattle.engine.proofs.read_addresses.Tie as tie
 
+-- the body is in order and has no fault
+checked : (c : tie.At-match-keys2) → (let a = c .before .before .before .before .args in Clean (a .message .now) (a .start) (a .end))
+checked c = let a = c .before .before .before .before .args in clean (a .message .now) (a .start) (a .end) (c .before .scan-body .result) (c .before .scan-body .ensures .1) (c .match .keys2)
+
+scan-body-requires : tie.Need-scan-body-requires
+scan-body-requires c κs = search needs
+
+enum-known-number : tie.Need-enum-known-number
+enum-known-number c = search needs
+
 returns : tie.Need-returns
-returns c = promised (c .before .before .before .args .message .now) (c .before .before .before .args .start) (c .before .before .before .args .end) (c .before .before .before .args .table .now) _ (too-long (refusal (c .before .before .before .args .table .now)) (c .before .before .before .args .message .now) (c .before .before .before .args .start) (c .before .before .before .args .end) _ (omega arith))
+returns c =
+    let a = c .before .before .before .before .before .before .args in
+    refused-promised (a .message .now) (a .start) (a .end) (a .table .now) (rw (c .before .number .given .1) at (c .before .before .before .scan-body .ensures .1))
 
-returns-2 : tie.Need-returns-2
-returns-2 c = promised (c .before .before .before .before .args .message .now) (c .before .before .before .before .args .start) (c .before .before .before .before .args .end) (c .before .before .before .before .args .table .now) _ (out-of-order (refusal (c .before .before .before .before .args .table .now)) (c .before .before .before .before .args .message .now) (c .before .before .before .before .args .start) (c .before .before .before .before .args .end) _ (omega arith) (omega arith))
+slice-aggregate-read-twice : tie.Need-slice-aggregate-read-twice
+slice-aggregate-read-twice c = sym (length-take-le _ (c .before .before .before .before .before .before .before .args .message .now) (checked (c .before .before .before) .inside))
 
-returns-3 : tie.Need-returns-3
-returns-3 c = promised (c .before .before .before .before .before .args .message .now) (c .before .before .before .before .before .args .start) (c .before .before .before .before .before .args .end) (c .before .before .before .before .before .args .table .now) _ (past-the-end (refusal (c .before .before .before .before .before .args .table .now)) (c .before .before .before .before .before .args .message .now) (c .before .before .before .before .before .args .start) (c .before .before .before .before .before .args .end) _ (omega arith) (omega arith))
-
-slice-aggregate-read-text : tie.Need-slice-aggregate-read-text
-slice-aggregate-read-text c = sym (length-take-le _ (c .before .before .before .before .before .before .before .before .args .message .now) (omega arith))
-
-read-text-requires : tie.Need-read-text-requires
-unfolding actionTable
-read-text-requires c κs = let n = length-take-le (c .before .before .before .before .before .before .before .before .before .args .end) (c .before .before .before .before .before .before .before .before .before .args .message .now) (omega arith) in (omega (arith, n), omega (arith, n), refl)
+read-twice-requires : tie.Need-read-twice-requires
+unfolding actionTable classTable classOf
+read-twice-requires c κs = (clean-text (checked (c .before .before .before .before)), refl)
 
 same-length : tie.Need-same-length
 same-length c = search needs
 
-returns-4 : tie.Need-returns-4
+returns-2 : tie.Need-returns-2
 unfolding classTable classOf
-returns-4 c = text-promised (c .before .before .before .before .before .before .before .before .before .before .before .before .args .message .now) (c .before .before .before .before .before .before .before .before .before .before .before .before .args .start) (c .before .before .before .before .before .before .before .before .before .before .before .before .args .end) (c .before .before .before .before .before .before .before .before .before .before .before .before .args .table .now) _ _ (omega arith) (omega arith) (omega arith) (c .before .before .read-text .ensures)
+returns-2 c =
+    let a = c .before .before .before .before .before .before .before .before .before .before .before .args in
+    twice-promised (a .message .now) (a .start) (a .end) (a .table .now) _ _ (checked (c .before .before .before .before .before .before .before)) (c .before .before .read-twice .ensures)
 
 pub read-addresses-spec : {M : Type 1} → statement M
 read-addresses-spec =
     tie.close
     (tie.spec
+    scan-body-requires
+    enum-known-number
     returns
-    returns-2
-    returns-3
-    slice-aggregate-read-text
-    read-text-requires
+    slice-aggregate-read-twice
+    read-twice-requires
     same-length
-    returns-4)
+    returns-2)

@@ -34,20 +34,20 @@ returns c =
     let r = c .before .before .loop .inv .0 in
     reading-ends r (reading-next r (c .before .next-by .ensures) .same ∙ none-left (a .classes .now) (a .text .now) (c .before .next-by .result) (c .match .keys2))
 
-column-of-requires : tie.Need-column-of-requires Inv-loop μ-loop
-column-of-requires c κs = search needs
+class-number-requires : tie.Need-class-number-requires Inv-loop μ-loop
+class-number-requires c κs = search needs
 
 action-at-requires : tie.Need-action-at-requires Inv-loop μ-loop
-action-at-requires c κs = (mode-low (c .before .before .before .before .before .loop .inv .0 .stands), omega (arith, c .column-of .ensures, class-small (c .before .before .class .given .0 .0)))
+action-at-requires c κs = (mode-low (c .before .before .before .before .before .loop .inv .0 .stands), omega (arith, c .class-number .ensures .0, class-small (c .before .before .class .given .0 .0)))
 
 turn-requires : tie.Need-turn-requires Inv-loop μ-loop
 turn-requires c κs =
-    let column = c .before .before .before .column-of in
+    let column = c .before .before .before .class-number in
     let found = c .before .before .before .before .before .class .given in
     let r = c .before .before .before .before .before .before .before .before .loop .inv .0 in
     let seen = rw (found .1) at (reading-next r (c .before .before .before .before .before .before .before .next-by .ensures)) in
     let pre = c .before .before .before .before .before .before .before .before .before .before .before .pre in
-    record { lent = _; state = r .state; symbol = _; turning = reading-turning r (column .result) seen (pre .1) (column .ensures) (c .before .before .action-at .ensures) }
+    record { lent = _; state = r .state; symbol = _; turning = reading-turning r (column .result) seen (pre .1) (column .ensures .0) (c .before .before .action-at .ensures) }
 
 enum-known-number : tie.Need-enum-known-number Inv-loop μ-loop
 enum-known-number c = search needs
@@ -58,11 +58,11 @@ same-length-2 c = search needs
 returns-2 : tie.Need-returns-2 Inv-loop μ-loop
 returns-2 c =
     let p = c .before .before .before .before .before in
-    let column = p .before .before .before .before .column-of in
+    let column = p .before .before .before .before .class-number in
     let q = p .before .before .before .before .before .before in
     let r = q .before .before .before .loop .inv .0 in
     let seen = rw (q .class .given .1) at (reading-next r (q .before .before .next-by .ensures)) in
-    let t = reading-turning r (column .result) seen (q .before .before .before .before .before .before .pre .1) (column .ensures) (p .before .before .before .action-at .ensures) in
+    let t = reading-turning r (column .result) seen (q .before .before .before .before .before .before .pre .1) (column .ensures .0) (p .before .before .before .action-at .ensures) in
     reading-stops r seen (rw (c .before .number .given .1) at (p .turn .ensures _ _ _ t))
 
 enum-known-after : tie.Need-enum-known-after Inv-loop μ-loop
@@ -71,22 +71,22 @@ enum-known-after c = search needs
 loop-less : tie.Need-loop-less Inv-loop μ-loop
 loop-less c =
     let p = c .before .before .before .before .before in
-    let column = p .before .before .before .before .column-of in
+    let column = p .before .before .before .before .class-number in
     let q = p .before .before .before .before .before .before in
     let r = q .before .before .before .loop .inv .0 in
     let seen = rw (q .class .given .1) at (reading-next r (q .before .before .next-by .ensures)) in
-    let t = reading-turning r (column .result) seen (q .before .before .before .before .before .before .pre .1) (column .ensures) (p .before .before .before .action-at .ensures) in
+    let t = reading-turning r (column .result) seen (q .before .before .before .before .before .before .pre .1) (column .ensures .0) (p .before .before .before .action-at .ensures) in
     let g = rw (c .before .after .given .1) at (p .turn .ensures _ _ _ t) in
     omega (arith, g .at-is, seen .ok .0, seen .ok .1 .starts, seen .ok .1 .within)
 
 loop-again : tie.Need-loop-again Inv-loop μ-loop
 loop-again c =
     let p = c .before .before .before .before .before in
-    let column = p .before .before .before .before .column-of in
+    let column = p .before .before .before .before .class-number in
     let q = p .before .before .before .before .before .before in
     let r = q .before .before .before .loop .inv .0 in
     let seen = rw (q .class .given .1) at (reading-next r (q .before .before .next-by .ensures)) in
-    let t = reading-turning r (column .result) seen (q .before .before .before .before .before .before .pre .1) (column .ensures) (p .before .before .before .action-at .ensures) in
+    let t = reading-turning r (column .result) seen (q .before .before .before .before .before .before .pre .1) (column .ensures .0) (p .before .before .before .action-at .ensures) in
     (reading-on r seen (rw (c .before .after .given .1) at (p .turn .ensures _ _ _ t)), search needs)
 
 pub run-spec : {M : Type 1} → statement M
@@ -100,7 +100,7 @@ run-spec =
     enum-known-class
     same-length
     returns
-    column-of-requires
+    class-number-requires
     action-at-requires
     turn-requires
     enum-known-number

@@ -7,7 +7,8 @@ use lib.ListN.{drop, getD}
 use Rattle.octets.specs.Believed.Choice.{pick, both, either}
 use Rattle.octets.specs.Believed.Classes.{within, isWhite}
 use Rattle.octets.specs.Believed.Numbers.{nameFault, byteAbove127, headerNotEnded}
-use Rattle.octets.specs.Believed.Octets.{lineFeedByte, returnByte, colonByte}
+use Rattle.octets.specs.Believed.Octets.{colonByte}
+use Rattle.octets.specs.Believed.Text.{crlfAt}
 use Rattle.records.specs.Believed.FieldRecords.{Field, fieldOf}
 
 -- the fields in order, and then the header's end or the first fault: its number and position
@@ -32,7 +33,7 @@ nameStartsWith b = both (nameHolds b) (not (isWhite b))
 
 -- the first of these bytes are CR and LF
 unfoldable pub crlf : List ℕ → Bool
-crlf bytes = both (eqb (getD bytes 0 0) returnByte) (eqb (getD bytes 1 0) lineFeedByte)
+crlf bytes = crlfAt bytes 0
 
 -- they are CR and LF that are not followed by SPACE or HTAB
 unfoldable pub endsBody : List ℕ → Bool

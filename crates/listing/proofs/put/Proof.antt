@@ -5,8 +5,8 @@ use borrow.Author.Needs.{needs}
 use Rattle.listing.proofs.put.Statement.{statement}
 use Rattle.listing.proofs.put.Tie as tie
 
-store-in-requires : tie.Need-store-in-requires
-store-in-requires c κs = search needs
+store-byte-in-requires : tie.Need-store-byte-in-requires
+store-byte-in-requires c κs = search needs
 
 add-result : tie.Need-add-result
 add-result c = search needs
@@ -15,7 +15,7 @@ same-length : tie.Need-same-length
 same-length c = search needs
 
 returns : tie.Need-returns
-returns c = (wrote-window _ (c .before .before .store-in .ensures), refl)
+returns c = (wrote-window _ (c .before .before .store-byte-in .ensures), refl)
 
 pub put-spec : {M : Type 1} → statement M
-put-spec = tie.close (tie.spec store-in-requires add-result same-length returns)
+put-spec = tie.close (tie.spec store-byte-in-requires add-result same-length returns)

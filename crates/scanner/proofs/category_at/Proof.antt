@@ -39,7 +39,7 @@ slice-aggregate-category-by c = sym (length-take-le _ (c .before .before .before
 
 category-by-requires : tie.Need-category-by-requires
 unfolding classTable classOf
-category-by-requires c κs = (omega arith, checked (c .before .before .before .before) .faultless)
+category-by-requires c κs = (omega arith, record { none = checked (c .before .before .before .before) .faultless })
 
 returns-4 : tie.Need-returns-4
 unfolding classTable classOf

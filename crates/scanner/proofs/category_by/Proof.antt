@@ -6,9 +6,10 @@ use Prim.Native.Nat.{_-_, _≤_}
 use lib.ListN.{length}
 use Rattle.scanner.specs.Believed.Scanning.{scanBy}
 use Rattle.scanner.specs.Believed.Categories.{categoryOf}
-use Rattle.scanner.specs.Ties.Gaps.{Faultless}
-use Rattle.scanner.proofs.Unfolding.{SymbolAt, found, found-end, found-fault, fault-on}
-use Rattle.scanner.proofs.CategoryLaws.{no-fault, category-over, category-before, category-in, category-behind}
+use Rattle.scanner.specs.Ties.Steps.{Faultless}
+use Rattle.scanner.proofs.Unfolding.{SymbolAt, found, found-end, found-fault, faultless-on}
+use Rattle.scanner.proofs.BodyChecks.{no-fault}
+use Rattle.scanner.proofs.CategoryLaws.{category-over, category-before, category-in, category-behind}
 use Rattle.scanner.proofs.category_by.Statement.{statement}
 use Rattle.scanner.proofs.category_by.Tie as tie
 
@@ -53,7 +54,7 @@ loop-again : tie.Need-loop-again Inv-loop μ-loop
 loop-again c =
     let i = c .before .before .before .before .before .before .loop .inv in
     let x = symbol-found (c .before .before .before) in
-    (omega arith, sym (fault-on _ _ x) ∙ i .1, i .2 ∙ category-behind x _ (omega arith))
+    (omega arith, faultless-on _ _ (i .1) x, i .2 ∙ category-behind x _ (omega arith))
 
 enum-told : tie.Need-enum-told Inv-loop μ-loop
 enum-told c = search needs
@@ -74,7 +75,7 @@ returns-4 : tie.Need-returns-4 Inv-loop μ-loop
 returns-4 c =
     let a = c .before .before .before .before .before .args in
     let l = c .before .before .before .loop in
-    absurd (no-fault _ (l .inv .1) (found-fault (a .classes .now) (a .text .now) (l .p) (rw (c .enum-told2 .given .1) at (c .before .before .next-by .ensures))))
+    absurd (no-fault _ (l .inv .1 .none) (found-fault (a .classes .now) (a .text .now) (l .p) (rw (c .enum-told2 .given .1) at (c .before .before .next-by .ensures))))
 
 pub category-by-spec : {M : Type 1} → statement M
 category-by-spec =

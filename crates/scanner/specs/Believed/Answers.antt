@@ -5,10 +5,11 @@ use mathlib.Core.Option.{Option, none, some}
 use lib.Dec.{ltb}
 use lib.ListN.{length, take}
 use Rattle.octets.specs.Believed.Choice.{pick, either}
+use Rattle.octets.specs.Believed.Classes.{classTable}
 use Rattle.octets.specs.Believed.Numbers.{messageLimit, accepted, messageTooLong, bodyOutOfOrder}
 use Rattle.octets.specs.declared.answers.Answer.{Answer}
 use Rattle.octets.specs.declared.answers.Answer.the-variants.{Accepted, Refused}
-use Rattle.scanner.specs.Believed.Scanning.{Scanned, ended, next, faultAt, scan}
+use Rattle.scanner.specs.Believed.Scanning.{Scanned, ended, next, faultAt, scanBy, scan}
 use Rattle.scanner.specs.declared.Class.{Class}
 use Rattle.scanner.specs.declared.Next.{Next}
 use Rattle.scanner.specs.declared.Next.the-variants.{Found, Ended, Fault}
@@ -29,9 +30,12 @@ unlessFault refused (faultAt number p) otherwise = refused number p
 abbrev pub faultOf : Scanned → Answer
 faultOf s = unlessFault Refused s (Accepted 0)
 
--- the answer of scanning the body of a message from `start` up to `end`
+-- the answer of scanning the body of a message from `start` up to `end`, by a table of classes
+abbrev pub scannedBy : List ℕ → List ℕ → ℕ → ℕ → Answer
+scannedBy classes message start end = bodyChecked Refused message start end (faultOf (scanBy classes (take end message) start))
+
 abbrev pub bodyScanned : List ℕ → ℕ → ℕ → Answer
-bodyScanned message start end = bodyChecked Refused message start end (faultOf (scan (take end message) start))
+bodyScanned message start end = scannedBy classTable message start end
 
 -- the first symbol, the end or the fault
 abbrev pub nextOf : Scanned → Next

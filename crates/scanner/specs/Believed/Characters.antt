@@ -2,11 +2,10 @@
 use Prim.Native.Nat.{ℕ, _+_}
 use mathlib.Core.Bool.{Bool, true, false}
 use mathlib.Core.List.{List, [], _∷_}
-use lib.Dec.{eqb}
 use lib.ListN.{getD, drop}
 use Rattle.octets.specs.Believed.Choice.{both}
 use Rattle.octets.specs.Believed.Classes.{isWhite}
-use Rattle.octets.specs.Believed.Octets.{lineFeedByte, returnByte}
+use Rattle.octets.specs.Believed.Text.{crlfAt}
 
 -- a byte, its position, and whether the CRLF of a fold was dropped right before it
 pub data Character : Type 0 where
@@ -14,7 +13,7 @@ pub data Character : Type 0 where
 
 -- a fold stands at a position: CRLF followed by SPACE or HTAB (past the end stands 0)
 abbrev pub foldAt : List ℕ → ℕ → Bool
-foldAt text i = both (eqb (getD text i 0) returnByte) (both (eqb (getD text (i + 1) 0) lineFeedByte) (isWhite (getD text (i + 2) 0)))
+foldAt text i = both (crlfAt text i) (isWhite (getD text (i + 2) 0))
 
 -- what the next byte is to a fold: nothing, its LF, or its white space
 pub data InFold : Type 0 where

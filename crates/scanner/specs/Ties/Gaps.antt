@@ -3,9 +3,7 @@ use mathlib.Core.Path.{_≡_}
 use Prim.Native.Nat.{ℕ, _≤_}
 use mathlib.Core.Bool.{Bool}
 use mathlib.Core.List.{List}
-use Rattle.octets.specs.declared.answers.Answer.the-variants.{Accepted}
-use Rattle.scanner.specs.Believed.Scanning.{State, outside, inComment, takingInComment, move, scanBy}
-use Rattle.scanner.specs.Believed.Answers.{faultOf}
+use Rattle.scanner.specs.Believed.Scanning.{State, outside, inComment, takingInComment, move}
 use Rattle.scanner.specs.Believed.Categories.{takenIn, behind}
 use Rattle.scanner.specs.declared.Kind.{Kind}
 use Rattle.scanner.specs.declared.Category.{Category}
@@ -14,10 +12,6 @@ use Rattle.scanner.specs.declared.Gap.{Gap}
 use Rattle.scanner.specs.declared.Gap.the-variants.{Outside, Comment, Taking}
 use Rattle.scanner.specs.declared.Passed.{Passed}
 use Rattle.scanner.specs.declared.Passed.the-variants.{To, Over}
-
--- a body has no fault from a position on
-abbrev pub Faultless : List ℕ → List ℕ → ℕ → Type 0
-Faultless classes text at = faultOf (scanBy classes text at) ≡ Accepted 0
 
 -- the state of scanning, the outermost comment starting there
 abbrev pub stateOf : Gap → ℕ → State

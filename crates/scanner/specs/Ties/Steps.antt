@@ -5,6 +5,7 @@ use mathlib.Core.Bool.{Bool}
 use mathlib.Core.List.{List, [], _∷_}
 use lib.ListN.{length, getD}
 use Rattle.octets.specs.Believed.Text.{part}
+use Rattle.octets.specs.declared.answers.Answer.the-variants.{Accepted}
 use Rattle.scanner.specs.Believed.Kinds.{characterKind}
 use Rattle.scanner.specs.Believed.Characters.{character, charactersAt}
 use Rattle.scanner.specs.Believed.Scanning.{inAtom, inComment, atom, next, faultAt, scanFrom, scanBy}
@@ -46,6 +47,10 @@ pub record CommentEnds (classes text : List ℕ) (at start q : ℕ) : Type 0 whe
 abbrev pub CommentIs : List ℕ → List ℕ → ℕ → ℕ → Comment → Type 0
 CommentIs classes text at start (Past q) = CommentEnds classes text at start q
 CommentIs classes text at start (Open number p) = scanFrom classes (charactersAt text at) (inComment 0 start) ≡ faultAt number p
+
+-- a body has no fault from a position on
+pub record Faultless (classes text : List ℕ) (at : ℕ) : Type 0 where
+  pub none : faultOf (scanBy classes text at) ≡ Accepted 0
 
 -- a body has the same first fault from a later position on
 pub record FaultsFrom (classes text : List ℕ) (at r : ℕ) : Type 0 where

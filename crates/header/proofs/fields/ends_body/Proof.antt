@@ -3,7 +3,7 @@ use borrow.Author.Needs.{needs}
 use native.Mathlib.Omega.{arith}
 use mathlib.Core.Bool.{not}
 use mathlib.Core.Path.{sym, ap, _∙_}
-use Rattle.header.proofs.ByteLaws.{body-other, body-last, body-third}
+use Rattle.header.proofs.ByteLaws.{two-bytes, body-other, body-last, body-third}
 use Rattle.header.proofs.fields.ends_body.Statement.{statement}
 use Rattle.header.proofs.fields.ends_body.Tie as tie
 
@@ -16,7 +16,7 @@ sub-if2 c = search needs
 returns : tie.Need-returns
 returns c =
     let a = c .before .before .before .before .args in
-    sym (body-last (a .message .now) (a .at) (sym (c .before .before .is-crlf .ensures) ∙ c .before .if1 .taken) (omega arith))
+    sym (body-last (a .message .now) (a .at) (two-bytes (a .message .now) (a .at) ∙ sym (c .before .before .is-crlf .ensures) ∙ c .before .if1 .taken) (omega arith))
 
 add-is-white : tie.Need-add-is-white
 add-is-white c = search needs
@@ -33,12 +33,12 @@ returns-2 c =
     ap not (c .is-white .ensures)
     ∙ sym
     (body-third (a .message .now) (a .at)
-    (sym (c .before .before .before .before .is-crlf .ensures) ∙ c .before .before .before .if1 .taken))
+    (two-bytes (a .message .now) (a .at) ∙ sym (c .before .before .before .before .is-crlf .ensures) ∙ c .before .before .before .if1 .taken))
 
 returns-3 : tie.Need-returns-3
 returns-3 c =
     let a = c .before .before .before .args in
-    sym (body-other (a .message .now) (a .at) (sym (c .before .is-crlf .ensures) ∙ c .if1 .left))
+    sym (body-other (a .message .now) (a .at) (two-bytes (a .message .now) (a .at) ∙ sym (c .before .is-crlf .ensures) ∙ c .if1 .left))
 
 pub ends-body-spec : {M : Type 1} → statement M
 ends-body-spec =

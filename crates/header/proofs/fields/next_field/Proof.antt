@@ -5,6 +5,7 @@ use mathlib.Core.Path.{sym, ap, _∙_}
 use Rattle.header.specs.Believed.Fields.{lineStart}
 use Rattle.header.specs.Ties.Steps.{firstOf}
 use Rattle.header.proofs.HeaderLaws.{ends, empty-line, name-starts, no-name}
+use Rattle.header.proofs.ByteLaws.{two-bytes}
 use Rattle.header.proofs.fields.next_field.Statement.{statement}
 use Rattle.header.proofs.fields.next_field.Tie as tie
 
@@ -18,7 +19,7 @@ returns-2 : tie.Need-returns-2
 unfolding firstOf
 returns-2 c =
     let a = c .before .before .before .before .args in
-    sym (ap firstOf (empty-line (a .message .now) (a .at) (omega arith) (sym (c .before .is-crlf .ensures) ∙ c .if2 .taken)))
+    sym (ap firstOf (empty-line (a .message .now) (a .at) (omega arith) (two-bytes (a .message .now) (a .at) ∙ sym (c .before .is-crlf .ensures) ∙ c .if2 .taken)))
 
 returns-3 : tie.Need-returns-3
 returns-3 c =
@@ -27,7 +28,7 @@ returns-3 c =
     ∙ sym
     (ap firstOf
     (name-starts (a .message .now) (a .at) (omega arith)
-    (sym (c .before .before .before .before .before .is-crlf .ensures) ∙ c .before .before .before .before .if2 .left)
+    (two-bytes (a .message .now) (a .at) ∙ sym (c .before .before .before .before .before .is-crlf .ensures) ∙ c .before .before .before .before .if2 .left)
     (sym (c .before .before .name-starts-with .ensures) ∙ c .before .if3 .taken)))
 
 returns-4 : tie.Need-returns-4
@@ -37,7 +38,7 @@ returns-4 c =
     sym
     (ap firstOf
     (no-name (a .message .now) (a .at) (omega arith)
-    (sym (c .before .before .before .before .is-crlf .ensures) ∙ c .before .before .before .if2 .left)
+    (two-bytes (a .message .now) (a .at) ∙ sym (c .before .before .before .before .is-crlf .ensures) ∙ c .before .before .before .if2 .left)
     (sym (c .before .name-starts-with .ensures) ∙ c .if3 .left)))
 
 pub next-field-spec : {M : Type 1} → statement M

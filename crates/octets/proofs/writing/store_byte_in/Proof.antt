@@ -1,9 +1,9 @@
--- `listing::store_in` meets its contract. Assumes nothing.
+-- `octets::writing::store_byte_in` meets its contract. Assumes nothing.
 use mathlib.Core.Path.{sym, _∙_}
 use borrow.Author.Needs.{needs}
 use Rattle.octets.proofs.Writes.{byte-before, byte-within}
-use Rattle.listing.proofs.store_in.Statement.{statement}
-use Rattle.listing.proofs.store_in.Tie as tie
+use Rattle.octets.proofs.writing.store_byte_in.Statement.{statement}
+use Rattle.octets.proofs.writing.store_byte_in.Tie as tie
 
 store-byte-requires : tie.Need-store-byte-requires
 store-byte-requires c κs = search needs
@@ -21,5 +21,5 @@ returns-2 c =
     let a = c .before .before .args in
     sym (byte-before (a .from) (a .out .now) (a .n) (a .b) (c .if1 .left))
 
-pub store-in-spec : {M : Type 1} → statement M
-store-in-spec = tie.close (tie.spec store-byte-requires same-length returns returns-2)
+pub store-byte-in-spec : {M : Type 1} → statement M
+store-byte-in-spec = tie.close (tie.spec store-byte-requires same-length returns returns-2)
