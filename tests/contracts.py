@@ -1,9 +1,8 @@
 #!/usr/bin/env python3
 """What the functions promise, told from the sources.
 - tests/contracts.txt has a line for each clause of each function that other modules can call, with the definitions that the
-  clause cites; or it says that the function prints. Sources and table are compared both ways.
-- No function that other crates can call has a `requires`. One that other modules can call has an `ensures`, unless it returns
-  nothing and changes nothing lent: it prints.
+  clause cites. Sources and table are compared both ways.
+- No function that other crates can call has a `requires`. One that other modules can call has an `ensures`.
 - No `ensures` has an equation with the same on both sides, and each speaks of the result or of something at exit.
 - No function of any visibility is longer than 40 lines, its contract apart.
 - Both address readers have the same contract, word for word.
@@ -18,7 +17,7 @@ LIMIT, TABLE = 40, "tests/contracts.txt"
 READERS = "addresses::read_addresses", "engine::read_addresses"
 ABOVE = """\
 # FUNCTION CLAUSE DEFINITION..: each clause of each function that other modules can call, and the definitions that it cites, as
-# CRATE.FILE.NAME, in the order of its text; `prints`: it returns nothing, changes nothing lent and promises nothing."""
+# CRATE.FILE.NAME, in the order of its text."""
 # comments, texts and bytes; a function up to its name; a type's block; what stands before the brace of a clause
 UNREAD = re.compile(r"""//[^\n]*|/\*.*?\*/|b?r(#*)".*?"\1|b?"(?:\\.|[^"\\])*"|b?'(?:\\[^\n']*.|[^'\\\n])'""", re.DOTALL)
 HEAD = re.compile(r"(?:\b(pub(?:\([^)]*\))?)\s+)?(?:(?:const|unsafe|(extern))\s+)*\bfn\s+(\w+)")
@@ -35,7 +34,7 @@ BEYOND = re.compile(r"--|//|/\*|\"|·")
 OPENING, CLOSING, BETWEEN = "([{⌜⟦", ")]}⌝⟧", ("×", "→", "⊎", ",", ";")
 
 Clause = collections.namedtuple("Clause", "label text cited start end")
-Function = collections.namedtuple("Function", "full place public listed prints clauses lines body imports")
+Function = collections.namedtuple("Function", "full place public listed clauses lines body imports")
 root = pathlib.Path(__file__).resolve().parent.parent
 
 
@@ -87,7 +86,6 @@ def read(path, source):
             place=f"{path}:{source.count(chr(10), 0, head.start()) + 1}: fn {head[3]}",
             public=head[1] == "pub" or bool(head[2]),
             listed=bool(head[1] or head[2]),
-            prints=not re.search(r"->|&\s*(?:'\w+\s+)?mut\b", signature),
             clauses=clauses,
             lines=(apart + code[at : behind(code, body)]).count("\n") + 1,
             body=body,
@@ -138,7 +136,7 @@ def empty(clause):
 
 def rows(function):
     """The table's rows for a function: the label of each clause, and the definitions that it cites."""
-    return [(clause.label, " ".join(clause.cited)) for clause in function.clauses] or [("prints", "")]
+    return [(clause.label, " ".join(clause.cited)) for clause in function.clauses] or [("none", "")]
 
 
 def by_label(rows):
@@ -151,8 +149,8 @@ def alone(function):
     kinds = [clause.label.split(":")[0] for clause in function.clauses]
     if function.lines > LIMIT:
         yield f"longer than {LIMIT} lines: {function.lines}"
-    if function.listed and not function.prints and "ensures" not in kinds:
-        yield "it returns something or changes something lent, and has no `ensures`"
+    if function.listed and "ensures" not in kinds:
+        yield "it has no `ensures`"
     for clause, kind in zip(function.clauses, kinds):
         if function.public and kind != "ensures":
             yield f"a public function with a `{kind}`"
@@ -230,7 +228,7 @@ if not contracts[0] == contracts[1] != []:
     wrong.append("the two address readers differ in their contracts")
 
 # what is found where sources or table are made worse, and what must be among it
-trials = [(faults(every, {}), "is not in the table"), (faults(every, {**table, "none": [("prints", "")]}), "none: no function")]
+trials = [(faults(every, {}), "is not in the table"), (faults(every, {**table, "none": [("ensures:unnamed", "")]}), "none: no function")]
 for path, source in sources.items():
     mine = {function.full: rows(function) for function in functions[path] if function.listed}
     for function in functions[path]:

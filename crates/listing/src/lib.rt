@@ -31,8 +31,6 @@ use records::fields::FIELD_RECORD_SIZE;
 use octets::writing::store_byte_in;
 use octets::writing::store_bytes_in;
 
-pub mod printing;
-
 // The bytes of a table of field records, and of one of address records.
 const FIELD_TABLE_SIZE: usize = TABLE_RECORDS * FIELD_RECORD_SIZE;
 

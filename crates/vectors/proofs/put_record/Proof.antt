@@ -1,0 +1,38 @@
+-- `vectors::put_record` meets its contract. Assumes nothing.
+use Rattle.vectors.proofs.AnswerLaws.{address-row}
+use borrow.Author.Needs.{needs}
+use Rattle.vectors.proofs.put_record.Statement.{statement}
+use Rattle.vectors.proofs.put_record.Tie as tie
+
+load-record-requires : tie.Need-load-record-requires
+load-record-requires c κs = search needs
+
+cast-t7 : tie.Need-cast-t7
+cast-t7 c = search needs
+
+cast-t8 : tie.Need-cast-t8
+cast-t8 c = search needs
+
+slice-aggregate-put-line : tie.Need-slice-aggregate-put-line
+slice-aggregate-put-line c = search needs
+
+put-line-requires : tie.Need-put-line-requires
+put-line-requires c κs = search needs
+
+same-length : tie.Need-same-length
+same-length c = search needs
+
+returns : tie.Need-returns
+returns c = address-row (c .before .before .before .before .before .before .before .before .before .before .args .table .now) (c .before .before .before .before .before .before .before .before .before .before .args .i) (c .before .before .before .before .before .before .before .load-record .ensures) (c .before .before .put-line .ensures)
+
+pub put-record-spec : {M : Type 1} → statement M
+put-record-spec =
+    tie.close
+    (tie.spec
+    load-record-requires
+    cast-t7
+    cast-t8
+    slice-aggregate-put-line
+    put-line-requires
+    same-length
+    returns)

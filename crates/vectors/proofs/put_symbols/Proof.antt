@@ -1,0 +1,104 @@
+-- `vectors::put_symbols` meets its contract: the symbols before p are put. Assumes nothing.
+use mathlib.Core.Path.{_≡_, refl, sym, ap, _∙_}
+use Prim.Native.Nat.{_-_}
+use native.Mathlib.Omega.{arith}
+use lib.ListN.{length}
+use Rattle.vectors.specs.Believed.Answers.{symbols}
+use Rattle.vectors.proofs.PutLaws.{Left, left-all, left-after, left-last, left-none}
+use Rattle.vectors.proofs.AnswerLaws.{symbols-found, symbols-ended, symbols-fault, symbols-none}
+use borrow.Author.Needs.{needs}
+use Rattle.vectors.proofs.put_symbols.Statement.{statement}
+use Rattle.vectors.proofs.put_symbols.Tie as tie
+
+abbrev Inv-loop : tie.InvT-loop
+Inv-loop message start end out₀ n p₀ m₀ left₀ out p m left = (length out ≡ length out₀) × Left out₀ n (symbols 65536 message start end) out m (symbols left message p end)
+
+abbrev μ-loop : tie.MeasureT-loop
+μ-loop message start end out₀ n p₀ m₀ left₀ out p m left = left
+
+loop-holds : tie.Need-loop-holds Inv-loop μ-loop
+loop-holds c = (refl, left-all _ _ _)
+
+next-symbol-requires : tie.Need-next-symbol-requires Inv-loop μ-loop
+next-symbol-requires c κs = search needs
+
+enum-known-class : tie.Need-enum-known-class Inv-loop μ-loop
+enum-known-class c = search needs
+
+mark-requires : tie.Need-mark-requires Inv-loop μ-loop
+mark-requires c κs = search needs
+
+slice-aggregate-put-line : tie.Need-slice-aggregate-put-line Inv-loop μ-loop
+slice-aggregate-put-line c = search needs
+
+put-line-requires : tie.Need-put-line-requires Inv-loop μ-loop
+put-line-requires c κs = search needs
+
+enum-told : tie.Need-enum-told Inv-loop μ-loop
+enum-told c = search needs
+
+same-length : tie.Need-same-length Inv-loop μ-loop
+same-length c = c .before .before .before .before .loop .inv .0
+
+returns : tie.Need-returns Inv-loop μ-loop
+returns c = left-none (c .before .before .before .before .loop .inv .1) (λ rest. symbols-ended (c .before .before .before .before .loop .left) (c .before .before .before .before .before .before .before .args .message .now) (c .before .before .before .before .loop .p) (c .before .before .before .before .before .before .before .args .end) rest (omega arith) (sym (c .before .before .next-symbol .ensures .1) ∙ c .enum-told .given .1))
+
+enum-known-number : tie.Need-enum-known-number Inv-loop μ-loop
+enum-known-number c = search needs
+
+cast-t25 : tie.Need-cast-t25 Inv-loop μ-loop
+cast-t25 c = search needs
+
+slice-aggregate-put-line-2 : tie.Need-slice-aggregate-put-line-2 Inv-loop μ-loop
+slice-aggregate-put-line-2 c = search needs
+
+put-line-requires-2 : tie.Need-put-line-requires-2 Inv-loop μ-loop
+put-line-requires-2 c κs = search needs
+
+same-length-2 : tie.Need-same-length-2 Inv-loop μ-loop
+same-length-2 c = c .before .before .put-line2 .kept .1 .1 .0 ∙ c .before .before .before .before .before .before .before .before .before .before .loop .inv .0
+
+returns-2 : tie.Need-returns-2 Inv-loop μ-loop
+returns-2 c = left-last (c .before .before .before .before .before .before .before .before .before .before .loop .inv .1) (λ rest. symbols-fault (c .before .before .before .before .before .before .before .before .before .before .loop .left) (c .before .before .before .before .before .before .before .before .before .before .before .before .before .args .message .now) (c .before .before .before .before .before .before .before .before .before .before .loop .p) (c .before .before .before .before .before .before .before .before .before .before .before .before .before .args .end) rest (omega arith) (sym (c .before .before .before .before .before .before .before .before .next-symbol .ensures .1) ∙ c .before .before .before .before .before .before .number .given .1)) (c .before .before .put-line2 .ensures)
+
+sub-left : tie.Need-sub-left Inv-loop μ-loop
+sub-left c = search needs
+
+loop-less : tie.Need-loop-less Inv-loop μ-loop
+loop-less c = search needs
+
+loop-again : tie.Need-loop-again Inv-loop μ-loop
+loop-again c = (c .before .before .put-line .kept .1 .1 .0 ∙ c .before .before .before .before .before .before .before .before .before .before .before .loop .inv .0, left-after (c .before .before .before .before .before .before .before .before .before .before .before .loop .inv .1) (λ rest. symbols-found (c .before .before .before .before .before .before .before .before .before .before .before .loop .left) (c .before .before .before .before .before .before .before .before .before .before .before .before .before .before .args .message .now) (c .before .before .before .before .before .before .before .before .before .before .before .loop .p) (c .before .before .before .before .before .before .before .before .before .before .before .before .before .before .args .end) rest (omega arith) (sym (c .before .before .before .before .before .before .before .before .before .next-symbol .ensures .1) ∙ c .before .before .before .before .before .before .before .class .given .1)) (rw (c .before .before .before .before .before .mark .ensures) at (c .before .before .put-line .ensures)))
+
+same-length-3 : tie.Need-same-length-3 Inv-loop μ-loop
+same-length-3 c = c .before .loop .inv .0
+
+returns-3 : tie.Need-returns-3 Inv-loop μ-loop
+returns-3 c = left-none (c .before .loop .inv .1) (λ rest. symbols-none (c .before .loop .left) (c .before .before .before .before .args .message .now) (c .before .loop .p) (c .before .before .before .before .args .end) rest (omega arith))
+
+pub put-symbols-spec : {M : Type 1} → statement M
+put-symbols-spec =
+    tie.close
+    (tie.spec
+    Inv-loop
+    μ-loop
+    loop-holds
+    next-symbol-requires
+    enum-known-class
+    mark-requires
+    slice-aggregate-put-line
+    put-line-requires
+    enum-told
+    same-length
+    returns
+    enum-known-number
+    cast-t25
+    slice-aggregate-put-line-2
+    put-line-requires-2
+    same-length-2
+    returns-2
+    sub-left
+    loop-less
+    loop-again
+    same-length-3
+    returns-3)

@@ -1,0 +1,46 @@
+-- `vectors::put_touch` meets its contract. Assumes nothing.
+use native.Mathlib.Omega.{arith}
+use mathlib.Core.Path.{_≡_, refl, sym, ap, _∙_}
+use Prim.Native.Nat.{_%_}
+use lib.ListN.{length, replicate}
+use lib.Seq.{length-take-le}
+use Rattle.vectors.specs.Believed.Answers.{untouchedNumber}
+use Rattle.vectors.specs.Believed.Vectors.{touchText}
+use Rattle.vectors.proofs.PutLaws.{puts-as}
+use Rattle.vectors.proofs.AnswerLaws.{path-is}
+use borrow.Author.Needs.{needs}
+use Rattle.vectors.proofs.put_touch.Statement.{statement}
+use Rattle.vectors.proofs.put_touch.Tie as tie
+
+path-room-requires : tie.Need-path-room-requires
+path-room-requires c κs = search needs
+
+asked-requires : tie.Need-asked-requires
+asked-requires c κs = search needs
+
+array-borrow-prefix-path : tie.Need-array-borrow-prefix-path
+array-borrow-prefix-path c = search needs
+
+slice-aggregate-put-touched : tie.Need-slice-aggregate-put-touched
+slice-aggregate-put-touched c = sym (length-take-le (c .before .asked .result % 71) (c .before .before .path-room .result) (omega (arith, ap length (c .before .before .path-room .ensures))))
+
+put-touched-requires : tie.Need-put-touched-requires
+put-touched-requires c κs = search needs
+
+same-length : tie.Need-same-length
+same-length c = search needs
+
+returns : tie.Need-returns
+returns c = puts-as (λ rest. ap (λ p. touchText (c .before .before .before .before .before .before .before .before .before .before .before .args .head .now) (c .before .before .before .before .before .before .before .before .before .before .before .args .message .now) p rest) (path-is (c .before .before .before .before .before .before .asked .result) (c .before .before .before .before .before .before .before .path-room .ensures) ∙ ap (λ y. replicate (y % 71) untouchedNumber) (c .before .before .before .before .before .before .asked .ensures))) (c .before .before .before .put-touched .ensures)
+
+pub put-touch-spec : {M : Type 1} → statement M
+put-touch-spec =
+    tie.close
+    (tie.spec
+    path-room-requires
+    asked-requires
+    array-borrow-prefix-path
+    slice-aggregate-put-touched
+    put-touched-requires
+    same-length
+    returns)

@@ -1,0 +1,2 @@
+-- Ties between code and definitions: what the functions below the entry points do. Nothing here needs to be believed.
+pub mod Puts
