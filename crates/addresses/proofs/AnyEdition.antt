@@ -16,7 +16,7 @@ use Rattle.scanner.specs.Believed.Scanning.{scanBy}
 use Rattle.scanner.specs.Believed.Answers.{faultOf}
 use Rattle.scanner.specs.declared.Class.{Class}
 use Rattle.scanner.proofs.BodyChecks.{in-order, unless-none, CleanBy}
-use Rattle.grammar.specs.Believed.Grammar.{Row}
+use Rattle.grammar.specs.Believed.Grammar.{Forest}
 use Rattle.grammar.specs.Believed.Language.{Verdict, accepted, refused}
 use Rattle.grammar.specs.Believed.Records.{count, records}
 use Rattle.grammar.specs.Executable.{Decides}
@@ -34,7 +34,7 @@ use Rattle.grammar.specs.declared.Whole.the-variants.{Listed}
 
 -- ---- two runs
 
-module _ {N : Type 0} (verdict : List (Symbol Class) → Verdict Class (Row Class N)) (classes text : List ℕ) {at : ℕ} (table : List ℕ) where
+module _ {N : Type 0} (verdict : List (Symbol Class) → Verdict Class (Forest Class N)) (classes text : List ℕ) {at : ℕ} (table : List ℕ) where
   pub twice-refused : {number-told place : ℕ} → IsRefused verdict classes text at number-told place → TwiceIs verdict classes text at table table (Refused number-told place)
   twice-refused s = record { answer-is = rw (s .verdict-is, s .number-is, s .place-is); table-is = rw (s .verdict-is) }
 
@@ -60,9 +60,9 @@ module _ {N : Type 0} (verdict : List (Symbol Class) → Verdict Class (Row Clas
 
 -- ---- the outcome
 
-module _ {N : Type 0} (edition : Edition N) (verdict : List (Symbol Class) → Verdict Class (Row Class N)) (message : List ℕ) (start end : ℕ) (short : length message ≤ messageLimit) (ordered : start ≤ end) (inside : end ≤ length message) where
+module _ {N : Type 0} (edition : Edition N) (verdict : List (Symbol Class) → Verdict Class (Forest Class N)) (message : List ℕ) (start end : ℕ) (short : length message ≤ messageLimit) (ordered : start ≤ end) (inside : end ≤ length message) where
   -- of a body without fault the verdict on its symbols decides
-  pub verdict-decides : faultOf (scanBy (edition .classes) (take end message) start) ≡ Accepted 0 → {A : Type 0} (refuse : ℕ → ℕ → A) (derive : Row Class N → A)
+  pub verdict-decides : faultOf (scanBy (edition .classes) (take end message) start) ≡ Accepted 0 → {A : Type 0} (refuse : ℕ → ℕ → A) (derive : Forest Class N → A)
       → readIn edition verdict refuse derive message start end ≡ byVerdict refuse derive end (verdict (symbolsIn edition message start end))
   verdict-decides f refuse derive = in-order refuse message start end _ short ordered inside ∙ unless-none refuse (scanBy (edition .classes) (take end message) start) _ f
 
@@ -83,9 +83,9 @@ clean-text {message = message} {end = end} x =
 
 -- ---- condition 3
 
-module _ {N : Type 0} (edition : Edition N) (least : ℕ) (answer : ℕ → List (Symbol Class) → Verdict Class (Row Class N)) (decides : Decides (edition .grammar) (edition .list) least answer) (below : least ≤ levelLimit) where
+module _ {N : Type 0} (edition : Edition N) (least : ℕ) (answer : ℕ → List (Symbol Class) → Verdict Class (Forest Class N)) (decides : Decides (edition .grammar) (edition .list) least answer) (below : least ≤ levelLimit) where
   module _ (symbols : List (Symbol Class)) (end : ℕ) (table : List ℕ) where
-    by-verdict : (v : Verdict Class (Row Class N)) → answer levelLimit symbols ≡ v → Settled edition symbols end table (decided end table v .answer) (decided end table v .table)
+    by-verdict : (v : Verdict Class (Forest Class N)) → answer levelLimit symbols ≡ v → Settled edition symbols end table (decided end table v .answer) (decided end table v .table)
     by-verdict (accepted k) e =
         record {
           one = λ j j′ d d′. decides .one j j′ symbols d d′;
@@ -94,7 +94,7 @@ module _ {N : Type 0} (edition : Edition N) (least : ℕ) (answer : ℕ → List
           no-list = λ f. let d = answer-derives (edition .grammar) (edition .list) least answer decides levelLimit below {xs = symbols} e in absurd (f k (record { derived = d .0; within = d .1 }));
         }
       where
-        same : (k′ : Row Class N) → IsListIn edition symbols k′ → k ≡ k′
+        same : (k′ : Forest Class N) → IsListIn edition symbols k′ → k ≡ k′
         same k′ d = let f : accepted k ≡ accepted k′ = sym e ∙ answer-accepts (edition .grammar) (edition .list) least answer decides levelLimit below (d .derived) (d .within) in cc
     by-verdict (refused why rest) e =
         record {
@@ -104,7 +104,7 @@ module _ {N : Type 0} (edition : Edition N) (least : ℕ) (answer : ℕ → List
           no-list = λ f. (record { why = why; rest = rest; right = rw e at (decides .right levelLimit below symbols); tells = refl }, refl);
         }
       where
-        never : (k : Row Class N) → IsListIn edition symbols k → ⊥
+        never : (k : Forest Class N) → IsListIn edition symbols k → ⊥
         never k d =
             let f : refused why rest ≡ accepted k = sym e ∙ answer-accepts (edition .grammar) (edition .list) least answer decides levelLimit below (d .derived) (d .within) in
             let z : _≡_ {A = ℕ} 0 1 = cc in

@@ -12,8 +12,8 @@ use Rattle.scanner.specs.Believed.Scanning.{scanBy, scan}
 use Rattle.scanner.specs.Believed.Answers.{faultOf, bodyScanned}
 use Rattle.scanner.specs.declared.Class.{Class}
 use Rattle.scanner.proofs.BodyChecks.{in-order, unless-refused, CleanBy, refused-body, clean-body, body-case-by, when-refused-by, Clean, body-case, when-refused}
-use Rattle.grammar.specs.Believed.Grammar.{Row, Derived, levels}
-use Rattle.grammar.specs.Believed.Language.{Refusal, Verdict, accepted, refused, number, positionOf, Right}
+use Rattle.grammar.specs.Believed.Grammar.{Forest, Derived, levels}
+use Rattle.grammar.specs.Believed.Language.{Refusal, Verdict, accepted, refused, number, startOf, Right}
 use Rattle.grammar.specs.Believed.Rfc733.{Derivation}
 use Rattle.grammar.specs.Executable.{Decides}
 use Rattle.grammar.proofs.Any.Reader.{answer-accepts, answer-derives}
@@ -28,38 +28,38 @@ use Rattle.addresses.proofs.AnyEdition.{verdict-decides}
 -- ---- in any edition
 
 -- a body within its message that scans without fault to a list with this derivation
-pub record ListBodyIn {N : Type 0} (edition : Edition N) (message : List ℕ) (start end : ℕ) (k : Row Class N) : Type 0 where
+pub record ListBodyIn {N : Type 0} (edition : Edition N) (message : List ℕ) (start end : ℕ) (k : Forest Class N) : Type 0 where
   pub clean : CleanBy (edition .classes) message start end
   pub list : IsListIn edition (symbolsIn edition message start end) k
 
 -- a body that is refused with this number at this position, whatever is answered of it
-abbrev pub RefusedIn : {N : Type 0} → Edition N → (List (Symbol Class) → Verdict Class (Row Class N)) → List ℕ → ℕ → ℕ → ℕ → ℕ → Type 1
-RefusedIn {N} edition verdict message start end n p = (A : Type 0) (refuse : ℕ → ℕ → A) (derive : Row Class N → A) → readIn edition verdict refuse derive message start end ≡ refuse n p
+abbrev pub RefusedIn : {N : Type 0} → Edition N → (List (Symbol Class) → Verdict Class (Forest Class N)) → List ℕ → ℕ → ℕ → ℕ → ℕ → Type 1
+RefusedIn {N} edition verdict message start end n p = (A : Type 0) (refuse : ℕ → ℕ → A) (derive : Forest Class N → A) → readIn edition verdict refuse derive message start end ≡ refuse n p
 
 -- refused, or a list
-pub data JudgedIn {N : Type 0} (edition : Edition N) (verdict : List (Symbol Class) → Verdict Class (Row Class N)) (message : List ℕ) (start end : ℕ) : Type 1 where
+pub data JudgedIn {N : Type 0} (edition : Edition N) (verdict : List (Symbol Class) → Verdict Class (Forest Class N)) (message : List ℕ) (start end : ℕ) : Type 1 where
   refusedAt : (n p : ℕ) → RefusedIn edition verdict message start end n p → JudgedIn edition verdict message start end
-  listed : (k : Row Class N) → ListBodyIn edition message start end k → JudgedIn edition verdict message start end
+  listed : (k : Forest Class N) → ListBodyIn edition message start end k → JudgedIn edition verdict message start end
 
 -- a clean body that is a list
-pub list-body-in : {N : Type 0} (edition : Edition N) {message : List ℕ} {start end : ℕ} {k : Row Class N} → CleanBy (edition .classes) message start end → IsListIn edition (symbolsIn edition message start end) k → ListBodyIn edition message start end k
+pub list-body-in : {N : Type 0} (edition : Edition N) {message : List ℕ} {start end : ℕ} {k : Forest Class N} → CleanBy (edition .classes) message start end → IsListIn edition (symbolsIn edition message start end) k → ListBodyIn edition message start end k
 list-body-in edition x l = record { clean = x; list = l }
 
-module _ {N : Type 0} (edition : Edition N) (least : ℕ) (answerOf : ℕ → List (Symbol Class) → Verdict Class (Row Class N)) (right : Decides (edition .grammar) (edition .list) least answerOf) (below : least ≤ levelLimit) where
+module _ {N : Type 0} (edition : Edition N) (least : ℕ) (answerOf : ℕ → List (Symbol Class) → Verdict Class (Forest Class N)) (right : Decides (edition .grammar) (edition .list) least answerOf) (below : least ≤ levelLimit) where
   -- of a list it is answered what is to be answered of its derivation
-  pub listed-read-in : {message : List ℕ} {start end : ℕ} {k : Row Class N} → ListBodyIn edition message start end k
-      → {A : Type 0} (refuse : ℕ → ℕ → A) (derive : Row Class N → A) → readIn edition (answerOf levelLimit) refuse derive message start end ≡ derive k
+  pub listed-read-in : {message : List ℕ} {start end : ℕ} {k : Forest Class N} → ListBodyIn edition message start end k
+      → {A : Type 0} (refuse : ℕ → ℕ → A) (derive : Forest Class N → A) → readIn edition (answerOf levelLimit) refuse derive message start end ≡ derive k
   listed-read-in {message} {start} {end} b refuse derive =
       verdict-decides edition (answerOf levelLimit) message start end (b .clean .short) (b .clean .ordered) (b .clean .inside) (b .clean .faultless) refuse derive
       ∙ ap (byVerdict refuse derive end) (answer-accepts (edition .grammar) (edition .list) least answerOf right levelLimit below (b .list .derived) (b .list .within))
 
   module _ (message : List ℕ) (start end : ℕ) where
-    by-verdict : CleanBy (edition .classes) message start end → (v : Verdict Class (Row Class N)) → answerOf levelLimit (symbolsIn edition message start end) ≡ v → JudgedIn edition (answerOf levelLimit) message start end
+    by-verdict : CleanBy (edition .classes) message start end → (v : Verdict Class (Forest Class N)) → answerOf levelLimit (symbolsIn edition message start end) ≡ v → JudgedIn edition (answerOf levelLimit) message start end
     by-verdict x (accepted k) e =
         let d = answer-derives (edition .grammar) (edition .list) least answerOf right levelLimit below {xs = symbolsIn edition message start end} e in
         listed k (list-body-in edition x (record { derived = d .0; within = d .1 }))
     by-verdict x (refused why rest) e =
-        refusedAt (number why) (positionOf end rest)
+        refusedAt (number why) (startOf end rest)
         (λ A refuse derive. verdict-decides edition (answerOf levelLimit) message start end (x .short) (x .ordered) (x .inside) (x .faultless) refuse derive ∙ ap (byVerdict refuse derive end) e)
 
     pub judged-in : JudgedIn edition (answerOf levelLimit) message start end
@@ -70,29 +70,29 @@ module _ {N : Type 0} (edition : Edition N) (least : ℕ) (answerOf : ℕ → Li
         ]
 
 -- a body that is refused as condition 3 has it, whatever is answered of it
-pub record RightlyRead {N : Type 0} (edition : Edition N) (verdict : List (Symbol Class) → Verdict Class (Row Class N)) (message : List ℕ) (start end : ℕ) : Type 1 where
+pub record RightlyRead {N : Type 0} (edition : Edition N) (verdict : List (Symbol Class) → Verdict Class (Forest Class N)) (message : List ℕ) (start end : ℕ) : Type 1 where
   pub why : Refusal
   pub rest : List (Symbol Class)
   pub right : Right (Derived (edition .grammar) (edition .list)) levels levelLimit (symbolsIn edition message start end) (refused why rest)
-  pub reads : RefusedIn edition verdict message start end (number why) (positionOf end rest)
+  pub reads : RefusedIn edition verdict message start end (number why) (startOf end rest)
 
 -- the verdict on symbols that are no list: a refusal, as condition 3 has it
-pub record RightlyRefused {N : Type 0} (edition : Edition N) (verdict : List (Symbol Class) → Verdict Class (Row Class N)) (xs : List (Symbol Class)) : Type 0 where
+pub record RightlyRefused {N : Type 0} (edition : Edition N) (verdict : List (Symbol Class) → Verdict Class (Forest Class N)) (xs : List (Symbol Class)) : Type 0 where
   pub why : Refusal
   pub rest : List (Symbol Class)
   pub right : Right (Derived (edition .grammar) (edition .list)) levels levelLimit xs (refused why rest)
   pub verdict-is : verdict xs ≡ refused why rest
 
-module _ {N : Type 0} (edition : Edition N) (least : ℕ) (answerOf : ℕ → List (Symbol Class) → Verdict Class (Row Class N)) (right : Decides (edition .grammar) (edition .list) least answerOf) (below : least ≤ levelLimit) where
-  pub no-list-refused : (xs : List (Symbol Class)) → ((k : Row Class N) → IsListIn edition xs k → ⊥) → RightlyRefused edition (answerOf levelLimit) xs
+module _ {N : Type 0} (edition : Edition N) (least : ℕ) (answerOf : ℕ → List (Symbol Class) → Verdict Class (Forest Class N)) (right : Decides (edition .grammar) (edition .list) least answerOf) (below : least ≤ levelLimit) where
+  pub no-list-refused : (xs : List (Symbol Class)) → ((k : Forest Class N) → IsListIn edition xs k → ⊥) → RightlyRefused edition (answerOf levelLimit) xs
   no-list-refused xs none = by (answerOf levelLimit xs) refl
     where
-      by : (v : Verdict Class (Row Class N)) → answerOf levelLimit xs ≡ v → RightlyRefused edition (answerOf levelLimit) xs
+      by : (v : Verdict Class (Forest Class N)) → answerOf levelLimit xs ≡ v → RightlyRefused edition (answerOf levelLimit) xs
       by (accepted k) e = let d = answer-derives (edition .grammar) (edition .list) least answerOf right levelLimit below {xs = xs} e in absurd (none k (record { derived = d .0; within = d .1 }))
       by (refused why rest) e = record { why = why; rest = rest; right = rw e at (right .right levelLimit below xs); verdict-is = e }
 
   -- a clean body that is no list
-  pub unlisted-in : (message : List ℕ) (start end : ℕ) → CleanBy (edition .classes) message start end → ((k : Row Class N) → IsListIn edition (symbolsIn edition message start end) k → ⊥) → RightlyRead edition (answerOf levelLimit) message start end
+  pub unlisted-in : (message : List ℕ) (start end : ℕ) → CleanBy (edition .classes) message start end → ((k : Forest Class N) → IsListIn edition (symbolsIn edition message start end) k → ⊥) → RightlyRead edition (answerOf levelLimit) message start end
   unlisted-in message start end x none =
       let r = no-list-refused (symbolsIn edition message start end) none in
       record {
@@ -124,7 +124,7 @@ module _ (message : List ℕ) (start end : ℕ) (short : length message ≤ mess
   decided-read limit f e refuse derive = verdict-decides edition733 (answer limit) message start end short ordered inside f refuse derive ∙ ap (byVerdict refuse derive end) e
 
   -- a refusal by the verdict
-  pub refused-read : faultOf (scan (take end message) start) ≡ Accepted 0 → {why : Refusal} {rest : List (Symbol Class)} → answer levelLimit (bodySymbols message start end) ≡ refused why rest → RefusedBody message start end (number why) (positionOf end rest)
+  pub refused-read : faultOf (scan (take end message) start) ≡ Accepted 0 → {why : Refusal} {rest : List (Symbol Class)} → answer levelLimit (bodySymbols message start end) ≡ refused why rest → RefusedBody message start end (number why) (startOf end rest)
   refused-read f e A refuse derive = decided-read levelLimit f e refuse derive
 
 pub listed-read : {message : List ℕ} {start end : ℕ} {k : Derivation} → ListBody message start end k → {A : Type 0} (refuse : ℕ → ℕ → A) (derive : Derivation → A) → bodyRead refuse derive message start end ≡ derive k

@@ -15,7 +15,7 @@ use Rattle.records.specs.Believed.AddressRecords.{addressRecordSize, noRecord, 
 use Rattle.scanner.specs.Believed.Symbols.{Symbol}
 use Rattle.scanner.specs.declared.Class.{Class}
 use Rattle.scanner.proofs.Spans.{Placed, none, one, placed}
-use Rattle.grammar.specs.Believed.Grammar.{Row}
+use Rattle.grammar.specs.Believed.Grammar.{Forest}
 use Rattle.grammar.specs.Believed.Records.{count, records}
 use Rattle.grammar.specs.Believed.Rfc733.{Derivation}
 use Rattle.grammar.proofs.Any.Positions.{SymbolsUpTo, ReadBack, read-back}
@@ -43,7 +43,7 @@ placed-up-to h none = tt
 placed-up-to h (one a b c q m rest) = (omega arith, omega arith, placed-up-to h rest)
 
 -- the records of a list in a body are read back
-pub body-read-back : {N : Type 0} (edition : Edition N) → TakesInPlace edition → {message : List ℕ} {start end : ℕ} {k : Row Class N} → ListBodyIn edition message start end k → ReadBack k
+pub body-read-back : {N : Type 0} (edition : Edition N) → TakesInPlace edition → {message : List ℕ} {start end : ℕ} {k : Forest Class N} → ListBodyIn edition message start end k → ReadBack k
 body-read-back edition takes {message} {start} {end} {k} b =
     let text = take end message in
     let within : length text ≤ messageLimit = omega (arith, length-take-le end message (b .clean .inside), b .clean .inside, b .clean .short) in

@@ -18,9 +18,9 @@ use Rattle.scanner.specs.declared.Next.{Next}
 use Rattle.scanner.specs.declared.Next.the-variants.{Found}
 use Rattle.grammar.specs.Believed.Language.{unfit, accepted, refused}
 use Rattle.grammar.specs.Believed.Records.{count}
-use Rattle.grammar.specs.Executable.Machine733.{asRows, answer, top, run, judge}
+use Rattle.grammar.specs.Executable.Machine733.{asForests, answer, top, run, judge}
 use Rattle.grammar.proofs.Rfc733.Condition3.{decides}
-use Rattle.grammar.specs.Executable.Trees733.{asRow, Class, Lexeme, Sym, of, AddressList}
+use Rattle.grammar.specs.Executable.Trees733.{asForest, Class, Lexeme, Sym, of, AddressList}
 use Rattle.grammar.proofs.Rfc733.Complete.{doneList, complete-doneList}
 use Rattle.grammar.proofs.Symbols.{each-of}
 use Rattle.grammar.proofs.Rfc733.Readers.{ListEnds, endsList}
@@ -50,19 +50,19 @@ not-closed limit l class u ys v =
 module _ (classes text : List ℕ) where
   -- of a list from a position on, with so many levels
   module _ (limit at : ℕ) where
-    pub verdict-listed : {last free : ℕ} {table after : List ℕ} (ahead : Next) (l : ListRead classes text at (outermost limit) table after ahead last free) → symbolsAhead classes text ahead ≡ [] → answer limit (symbolsFrom classes text at) ≡ accepted (asRow (l .tree))
-    verdict-listed ahead l e = ap asRows (ap judge (rw (zero-add limit) at (l .reads top tt) ∙ ap (run limit (doneList top (l .tree))) e) ∙ at-the-end limit (l .tree))
+    pub verdict-listed : {last free : ℕ} {table after : List ℕ} (ahead : Next) (l : ListRead classes text at (outermost limit) table after ahead last free) → symbolsAhead classes text ahead ≡ [] → answer limit (symbolsFrom classes text at) ≡ accepted (asForest (l .tree))
+    verdict-listed ahead l e = ap asForests (ap judge (rw (zero-add limit) at (l .reads top tt) ∙ ap (run limit (doneList top (l .tree))) e) ∙ at-the-end limit (l .tree))
 
     pub verdict-stops : {number-told place : ℕ} (s : ListStops classes text at (outermost limit) number-told place) → answer limit (symbolsFrom classes text at) ≡ refused (s .why) (s .rest)
-    verdict-stops s = ap asRows (rw (zero-add limit) at (s .stops top tt))
+    verdict-stops s = ap asForests (rw (zero-add limit) at (s .stops top tt))
 
     pub verdict-closed : {last free a b : ℕ} {class : Class} {table after : List ℕ} → ListRead classes text at (outermost limit) table after (Found class a b) last free → answer limit (symbolsFrom classes text at) ≡ refused unfit (symbolsAhead classes text (Found class a b))
-    verdict-closed {a = a} {b = b} {class = class} l = ap asRows (ap judge (rw (zero-add limit) at (l .reads top tt)) ∙ not-closed limit (l .tree) class (lexemeAt classes text class a b) (symbolsFrom classes text b) (l .ends))
+    verdict-closed {a = a} {b = b} {class = class} l = ap asForests (ap judge (rw (zero-add limit) at (l .reads top tt)) ∙ not-closed limit (l .tree) class (lexemeAt classes text class a b) (symbolsFrom classes text b) (l .ends))
 
   pub whole-listed : {at last free : ℕ} {table after : List ℕ} (ahead : Next) → ListRead classes text at (outermost levelLimit) table after ahead last free → symbolsAhead classes text ahead ≡ [] → IsListed (answer levelLimit) classes text at table after free
   whole-listed {at} {table = table} ahead l e =
       record {
-        derivation = asRow (l .tree);
+        derivation = asForest (l .tree);
         verdict-is = verdict-listed levelLimit at ahead l e;
         count-is = omega (arith, l .count, tree-count (l .tree));
         stored = l .stored ∙ ap (λ rs. sets table 0 (tableBytes rs)) (sym (tree-records (l .tree)));

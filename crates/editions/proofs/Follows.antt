@@ -14,7 +14,7 @@ use Rattle.grammar.specs.Believed.Rfc733.{sameClass}
 use Rattle.grammar.proofs.Symbols.{same-class}
 use Rattle.grammar.specs.Executable.Machines.{Result, ended, stopped, after, Arrow, look, taken}
 use Rattle.grammar.proofs.Rfc733.TreeRecords.{wordLexeme, phraseStart, phraseEnd}
-use Rattle.grammar.specs.Executable.Trees822.{Class, Atom, Quoted, At, LessThan, GreaterThan, Comma, Semicolon, Colon, Stray, Dot, Literal, Lexeme, Sym, of, Phrase, Sub, atomSub, literalSub, Domain, oneSub, moreSub, Local, oneWord, moreWord, Spec, spec, Mailbox, bare, angle, routed, Place, empty, comma, Listed, idle, full, Address, box, group}
+use Rattle.grammar.specs.Executable.Trees822.{Class, Atom, Quoted, At, LessThan, GreaterThan, Comma, Semicolon, Colon, Stray, Dot, Literal, Lexeme, Sym, of, Phrase, Sub, atomSub, literalSub, Domain, oneSub, moreSub, Local, oneWord, moreWord, Spec, spec, Mailbox, bare, angle, routed, Slot, empty, comma, Listed, idle, full, Address, box, group}
 use Rattle.grammar.specs.Executable.Machine822.{Here, inList, inGroup, Open, less, In, bareIn, angleIn, routeIn, Hop, firstAt, nextAt, Behind, ofSpec, ofHop, State, place, word, phrase, local, localDot, at, domain, domainDot, opened, hop, route, boxed, closed, arrows, run}
 use Rattle.editions.specs.Ties.Places.{Walked, walkedBy, oneIf, parentOf, closeRecord, stepFrom, WalkEnd, ends, stops, walkFrom}
 
@@ -53,13 +53,13 @@ addBox (angle p t s u) depth parent rs = addSpec s (suc depth) (suc (length rs))
 addBox (routed p t r s u) depth parent rs = addSpec s (suc depth) (suc (length rs)) (rs ++ (namedRecord 2 p (u .end) depth parent ∷ []))
 
 abbrev mutual
-  pub addBoxPlace : Place Mailbox → ℕ → List AddressRecord → List AddressRecord
-  addBoxPlace empty parent rs = rs
-  addBoxPlace (comma l t) parent rs = addBoxes l parent rs
+  pub addBoxSlot : Slot Mailbox → ℕ → List AddressRecord → List AddressRecord
+  addBoxSlot empty parent rs = rs
+  addBoxSlot (comma l t) parent rs = addBoxes l parent rs
 
   pub addBoxes : Listed Mailbox → ℕ → List AddressRecord → List AddressRecord
-  addBoxes (idle s) parent rs = addBoxPlace s parent rs
-  addBoxes (full s b) parent rs = addBox b 1 parent (addBoxPlace s parent rs)
+  addBoxes (idle s) parent rs = addBoxSlot s parent rs
+  addBoxes (full s b) parent rs = addBox b 1 parent (addBoxSlot s parent rs)
 
 -- a group that ends, or has come to, a position
 abbrev pub opensGroup : Phrase → ℕ → List AddressRecord → List AddressRecord
@@ -70,16 +70,16 @@ addAddress (box b) rs = addBox b 0 0 rs
 addAddress (group p t l u) rs = addBoxes l (suc (length rs)) (opensGroup p (u .end) rs)
 
 abbrev mutual
-  pub addPlace : Place Address → List AddressRecord → List AddressRecord
-  addPlace empty rs = rs
-  addPlace (comma l t) rs = addList l rs
+  pub addSlot : Slot Address → List AddressRecord → List AddressRecord
+  addSlot empty rs = rs
+  addSlot (comma l t) rs = addList l rs
 
   pub addList : Listed Address → List AddressRecord → List AddressRecord
-  addList (idle r) rs = addPlace r rs
-  addList (full r a) rs = addAddress a (addPlace r rs)
+  addList (idle r) rs = addSlot r rs
+  addList (full r a) rs = addAddress a (addSlot r rs)
 
-abbrev placed : Place Address → List AddressRecord
-placed r = addPlace r []
+abbrev placed : Slot Address → List AddressRecord
+placed r = addSlot r []
 
 abbrev pub groupNumber : Here → ℕ
 groupNumber (inList r) = 0
@@ -87,7 +87,7 @@ groupNumber (inGroup r p t s) = suc (length (placed r))
 
 abbrev pub hereRecords : Here → List AddressRecord
 hereRecords (inList r) = placed r
-hereRecords (inGroup r p t s) = addBoxPlace s (suc (length (placed r))) (opensGroup p (t .end) (placed r))
+hereRecords (inGroup r p t s) = addBoxSlot s (suc (length (placed r))) (opensGroup p (t .end) (placed r))
 
 abbrev depthHere : Here → ℕ
 depthHere h = oneIf (groupNumber h)
@@ -202,26 +202,26 @@ longer-box (routed p t r s u) depth parent rs =
     omega (arith, longer-spec s (suc depth) (suc (length rs)) (rs ++ (namedRecord 2 p (u .end) depth parent ∷ [])), length-append rs (namedRecord 2 p (u .end) depth parent ∷ []))
 
 mutual
-  longer-place : (s : Place Mailbox) (parent : ℕ) (rs : List AddressRecord) → length rs ≤ length (addBoxPlace s parent rs)
+  longer-place : (s : Slot Mailbox) (parent : ℕ) (rs : List AddressRecord) → length rs ≤ length (addBoxSlot s parent rs)
   longer-place empty parent rs = omega arith
   longer-place (comma l t) parent rs = longer-boxes l parent rs
 
   longer-boxes : (l : Listed Mailbox) (parent : ℕ) (rs : List AddressRecord) → length rs ≤ length (addBoxes l parent rs)
   longer-boxes (idle s) parent rs = longer-place s parent rs
-  longer-boxes (full s b) parent rs = omega (arith, longer-place s parent rs, longer-box b 1 parent (addBoxPlace s parent rs))
+  longer-boxes (full s b) parent rs = omega (arith, longer-place s parent rs, longer-box b 1 parent (addBoxSlot s parent rs))
 
 mutual
-  set-place : (s : Place Mailbox) (i e parent : ℕ) (rs : List AddressRecord) → i < length rs → setEnd i e (addBoxPlace s parent rs) ≡ addBoxPlace s parent (setEnd i e rs)
+  set-place : (s : Slot Mailbox) (i e parent : ℕ) (rs : List AddressRecord) → i < length rs → setEnd i e (addBoxSlot s parent rs) ≡ addBoxSlot s parent (setEnd i e rs)
   set-place empty i e parent rs h = refl
   set-place (comma l t) i e parent rs h = set-boxes l i e parent rs h
 
   set-boxes : (l : Listed Mailbox) (i e parent : ℕ) (rs : List AddressRecord) → i < length rs → setEnd i e (addBoxes l parent rs) ≡ addBoxes l parent (setEnd i e rs)
   set-boxes (idle s) i e parent rs h = set-place s i e parent rs h
   set-boxes (full s b) i e parent rs h =
-      set-box i e b 1 parent (addBoxPlace s parent rs) (omega (arith, longer-place s parent rs)) ∙ ap (addBox b 1 parent) (set-place s i e parent rs h)
+      set-box i e b 1 parent (addBoxSlot s parent rs) (omega (arith, longer-place s parent rs)) ∙ ap (addBox b 1 parent) (set-place s i e parent rs h)
 
 -- ";" ends the group's record
-group-ends : (r : Place Address) (p : Phrase) (c : Lexeme) (l : Listed Mailbox) (u : Lexeme)
+group-ends : (r : Slot Address) (p : Phrase) (c : Lexeme) (l : Listed Mailbox) (u : Lexeme)
     → setEnd (length (placed r)) (u .end) (addBoxes l (suc (length (placed r))) (opensGroup p (c .end) (placed r))) ≡ addAddress (group p c l u) (placed r)
 group-ends r p c l u =
     set-boxes l (length (placed r)) (u .end) (suc (length (placed r))) (opensGroup p (c .end) (placed r)) (omega (arith, length-append (placed r) (namedRecord 3 p (c .end) 0 0 ∷ [])))

@@ -10,9 +10,9 @@ use lib.ListN.{length}
 use Rattle.octets.specs.Believed.Numbers.{messageLimit, levelLimit, messageTooLong, editionUnknown}
 use Rattle.scanner.specs.Believed.Symbols.{Symbol}
 use Rattle.scanner.specs.declared.Class.{Class}
-use Rattle.grammar.specs.Believed.Grammar.{Row}
+use Rattle.grammar.specs.Believed.Grammar.{Forest}
 use Rattle.grammar.specs.Believed.Language.{Verdict}
-use Rattle.grammar.specs.Believed.Rfc733.{Notion}
+use Rattle.grammar.specs.Believed.Rfc733.{Nonterminal}
 use Rattle.grammar.specs.Executable.{Decides}
 use Rattle.grammar.proofs.Any.Positions.{ReadBack}
 use Rattle.grammar.specs.Executable.Machine733.{answer}
@@ -27,25 +27,25 @@ use Rattle.addresses.proofs.RecordsRead.{TakesInPlace, takes-733, takes-822, bo
 use Rattle.editions.specs.Believed.Outcome.{readOf}
 
 -- whatever is answered of a refusal or of a derivation, of this body it is this
-abbrev pub AnsweredBy : ℕ → List ℕ → ℕ → ℕ → ((A : Type 0) → (ℕ → ℕ → A) → ((N : Type 0) → Row Class N → A) → A) → Type 1
-AnsweredBy edition message start end this = (A : Type 0) (refuse : ℕ → ℕ → A) (derive : (N : Type 0) → Row Class N → A) → readOf edition refuse derive message start end ≡ this A refuse derive
+abbrev pub AnsweredBy : ℕ → List ℕ → ℕ → ℕ → ((A : Type 0) → (ℕ → ℕ → A) → ((N : Type 0) → Forest Class N → A) → A) → Type 1
+AnsweredBy edition message start end this = (A : Type 0) (refuse : ℕ → ℕ → A) (derive : (N : Type 0) → Forest Class N → A) → readOf edition refuse derive message start end ≡ this A refuse derive
 
 -- refused, or a list
 pub data JudgedOf (edition : ℕ) (message : List ℕ) (start end : ℕ) : Type 1 where
   refusedAt : (n p : ℕ) → AnsweredBy edition message start end (λ A refuse derive. refuse n p) → JudgedOf edition message start end
-  listed : {N : Type 0} (k : Row Class N) → ReadBack k → AnsweredBy edition message start end (λ A refuse derive. derive N k) → JudgedOf edition message start end
+  listed : {N : Type 0} (k : Forest Class N) → ReadBack k → AnsweredBy edition message start end (λ A refuse derive. derive N k) → JudgedOf edition message start end
 
 -- in RFC 733 it is what is answered where no edition is told
-pub unchanged-733 : {A : Type 0} (refuse : ℕ → ℕ → A) (derive : (N : Type 0) → Row Class N → A) (message : List ℕ) (start end : ℕ) → readOf 733 refuse derive message start end ≡ bodyRead refuse (derive Notion) message start end
+pub unchanged-733 : {A : Type 0} (refuse : ℕ → ℕ → A) (derive : (N : Type 0) → Forest Class N → A) (message : List ℕ) (start end : ℕ) → readOf 733 refuse derive message start end ≡ bodyRead refuse (derive Nonterminal) message start end
 unchanged-733 refuse derive message start end = by (ltb messageLimit (length message)) refl
   where
-    by : (long : Bool) → ltb messageLimit (length message) ≡ long → readOf 733 refuse derive message start end ≡ bodyRead refuse (derive Notion) message start end
+    by : (long : Bool) → ltb messageLimit (length message) ≡ long → readOf 733 refuse derive message start end ≡ bodyRead refuse (derive Nonterminal) message start end
     by true e = rw e
     by false e = rw e
 
 module _ (edition : ℕ) (message : List ℕ) (start end : ℕ) where
   -- an edition with rules
-  by-rules : {N : Type 0} (ed : Edition N) (least : ℕ) (answerOf : ℕ → List (Symbol Class) → Verdict Class (Row Class N)) → Decides (ed .grammar) (ed .list) least answerOf → least ≤ levelLimit → TakesInPlace ed
+  by-rules : {N : Type 0} (ed : Edition N) (least : ℕ) (answerOf : ℕ → List (Symbol Class) → Verdict Class (Forest Class N)) → Decides (ed .grammar) (ed .list) least answerOf → least ≤ levelLimit → TakesInPlace ed
       → AnsweredBy edition message start end (λ A refuse derive. readIn ed (answerOf levelLimit) refuse (derive N) message start end) → JudgedOf edition message start end
   by-rules {N} ed least answerOf right below takes same =
       elim (judged-in ed least answerOf right below message start end) [

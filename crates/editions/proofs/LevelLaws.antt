@@ -18,9 +18,9 @@ use Rattle.scanner.specs.Believed.Answers.{unlessFault}
 use Rattle.scanner.specs.Believed.Characters.{charactersAt}
 use Rattle.scanner.specs.declared.Class.{Class}
 use Rattle.scanner.proofs.FaultNumbers.{isFault, Numbered, numbered}
-use Rattle.grammar.specs.Believed.Grammar.{Row}
+use Rattle.grammar.specs.Believed.Grammar.{Forest}
 use Rattle.grammar.specs.Believed.Language.{unfit, unfinished, tooDeep, Verdict, accepted, refused}
-use Rattle.grammar.specs.Believed.Rfc822.{Notion}
+use Rattle.grammar.specs.Believed.Rfc822.{Nonterminal}
 use Rattle.grammar.specs.Believed.Records.{count}
 use Rattle.grammar.specs.Executable.Machine822.{read}
 use Rattle.grammar.proofs.Rfc822.Condition3.{decides, never-ten}
@@ -49,12 +49,12 @@ scanned table (next x rest) o n h = scanned table rest o n h
 scanned table (faultAt number p) o n h = no-fault number n
 
 -- a list is accepted, or there is too little room for it
-listed : (table : List ℕ) (k : Row Class Notion) (t : Bool) → ltb (roomFor addressRecordSize table) (count k) ≡ t → Shallow (derived table k .answer)
+listed : (table : List ℕ) (k : Forest Class Nonterminal) (t : Bool) → ltb (roomFor addressRecordSize table) (count k) ≡ t → Shallow (derived table k .answer)
 listed table k true e = rw e (λ q. absurd (omega (arith, q)))
 listed table k false e = rw e (λ q. absurd (omega (arith, q)))
 
 -- the verdict is never that of too many levels
-judged : (end : ℕ) (table : List ℕ) (xs : List (Symbol Class)) (v : Verdict Class (Row Class Notion)) → read levelLimit xs ≡ v → Shallow (decided end table v .answer)
+judged : (end : ℕ) (table : List ℕ) (xs : List (Symbol Class)) (v : Verdict Class (Forest Class Nonterminal)) → read levelLimit xs ≡ v → Shallow (decided end table v .answer)
 judged end table xs (accepted k) e = listed table k _ refl
 judged end table xs (refused unfit rest) e = λ q. absurd (omega (arith, q))
 judged end table xs (refused unfinished rest) e = λ q. absurd (omega (arith, q))

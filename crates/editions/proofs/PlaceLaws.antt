@@ -9,11 +9,11 @@ use Rattle.octets.specs.Believed.Choice.{pick, both}
 use Rattle.addresses.proofs.TableRows.{cell-at}
 use Rattle.scanner.specs.declared.Class.{Class}
 use Rattle.grammar.specs.Believed.Rfc733.{classNumber}
-use Rattle.editions.specs.Ties.Places.{Row, Effect, nothing, firstWord, furtherWord, mailboxRecord, mailboxEnd, angleRecord, angleEnd, groupRecord, groupEnd, refuse, no, rows, rowAt, nextPlace, effectOf, endsAt, effectNumber, cells, placeCount, columns, placeTable, noGroup, oneIf, parentOf}
+use Rattle.editions.specs.Ties.Places.{Row, Effect, nothing, firstWord, furtherWord, mailboxRecord, mailboxEnd, angleRecord, angleEnd, groupRecord, groupEnd, refuse, no, rows, rowAt, nextPlace, effectOf, endsAt, effectNumber, cells, slotCount, columns, placeTable, noGroup, oneIf, parentOf}
 use Rattle.editions.specs.Ties.Walks.{effects, effectFrom}
 
 -- a column of a row
-column-at : (place j : ℕ) → place < placeCount → j < columns → getD placeTable (place * columns + j) 0 ≡ getD (cells (rowAt place)) j no
+column-at : (place j : ℕ) → place < slotCount → j < columns → getD placeTable (place * columns + j) 0 ≡ getD (cells (rowAt place)) j no
 unfolding placeTable
 column-at place j h l = cell-at columns (λ i k. getD (cells (rowAt i)) k no) (omega arith) placeTable tt place j l (omega arith)
 
@@ -21,7 +21,7 @@ column-at place j h l = cell-at columns (λ i k. getD (cells (rowAt i)) k no) (o
 next-cell : (r : Row) (n : ℕ) → getD (cells r) (n + 2) no ≡ getD (r .next) n no
 next-cell r n = let k : n + 2 ≡ suc (suc n) = omega arith in ap (λ (i : ℕ). getD (cells r) i no) k
 
-pub next-at : (place : ℕ) (class : Class) (n : ℕ) → place < placeCount → n ≡ classNumber class → n < 11 → getD placeTable (place * columns + (n + 2)) 0 ≡ nextPlace place class
+pub next-at : (place : ℕ) (class : Class) (n : ℕ) → place < slotCount → n ≡ classNumber class → n < 11 → getD placeTable (place * columns + (n + 2)) 0 ≡ nextPlace place class
 next-at place class n h e l = column-at place (n + 2) h (omega arith) ∙ next-cell (rowAt place) n ∙ ap (λ (i : ℕ). getD (rowAt place .next) i no) e
 
 effect-back : (e : Effect) → effectFrom (effectNumber e) ≡ e
@@ -36,11 +36,11 @@ effect-back groupRecord = refl
 effect-back groupEnd = refl
 effect-back refuse = refl
 
-pub effect-in : (place : ℕ) → place < placeCount → effectFrom (getD placeTable (place * columns + 0) 0) ≡ effectOf place
+pub effect-in : (place : ℕ) → place < slotCount → effectFrom (getD placeTable (place * columns + 0) 0) ≡ effectOf place
 effect-in place h = ap effectFrom (column-at place 0 h (omega arith)) ∙ effect-back (effectOf place)
 
 -- past the rows there is no place
-pub effect-out : (place : ℕ) → placeCount ≤ place → refuse ≡ effectOf place
+pub effect-out : (place : ℕ) → slotCount ≤ place → refuse ≡ effectOf place
 effect-out place h = ap (λ r. r .effect) (sym (List·getD-eq-default rows _ h))
 
 least : (r : ℕ) → 0 ≤ r
@@ -59,7 +59,7 @@ bit : (b : Bool) → eqb (pick b 1 0) 1 ≡ b
 bit true = refl
 bit false = refl
 
-pub ends-in : (place group : ℕ) → place < placeCount → group ≡ 0 → eqb (getD placeTable (place * columns + 1) 0) 1 ≡ both (endsAt place) (noGroup group)
+pub ends-in : (place group : ℕ) → place < slotCount → group ≡ 0 → eqb (getD placeTable (place * columns + 1) 0) 1 ≡ both (endsAt place) (noGroup group)
 ends-in place group h z = ap (λ (n : ℕ). eqb n 1) (column-at place 1 h (omega arith)) ∙ bit (endsAt place) ∙ rw z (both-true (endsAt place))
   where
     both-true : (b : Bool) → b ≡ both b true

@@ -12,7 +12,7 @@ use Rattle.records.specs.Believed.AddressRecords.{addressRecordSize, AddressRec
 use Rattle.records.specs.Ties.Ends.{setEnd}
 use Rattle.scanner.specs.Believed.Symbols.{Lexeme}
 use Rattle.scanner.specs.declared.Class.{Class}
-use Rattle.editions.specs.Ties.Places.{Walked, walkedBy, placeCount, nextPlace, effectOf, refuse, effect, stepFrom, addRecord, closeRecord, openGroup}
+use Rattle.editions.specs.Ties.Places.{Walked, walkedBy, slotCount, nextPlace, effectOf, refuse, effect, stepFrom, addRecord, closeRecord, openGroup}
 use Rattle.records.proofs.EndLaws.{end-stored}
 use Rattle.records.proofs.TableLaws.{stored-last}
 use Rattle.editions.specs.declared.Walk.{Walk}
@@ -34,7 +34,7 @@ pub record Leads (w : Walk) (class : Class) (next k : ℕ) : Type 0 where
   pub fine : Fine w
   pub next-is : next ≡ nextPlace (w .place) class
   pub effect-is : effectFrom k ≡ effectOf next
-  pub low : k < 9 → next < placeCount
+  pub low : k < 9 → next < slotCount
 
 module _ {w : Walk} {class : Class} {next k : ℕ} (x : Leads w class next k) (start end : ℕ) (table : List ℕ) where
   abbrev lexeme : List ℕ → Lexeme

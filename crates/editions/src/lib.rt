@@ -13,7 +13,7 @@ ghost use Rattle.addresses.specs.Believed.Editions.{classIn822};
 ghost use Rattle.addresses.specs.Ties.Whole.{Body, WholeIs, TwiceIs};
 ghost use Rattle.addresses.specs.Believed.Outcome.{AnsweredBy};
 ghost use Rattle.editions.specs.Believed.Outcome.{verdict822, outcome822, outcomeOf, Condition3Of, NeverTooDeep};
-ghost use Rattle.editions.specs.Ties.Places.{placeCount, columns, nextPlace, placeTable, effectOf, endsAt, noGroup, oneIf, parentOf};
+ghost use Rattle.editions.specs.Ties.Places.{slotCount, columns, nextPlace, placeTable, effectOf, endsAt, noGroup, oneIf, parentOf};
 ghost use Rattle.editions.specs.Ties.Walks.{effectFrom, Fine, newBy, walkBy, CloseIs, StepIs};
 use crate::places::COLUMNS;
 use crate::places::EFFECT;
@@ -64,7 +64,7 @@ const GROUP: u8 = 3;
 
 // A number of the table: that of a place in a column.
 fn cell(places: &[u8; TABLE_SIZE], place: usize, column: usize) -> u8
-    requires { ⌜ (place < placeCount) × (column < columns) ⌝ }
+    requires { ⌜ (place < slotCount) × (column < columns) ⌝ }
     ensures { λ r. ⌜ r ≡ getD (now (places .entry)) (place * columns + column) 0 ⌝ }
 {
     places[place * COLUMNS + column]
@@ -72,7 +72,7 @@ fn cell(places: &[u8; TABLE_SIZE], place: usize, column: usize) -> u8
 
 // The next place, from a place by a symbol of a class.
 fn next_place(places: &[u8; TABLE_SIZE], place: usize, class: Class) -> usize
-    requires { ⌜ (place < placeCount) × (now places ≡ placeTable) ⌝ }
+    requires { ⌜ (place < slotCount) × (now places ≡ placeTable) ⌝ }
     ensures { λ r. ⌜ r ≡ nextPlace place class ⌝ }
 {
     cell(places, place, class_number(class) + NEXT) as usize
@@ -81,7 +81,7 @@ fn next_place(places: &[u8; TABLE_SIZE], place: usize, class: Class) -> usize
 // What coming to a place does; 9 where it is none.
 fn effect_at(places: &[u8; TABLE_SIZE], place: usize) -> u8
     requires { ⌜ now places ≡ placeTable ⌝ }
-    ensures { λ r. ⌜ (effectFrom r ≡ effectOf place) × (r < 9 → place < placeCount) ⌝ }
+    ensures { λ r. ⌜ (effectFrom r ≡ effectOf place) × (r < 9 → place < slotCount) ⌝ }
 {
     if PLACES <= place {
         return 9;
@@ -91,7 +91,7 @@ fn effect_at(places: &[u8; TABLE_SIZE], place: usize) -> u8
 
 // Whether a list may end here.
 fn may_end(places: &[u8; TABLE_SIZE], w: Walk) -> bool
-    requires { ⌜ (w .place < placeCount) × (now places ≡ placeTable) ⌝ }
+    requires { ⌜ (w .place < slotCount) × (now places ≡ placeTable) ⌝ }
     ensures { λ r. ⌜ r ≡ both (endsAt (w .place)) (noGroup (w .group)) ⌝ }
 {
     if w.group != 0 {

@@ -12,7 +12,7 @@ use Rattle.octets.specs.Believed.Text.{bytes}
 use Rattle.grammar.specs.Believed.Rfc733.{kindNumber, typedKind, angleList, group, include, postal, otherTyped}
 use Rattle.records.specs.Believed.AddressRecords.{addressRecordSize, recordBy, recordBytes, addressLayout}
 use Rattle.records.proofs.TableLaws.{stored-in-front}
-use Rattle.grammar.specs.Executable.Trees733.{Lexeme, Place, Address, typed}
+use Rattle.grammar.specs.Executable.Trees733.{Lexeme, Slot, Address, typed}
 use Rattle.grammar.specs.Executable.Machine733.{Here, inList, inTyped, Level, top, inAngle, inGroup, asList, close, levelsHere, levelsAt}
 use Rattle.grammar.proofs.Rfc733.TreeRecords.{listCount, addressCount, addressRecords, addressRecord}
 use Rattle.grammar.proofs.RecordLaws.{stored-behind}
@@ -104,7 +104,7 @@ close-depth (inList k r) a = omega arith
 close-depth (inTyped h t y u) a = omega (arith, close-depth h (typed t y u a))
 
 -- an address of a list
-pub closed-list : (lent stack table : List ℕ) (depth end : ℕ) (k : Level) (r : Place) (a : Address) → Closing lent stack table depth end (inList k r) a → Closed lent (close (inList k r) a) table depth
+pub closed-list : (lent stack table : List ℕ) (depth end : ℕ) (k : Level) (r : Slot) (a : Address) → Closing lent stack table depth end (inList k r) a → Closed lent (close (inList k r) a) table depth
 closed-list lent stack table depth end k r a c =
     record { depth-is = c .is-open .depth-is; stored = c .stored ∙ stored-behind (storedLevel lent k) (parentAt k) r a (levelsAt k) (parentAt k) }
 

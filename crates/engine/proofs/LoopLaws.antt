@@ -16,8 +16,8 @@ use Rattle.scanner.specs.Ties.Meanings.{meaningAt}
 use Rattle.grammar.specs.Believed.Language.{unfinished}
 use Rattle.grammar.specs.Believed.Rfc733.{classNumber}
 use Rattle.grammar.specs.Executable.Machines.{ended, stopped, atEnd, standsBy}
-use Rattle.grammar.specs.Executable.Trees733.{Class, Atom, asRow}
-use Rattle.grammar.specs.Executable.Machine733.{State, stepOn, step, run, judge, asRows, answer}
+use Rattle.grammar.specs.Executable.Trees733.{Class, Atom, asForest}
+use Rattle.grammar.specs.Executable.Machine733.{State, stepOn, step, run, judge, asForests, answer}
 use Rattle.grammar.specs.Executable.Machine733 as machine
 use Rattle.grammar.proofs.Rfc733.TreeRecords.{tree-records, tree-count}
 use Rattle.addresses.specs.Ties.Steps.{symbolsFrom, symbolsAhead, lexemeAt}
@@ -118,7 +118,7 @@ module _ {classes text lent : List ℕ} {from : ℕ} {e : Engine} {stack table :
       record {
         table = table;
         stands = stands-as (r .stood ∙ ap (standsBy step levelLimit (r .state)) (x .same) ∙ rw (g .steps) refl) (g .kept) (r .stands);
-        refused = record { why = g .why; rest = symbolsAhead classes text (Found c a b); verdict-is = ap asRows (ap judge v); number-is = g .number-is; place-is = refl };
+        refused = record { why = g .why; rest = symbolsAhead classes text (Found c a b); verdict-is = ap asForests (ap judge v); number-is = g .number-is; place-is = refl };
       }
 
   -- no symbol is left
@@ -136,10 +136,10 @@ module _ {classes text lent : List ℕ} {from : ℕ} {e : Engine} {stack table :
   pub ended-whole : (after : List ℕ) (w : Whole) → FinishedIs text lent (stopOf classes text from) after w → WholeIs (answer levelLimit) classes text from lent after w
   ended-whole after (Listed n) f =
       record {
-        derivation = asRow (f .tree);
-        verdict-is = ap asRows (ap judge (x .reads) ∙ ap atEnd (f .is));
+        derivation = asForest (f .tree);
+        verdict-is = ap asForests (ap judge (x .reads) ∙ ap atEnd (f .is));
         count-is = omega (arith, f .count-is, tree-count (f .tree));
         stored = f .stored ∙ ap (λ rs. sets lent 0 (tableBytes rs)) (sym (tree-records (f .tree)));
       }
   ended-whole after (Refused n p) f =
-      record { why = unfinished; rest = []; verdict-is = ap asRows (ap judge (x .reads) ∙ ap atEnd (f .is)); number-is = f .number-is; place-is = f .place-is }
+      record { why = unfinished; rest = []; verdict-is = ap asForests (ap judge (x .reads) ∙ ap atEnd (f .is)); number-is = f .number-is; place-is = f .place-is }

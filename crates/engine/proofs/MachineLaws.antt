@@ -5,7 +5,7 @@ use mathlib.Core.Option.{Option, none, some}
 use native.Mathlib.Omega.{arith}
 use Rattle.grammar.specs.Believed.Language.{unfit}
 use Rattle.grammar.specs.Executable.Machines.{go, stop}
-use Rattle.grammar.specs.Executable.Trees733.{Class, Atom, Quoted, At, LessThan, GreaterThan, Comma, Semicolon, Colon, Stray, Dot, Literal, Lexeme, Word, atomWord, quotedWord, Phrase, one, more, Nodes, first, next, Place, empty, comma, AddressList, idle, full, Address, mailbox, quoted}
+use Rattle.grammar.specs.Executable.Trees733.{Class, Atom, Quoted, At, LessThan, GreaterThan, Comma, Semicolon, Colon, Stray, Dot, Literal, Lexeme, Word, atomWord, quotedWord, Phrase, one, more, Nodes, first, next, Slot, empty, comma, AddressList, idle, full, Address, mailbox, quoted}
 use Rattle.grammar.specs.Executable.Machine733.{Here, inList, inTyped, Level, top, inAngle, inGroup, State, list, phrase, firstAt, nextAt, node, want, close, enter, Began, fresh, phraseColon, stepOn, finish, wholeOf, complete, onGreaterThan, onComma, onSemicolon}
 use Rattle.grammar.proofs.Rfc733.Complete.{begin}
 use Rattle.engine.specs.Ties.Actions.{Mode, atPlace, wanting, atWords, Act, refuses, begins, adds, passes, opens, opensNamed, turnsTyped, endsAtComma, closes, endsAndCloses, finishes, endsAndFinishes, Action, _then_, placeRow, wordsRow, rowOf, onClass, actionOf, afterAddress}
@@ -144,7 +144,7 @@ atom-row none = refl
 atom-row (some b) = refl
 
 module _ (n : ℕ) (t : Lexeme) where
-  at-place : (k : Level) (r : Place) (o : Option Began) → fresh (inList k r) ≡ o → (c : Class) → DoesSo (onClass (placeRow (atomMode o)) c) n (list k (idle r)) c t
+  at-place : (k : Level) (r : Slot) (o : Option Began) → fresh (inList k r) ≡ o → (c : Class) → DoesSo (onClass (placeRow (atomMode o)) c) n (list k (idle r)) c t
   at-place k r o e Atom = record { here = inList k r; word = atomWord t; at = refl; is = atomIs; steps = refl; mode-is = ap atomMode e }
   at-place k r o e Quoted = record { here = inList k r; word = quotedWord t; at = refl; is = quotedIs; steps = refl; mode-is = refl }
   at-place k r o e At = refl

@@ -14,7 +14,7 @@ use Rattle.octets.specs.declared.answers.Answer.the-variants.{Accepted, Refused
 use Rattle.records.specs.Believed.AddressRecords.{addressRecordSize, tableBytes}
 use Rattle.scanner.specs.Believed.Scanning.{Scanned, next, scan, symbolsOf}
 use Rattle.scanner.specs.Believed.Answers.{unlessFault, faultOf}
-use Rattle.grammar.specs.Believed.Language.{Verdict, accepted, refused, number, positionOf}
+use Rattle.grammar.specs.Believed.Language.{Verdict, accepted, refused, number, startOf}
 use Rattle.grammar.specs.Believed.Records.{count, records}
 use Rattle.grammar.specs.Believed.Rfc733.{Derivation}
 use Rattle.grammar.specs.Executable.Machine733.{answer}
@@ -93,7 +93,7 @@ module _ {message other : List ℕ} {start end start′ end′ : ℕ} (c : Check
       both-listed k j (record { clean = record { short = c .short; ordered = c .ordered; inside = c .inside; faultless = f }; list = l }) b m n
   by-verdict f g (refused why rest) e =
       let (place, e′) = refused-alike levelLimit (alike-symbols a) why rest e in
-      both-refused (number why) (positionOf end rest) (positionOf end′ place) (refused-read message start end (c .short) (c .ordered) (c .inside) f e) (refused-read other start′ end′ (d .short) (d .ordered) (d .inside) g e′)
+      both-refused (number why) (startOf end rest) (startOf end′ place) (refused-read message start end (c .short) (c .ordered) (c .inside) f e) (refused-read other start′ end′ (d .short) (d .ordered) (d .inside) g e′)
 
   by-faults : AlikeFaults (scan (take end message) start) (scan (take end′ other) start′) → Alike message start end other start′ end′
   by-faults (faultless f g) = by-verdict f g _ refl

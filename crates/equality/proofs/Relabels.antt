@@ -5,36 +5,36 @@ use mathlib.Core.Bool.{Bool}
 use mathlib.Core.List.{List, [], _∷_, _++_}
 use mathlib.Core.Option.{Option, none, some}
 use Rattle.octets.specs.Believed.Choice.{pick, both}
-use Rattle.grammar.specs.Believed.Grammar.{Item, Makes, Rule, Grammar, Row, nil, leaf, branch, yieldThen, yield, levels, begins, Allowed, Fits, done, take, apply}
+use Rattle.grammar.specs.Believed.Grammar.{Item, Makes, Rule, Grammar, Forest, nil, leaf, branch, yieldThen, yield, levels, begins, Allowed, Fits, done, take, apply}
 use Rattle.grammar.specs.Believed.Records.{meaningOf, partOf, nameOf, count}
 use Rattle.grammar.specs.Believed.Rfc733.{Derivation, DerivedList}
 use Rattle.grammar.specs.Executable.Trees733.{Class, Sym}
 use Rattle.plain.specs.Believed.Meaning.{noWord, andSymbol, Words, wordsAfter, Addresses, noAddress, andAddress, addressOf, addressesAfter, meaning}
 use Rattle.equality.proofs.Shifts.{AlikeSymbols, no-symbol, one-symbol, AlikeSymbol}
 
--- ---- rows of the same rules over alike symbols
+-- ---- forests of the same rules over alike symbols
 
-data AlikeRows {N : Type 0} : Row Class N → Row Class N → Type 0 where
-  nils : AlikeRows nil nil
-  leaves : {x y : Sym} {row row′ : Row Class N} → AlikeSymbol x y → AlikeRows row row′ → AlikeRows (leaf x row) (leaf y row′)
-  branches : (rule : Rule Class N) {parts parts′ row row′ : Row Class N} → AlikeRows parts parts′ → AlikeRows row row′ → AlikeRows (branch rule parts row) (branch rule parts′ row′)
+data AlikeForests {N : Type 0} : Forest Class N → Forest Class N → Type 0 where
+  nils : AlikeForests nil nil
+  leaves : {x y : Sym} {forest forest′ : Forest Class N} → AlikeSymbol x y → AlikeForests forest forest′ → AlikeForests (leaf x forest) (leaf y forest′)
+  branches : (rule : Rule Class N) {parts parts′ forest forest′ : Forest Class N} → AlikeForests parts parts′ → AlikeForests forest forest′ → AlikeForests (branch rule parts forest) (branch rule parts′ forest′)
 
--- other symbols, alike to those of a row and then others: a row over them, and the rest
-record Relabelled {N : Type 0} (row : Row Class N) (xs ys : List Sym) : Type 0 where
-  again : Row Class N
+-- other symbols, alike to those of a forest and then others: a forest over them, and the rest
+record Relabelled {N : Type 0} (forest : Forest Class N) (xs ys : List Sym) : Type 0 where
+  again : Forest Class N
   rest : List Sym
   is : ys ≡ yieldThen again rest
-  alike : AlikeRows row again
+  alike : AlikeForests forest again
   left : AlikeSymbols xs rest
 
-relabelled : {N : Type 0} (row : Row Class N) (xs ys : List Sym) → AlikeSymbols (yieldThen row xs) ys → Relabelled row xs ys
+relabelled : {N : Type 0} (forest : Forest Class N) (xs ys : List Sym) → AlikeSymbols (yieldThen forest xs) ys → Relabelled forest xs ys
 relabelled nil xs ys a = record { again = nil; rest = ys; is = refl; alike = nils; left = a }
-relabelled (leaf x row) xs ys (one-symbol {y = y} {ys = zs} h a) =
-    let r = relabelled row xs zs a in
+relabelled (leaf x forest) xs ys (one-symbol {y = y} {ys = zs} h a) =
+    let r = relabelled forest xs zs a in
     record { again = leaf y (r .again); rest = r .rest; is = ap (λ l. y ∷ l) (r .is); alike = leaves h (r .alike); left = r .left }
-relabelled (branch rule parts row) xs ys a =
-    let p = relabelled parts (yieldThen row xs) ys a in
-    let r = relabelled row xs (p .rest) (p .left) in
+relabelled (branch rule parts forest) xs ys a =
+    let p = relabelled parts (yieldThen forest xs) ys a in
+    let r = relabelled forest xs (p .rest) (p .left) in
     record { again = branch rule (p .again) (r .again); rest = r .rest; is = p .is ∙ ap (yieldThen (p .again)) (r .is); alike = branches rule (p .alike) (r .alike); left = r .left }
 
 -- ---- they have the same levels and as many addresses, and fit the same items of a grammar
@@ -49,29 +49,29 @@ still-allowed same none a h = tt
 still-allowed same (some cs) a h = same-begins same cs a ∙ h
 
 module _ {N : Type 0} where
-  same-levels : {row row′ : Row Class N} → AlikeRows row row′ → levels row′ ≡ levels row
+  same-levels : {forest forest′ : Forest Class N} → AlikeForests forest forest′ → levels forest′ ≡ levels forest
   same-levels nils = refl
   same-levels (leaves h a) = same-levels a
   same-levels (branches rule p a) = ap₂ (λ m n. max (pick (rule .opens) 1 0 + m) n) (same-levels p) (same-levels a)
 
-  same-count : {row row′ : Row Class N} → AlikeRows row row′ → count row′ ≡ count row
+  same-count : {forest forest′ : Forest Class N} → AlikeForests forest forest′ → count forest′ ≡ count forest
   same-count nils = refl
   same-count (leaves h a) = same-count a
   same-count (branches rule p a) = ap₂ (λ m n. elim (rule .makes) [ none ↦ 0 | some makes ↦ 1 ] + m + n) (same-count p) (same-count a)
 
-  alike-yields : {row row′ : Row Class N} → AlikeRows row row′ → {xs ys : List Sym} → AlikeSymbols xs ys → AlikeSymbols (yieldThen row xs) (yieldThen row′ ys)
+  alike-yields : {forest forest′ : Forest Class N} → AlikeForests forest forest′ → {xs ys : List Sym} → AlikeSymbols xs ys → AlikeSymbols (yieldThen forest xs) (yieldThen forest′ ys)
   alike-yields nils b = b
   alike-yields (leaves h a) b = one-symbol h (alike-yields a b)
   alike-yields (branches rule p a) b = alike-yields p (alike-yields a b)
 
-  fits-too : {G : Grammar Class N} {items : List (Item Class N)} {row row′ : Row Class N} → Fits G items row → AlikeRows row row′ → Fits G items row′
+  fits-too : {G : Grammar Class N} {items : List (Item Class N)} {forest forest′ : Forest Class N} → Fits G items forest → AlikeForests forest forest′ → Fits G items forest′
   fits-too done nils = done
   fits-too (take e f) (leaves h a) = take (h .class ∙ e) (fits-too f a)
   fits-too {G} (apply m f l g) (branches rule p a) = apply m (fits-too f p) (still-allowed (G .same) (rule .never) (alike-yields p no-symbol) l) (fits-too g a)
 
   -- ---- and the same parts
 
-  alike-parts : (i : ℕ) {row row′ : Row Class N} → AlikeRows row row′ → AlikeSymbols (partOf i row) (partOf i row′)
+  alike-parts : (i : ℕ) {forest forest′ : Forest Class N} → AlikeForests forest forest′ → AlikeSymbols (partOf i forest) (partOf i forest′)
   alike-parts zero nils = no-symbol
   alike-parts zero (leaves h a) = one-symbol h no-symbol
   alike-parts zero (branches rule p a) = alike-yields p no-symbol
@@ -79,7 +79,7 @@ module _ {N : Type 0} where
   alike-parts (suc i) (leaves h a) = alike-parts i a
   alike-parts (suc i) (branches rule p a) = alike-parts i a
 
-  alike-names : (name : Option ℕ) {row row′ : Row Class N} → AlikeRows row row′ → AlikeSymbols (nameOf name row) (nameOf name row′)
+  alike-names : (name : Option ℕ) {forest forest′ : Forest Class N} → AlikeForests forest forest′ → AlikeSymbols (nameOf name forest) (nameOf name forest′)
   alike-names none a = no-symbol
   alike-names (some i) a = alike-parts i a
 
@@ -93,23 +93,23 @@ same-words : (before : Words) {xs ys : List Sym} → AlikeSymbols xs ys → word
 same-words before no-symbol = refl
 same-words before (one-symbol {x} {y} {xs} {ys} h a) = same-words (andSymbol before (y .class) (y .lexeme .meaning)) a ∙ ap₂ (λ c t. wordsAfter (andSymbol before c t) xs) (h .class) (h .meaning)
 
-same-address : (makes : Makes) (members : Addresses) {parts parts′ : Derivation} → AlikeRows parts parts′ → addressOf makes parts′ members ≡ addressOf makes parts members
+same-address : (makes : Makes) (members : Addresses) {parts parts′ : Derivation} → AlikeForests parts parts′ → addressOf makes parts′ members ≡ addressOf makes parts members
 same-address makes members {parts} {parts′} a =
     let n = alike-names (makes .name) a in
     rw (same-meaning n, same-words noWord n, same-words noWord (alike-parts 1 a))
 
-same-addresses : {row row′ : Derivation} → AlikeRows row row′ → (before : Addresses) → addressesAfter before row′ ≡ addressesAfter before row
+same-addresses : {forest forest′ : Derivation} → AlikeForests forest forest′ → (before : Addresses) → addressesAfter before forest′ ≡ addressesAfter before forest
 same-addresses nils before = refl
 same-addresses (leaves h a) before = same-addresses a before
-same-addresses (branches rule {parts} {parts′} {row} {row′} p a) before =
+same-addresses (branches rule {parts} {parts′} {forest} {forest′} p a) before =
     by (rule .makes) (same-addresses p before) (same-addresses p noAddress) (λ l. same-addresses a l)
   where
     by : (makes : Option Makes) → addressesAfter before parts′ ≡ addressesAfter before parts → addressesAfter noAddress parts′ ≡ addressesAfter noAddress parts
-        → ((l : Addresses) → addressesAfter l row′ ≡ addressesAfter l row)
-        → addressesAfter (elim makes [ none ↦ addressesAfter before parts′ | some m ↦ andAddress before (addressOf m parts′ (addressesAfter noAddress parts′)) ]) row′
-        ≡ addressesAfter (elim makes [ none ↦ addressesAfter before parts | some m ↦ andAddress before (addressOf m parts (addressesAfter noAddress parts)) ]) row
-    by none e f g = g _ ∙ ap (λ l. addressesAfter l row) e
-    by (some m) e f g = g _ ∙ ap (λ x. addressesAfter (andAddress before x) row) (same-address m (addressesAfter noAddress parts′) p ∙ ap (addressOf m parts) f)
+        → ((l : Addresses) → addressesAfter l forest′ ≡ addressesAfter l forest)
+        → addressesAfter (elim makes [ none ↦ addressesAfter before parts′ | some m ↦ andAddress before (addressOf m parts′ (addressesAfter noAddress parts′)) ]) forest′
+        ≡ addressesAfter (elim makes [ none ↦ addressesAfter before parts | some m ↦ andAddress before (addressOf m parts (addressesAfter noAddress parts)) ]) forest
+    by none e f g = g _ ∙ ap (λ l. addressesAfter l forest) e
+    by (some m) e f g = g _ ∙ ap (λ x. addressesAfter (andAddress before x) forest) (same-address m (addressesAfter noAddress parts′) p ∙ ap (addressOf m parts) f)
 
 -- ---- a derivation over other symbols, with the same addresses, levels and count
 

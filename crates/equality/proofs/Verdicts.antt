@@ -42,7 +42,7 @@ parted (w ∷ before) x after ys (one-symbol {y = y} {ys = zs} h a) =
 alike-up-to : {p q : List Sym} {x y : Sym} → AlikeSymbols p q → AlikeSymbol x y → AlikeSymbols (upTo p x) (upTo q y)
 alike-up-to a h = together a (one-symbol h no-symbol)
 
--- ---- over any notion that derives alike symbols alike
+-- ---- over any relation that derives alike symbols alike
 
 -- a derivation of other symbols, of as many levels
 record Carried {T : Type 0} (Derives : T → List Sym → Type 0) (deep : T → ℕ) (t : T) (ys : List Sym) : Type 0 where

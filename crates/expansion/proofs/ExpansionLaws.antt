@@ -18,10 +18,10 @@ use Rattle.scanner.proofs.BodyChecks.{in-order}
 use Rattle.grammar.specs.Believed.Grammar.{levels}
 use Rattle.grammar.specs.Believed.Rfc733.{Derivation, DerivedList, kindNumber, typedKind}
 use Rattle.grammar.specs.Believed.Rfc733 as rfc733
-use Rattle.grammar.specs.Executable.Trees733.{Colon, Comma, LessThan, GreaterThan, Semicolon, Sym, of, Place, empty, comma, AddressList, idle, full, mailbox, angle, group, quoted, typed, asRow}
-use Rattle.grammar.proofs.Rfc733.Trees.{nodesThen, placeThen, listThen, addressThen, placeLevels, listLevels, addressLevels}
+use Rattle.grammar.specs.Executable.Trees733.{Colon, Comma, LessThan, GreaterThan, Semicolon, Sym, of, Slot, empty, comma, AddressList, idle, full, mailbox, angle, group, quoted, typed, asForest}
+use Rattle.grammar.proofs.Rfc733.Trees.{nodesThen, slotThen, listThen, addressThen, slotLevels, listLevels, addressLevels}
 use Rattle.grammar.specs.Executable.Trees733 as trees
-use Rattle.grammar.proofs.Rfc733.Derivations.{row-levels, tree-derived}
+use Rattle.grammar.proofs.Rfc733.Derivations.{forest-levels, tree-derived}
 use Rattle.plain.specs.Believed.Meaning.{atom, noWord, andWord, Addresses, noAddress, andAddress, Address, address, meaning}
 use Rattle.plain.specs.Believed.PlainText.{addressesText}
 use Rattle.plain.specs.Believed.RoundTrip.{AcceptedBody}
@@ -31,15 +31,15 @@ use Rattle.plain.proofs.Writable as writable
 use Rattle.plain.proofs.ScannedWords.{WritableSymbols, writable-symbols, phrase-fine, name-fine, nodes-fine}
 use Rattle.plain.proofs.RoundTrips.{reread-writable}
 use Rattle.expansion.specs.Believed.Store.{leadsTo, listIn}
-use Rattle.expansion.specs.Believed.Expansion.{Expansion, stopped, reached, andThen, Opening, expandInclude, expandRow, expandStored, openedWithin, expansion}
+use Rattle.expansion.specs.Believed.Expansion.{Expansion, stopped, reached, andThen, Opening, expandInclude, expandForest, expandStored, openedWithin, expansion}
 use Rattle.expansion.specs.Believed.Promises.{NoInclude, NotInclude, ReadsBack, Promised}
-use Rattle.expansion.proofs.TreeExpansion.{placeExpansion, listExpansion, addressExpansion, row-expansion}
+use Rattle.expansion.proofs.TreeExpansion.{slotExpansion, listExpansion, addressExpansion, forest-expansion}
 use Rattle.addresses.proofs.Judgements.{Judged, refusedAt, listed, judged, listed-read}
 
 -- ---- the symbols after a tree
 
 mutual
-  after-place : (r : Place) (xs : List Sym) → WritableSymbols (placeThen r xs) → WritableSymbols xs
+  after-place : (r : Slot) (xs : List Sym) → WritableSymbols (slotThen r xs) → WritableSymbols xs
   after-place empty xs g = g
   after-place (comma l t) xs g = after-list l (of Comma t ∷ xs) g .1
 
@@ -147,8 +147,8 @@ module _ (store : List ℕ) (opening : Opening) (good : GoodOpening opening) (pl
       by (some i) = good i p d before u f h
 
   mutual
-    place-fine : (r : Place) (d : ℕ) (xs : List Sym) (before : Addresses) (u : ℕ) → WritableSymbols (placeThen r xs) → d + placeLevels r ≤ levelLimit → Fine d before → u ≤ openingLimit
-        → FineEnd d (placeExpansion store opening placeOf d r before u)
+    place-fine : (r : Slot) (d : ℕ) (xs : List Sym) (before : Addresses) (u : ℕ) → WritableSymbols (slotThen r xs) → d + slotLevels r ≤ levelLimit → Fine d before → u ≤ openingLimit
+        → FineEnd d (slotExpansion store opening placeOf d r before u)
     place-fine empty d xs before u g n f h = (f, h)
     place-fine (comma l t) d xs before u g n f h = list-fine l d (of Comma t ∷ xs) before u g n f h
 
@@ -156,7 +156,7 @@ module _ (store : List ℕ) (opening : Opening) (good : GoodOpening opening) (pl
         → FineEnd d (listExpansion store opening placeOf d l before u)
     list-fine (idle r) d xs before u g n f h = place-fine r d xs before u g n f h
     list-fine (full r a) d xs before u g n f h =
-        fine-then d (placeExpansion store opening placeOf d r before u) (λ b v. addressExpansion store opening placeOf false d a b v)
+        fine-then d (slotExpansion store opening placeOf d r before u) (λ b v. addressExpansion store opening placeOf false d a b v)
         (place-fine r d (addressThen a xs) before u g (omega (arith, n)) f h)
         (λ b v i j. address-fine a false d xs b v (after-place r (addressThen a xs) g) (omega (arith, n)) i j)
 
@@ -189,13 +189,13 @@ module _ (store : List ℕ) (opening : Opening) (good : GoodOpening opening) (pl
         (address-fine b true (d + 1) xs noAddress u (g .1 .1 .1) (omega (arith, n)) (fine-none (d + 1) (omega (arith, n))) h)
 
   -- a derivation of the symbols of any text
-  pub row-fine : (text : List ℕ) (at : ℕ) (k : Derivation) (d : ℕ) (before : Addresses) (u : ℕ) → DerivedList k (symbolsOf (scan text at)) → d + levels k ≤ levelLimit → Fine d before → u ≤ openingLimit
-      → FineEnd d (expandRow store opening placeOf false d k before u)
-  row-fine text at k d before u derived n f h =
+  pub forest-fine : (text : List ℕ) (at : ℕ) (k : Derivation) (d : ℕ) (before : Addresses) (u : ℕ) → DerivedList k (symbolsOf (scan text at)) → d + levels k ≤ levelLimit → Fine d before → u ≤ openingLimit
+      → FineEnd d (expandForest store opening placeOf false d k before u)
+  forest-fine text at k d before u derived n f h =
       let (l, e, d′) = tree-derived derived in
       let g : WritableSymbols (listThen l []) = rw (d′ .yields) (writable-symbols text at) in
-      let n′ : d + levels (asRow l) ≤ levelLimit = rw e at n in
-      rw (e, row-expansion store opening placeOf l d before u) (list-fine l d [] before u g (omega (arith, n′, row-levels l)) f h)
+      let n′ : d + levels (asForest l) ≤ levelLimit = rw e at n in
+      rw (e, forest-expansion store opening placeOf l d before u) (list-fine l d [] before u g (omega (arith, n′, forest-levels l)) f h)
 
 -- ---- stored lists
 
@@ -210,12 +210,12 @@ module _ (store : List ℕ) where
       refuse n q = stopped n i u
 
       derive : Derivation → Expansion
-      derive k = pick (ltb levelLimit (d + levels k)) (stopped tooManyLevels p u) (expandRow store opening (λ start. p) false d k before (suc u))
+      derive k = pick (ltb levelLimit (d + levels k)) (stopped tooManyLevels p u) (expandForest store opening (λ start. p) false d k before (suc u))
 
       joined : (k : Derivation) (z : Bool) → ltb levelLimit (d + levels k) ≡ z → DerivedList k (symbolsOf (scan (take (length text) text) 0))
-          → FineEnd d (pick z (stopped tooManyLevels p u) (expandRow store opening (λ start. p) false d k before (suc u)))
+          → FineEnd d (pick z (stopped tooManyLevels p u) (expandForest store opening (λ start. p) false d k before (suc u)))
       joined k true z e = omega (arith, h)
-      joined k false z e = row-fine store opening good (λ start. p) (take (length text) text) 0 k d before (suc u) e (ltb-false _ _ z) f h
+      joined k false z e = forest-fine store opening good (λ start. p) (take (length text) text) 0 k d before (suc u) e (ltb-false _ _ z) f h
 
       by : Judged text 0 (length text) → FineEnd d (expandStored store opening i p d before u)
       by (refusedAt n q e) = rw (e Expansion refuse derive) (omega (arith, h))
@@ -260,4 +260,4 @@ promised (reached m u) (f, h) =
 pub expansion-promised : {message : List ℕ} {start end : ℕ} (store : List ℕ) {k : Derivation} → AcceptedBody message start end k → Promised (expansion store k)
 expansion-promised {message} {start} {end} store {k} a =
     promised (expansion store k)
-    (row-fine store (λ i p d before u. openedWithin store openingLimit i p d before u) (opening-fine store openingLimit) (λ s. s) (take end message) start k 0 noAddress 0 (a .list .derived) (omega (arith, a .list .within)) (fine-none 0 (omega arith)) (omega arith))
+    (forest-fine store (λ i p d before u. openedWithin store openingLimit i p d before u) (opening-fine store openingLimit) (λ s. s) (take end message) start k 0 noAddress 0 (a .list .derived) (omega (arith, a .list .within)) (fine-none 0 (omega arith)) (omega arith))

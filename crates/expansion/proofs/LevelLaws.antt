@@ -12,7 +12,7 @@ use Rattle.octets.specs.Believed.Numbers.{levelLimit}
 use Rattle.scanner.specs.declared.Class.{Class}
 use Rattle.scanner.specs.declared.Class.the-variants.{Atom, Colon, LessThan, Comma}
 use Rattle.grammar.specs.Believed.Rfc733.{sameClass}
-use Rattle.grammar.proofs.Readers.{endsList}
+use Rattle.grammar.proofs.Rfc733.Readers.{endsList}
 use Rattle.addresses.proofs.ClassCases.{tag, by-class, by-class-not}
 use Rattle.plain.specs.declared.places.Place.{Place}
 use Rattle.plain.specs.declared.places.Place.the-variants.{Typing}

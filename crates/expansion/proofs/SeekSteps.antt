@@ -15,7 +15,7 @@ use Rattle.scanner.specs.declared.Next.{Next}
 use Rattle.scanner.specs.Ties.Meanings.{meaningAt}
 use Rattle.scanner.proofs.Unfolding.{SymbolAt}
 use Rattle.grammar.specs.Believed.Rfc733.{sameClass}
-use Rattle.grammar.proofs.Readers.{endsAddress}
+use Rattle.grammar.proofs.Rfc733.Readers.{endsAddress}
 use Rattle.addresses.specs.Ties.Steps.{symbolsFrom, isWord}
 use Rattle.addresses.proofs.ClassCases.{tag, by-class, by-class-not}
 use Rattle.plain.proofs.WalkSteps.{NoneComes}

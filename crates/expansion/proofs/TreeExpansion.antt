@@ -10,11 +10,11 @@ use Rattle.grammar.specs.Believed.Grammar.{nil, leaf}
 use Rattle.grammar.specs.Believed.Records.{partOf}
 use Rattle.grammar.specs.Believed.Rfc733.{Derivation, kindNumber, typedKind}
 use Rattle.grammar.specs.Believed.Rfc733 as rfc733
-use Rattle.grammar.specs.Executable.Trees733.{nodePiece, At, put, Atom, Colon, Comma, LessThan, GreaterThan, Semicolon, of, atomWord, quotedWord, Phrase, one, more, Nodes, first, next, Place, empty, comma, AddressList, idle, full, mailbox, angle, group, quoted, typed, wordPiece, phrasePiece, nodesPiece, placePiece, listPiece, addressPiece, asRow}
+use Rattle.grammar.specs.Executable.Trees733.{nodePiece, At, put, Atom, Colon, Comma, LessThan, GreaterThan, Semicolon, of, atomWord, quotedWord, Phrase, one, more, Nodes, first, next, Slot, empty, comma, AddressList, idle, full, mailbox, angle, group, quoted, typed, wordPiece, phrasePiece, nodesPiece, slotPiece, listPiece, addressPiece, asForest}
 use Rattle.grammar.specs.Executable.Trees733 as trees
 use Rattle.plain.specs.Believed.Meaning.{atom, noWord, andWord, Addresses, noAddress, andAddress, Address, address, wordsOf, nodesOf, addressesAfter}
 use Rattle.plain.proofs.TreeMeanings.{phraseMeaning, nameMeaning, nodesMeaning, addressMeaning, of-typed, name-words, node-words, after-address}
-use Rattle.expansion.specs.Believed.Expansion.{Expansion, stopped, reached, andThen, Opening, otherType, expandInclude, expandRow}
+use Rattle.expansion.specs.Believed.Expansion.{Expansion, stopped, reached, andThen, Opening, otherType, expandInclude, expandForest}
 
 -- ---- what comes next
 
@@ -36,13 +36,13 @@ module _ (store : List ℕ) (opening : Opening) (placeOf : ℕ → ℕ) where
       (andThen member (λ members u. reached (andAddress before (address kind (andWord noWord (atom letters)) noWord members)) u))
 
   abbrev mutual
-    pub placeExpansion : ℕ → Place → Addresses → ℕ → Expansion
-    placeExpansion d empty before u = reached before u
-    placeExpansion d (comma l t) before u = listExpansion d l before u
+    pub slotExpansion : ℕ → Slot → Addresses → ℕ → Expansion
+    slotExpansion d empty before u = reached before u
+    slotExpansion d (comma l t) before u = listExpansion d l before u
 
     pub listExpansion : ℕ → AddressList → Addresses → ℕ → Expansion
-    listExpansion d (idle r) before u = placeExpansion d r before u
-    listExpansion d (full r a) before u = andThen (placeExpansion d r before u) (λ b v. addressExpansion false d a b v)
+    listExpansion d (idle r) before u = slotExpansion d r before u
+    listExpansion d (full r a) before u = andThen (slotExpansion d r before u) (λ b v. addressExpansion false d a b v)
 
     pub addressExpansion : Bool → ℕ → trees.Address → Addresses → ℕ → Expansion
     addressExpansion in-typed d (mailbox p m) before u = reached (andAddress before (address (kindNumber rfc733.mailbox) (phraseMeaning p) (nodesMeaning m) noAddress)) u
@@ -56,73 +56,73 @@ module _ (store : List ℕ) (opening : Opening) (placeOf : ℕ → ℕ) where
         (expandInclude store opening in-typed (placeOf (t .start)) d (andAddress noAddress (addressMeaning b)) before u)
         (addressExpansion true (d + 1) b noAddress u) before
 
-  -- ---- it is that of the row
+  -- ---- it is that of the forest
 
-  abbrev rowed : Bool → ℕ → Derivation → Addresses → ℕ → Expansion
-  rowed in-typed d k before u = expandRow store opening placeOf in-typed d k before u
+  abbrev ofForest : Bool → ℕ → Derivation → Addresses → ℕ → Expansion
+  ofForest in-typed d k before u = expandForest store opening placeOf in-typed d k before u
 
-  row-word : (w : trees.Word) (y : Bool) (d : ℕ) (k : Derivation) (before : Addresses) (u : ℕ) → rowed y d (put (wordPiece w) k) before u ≡ rowed y d k before u
-  row-word (atomWord t) y d k before u = refl
-  row-word (quotedWord t) y d k before u = refl
+  forest-word : (w : trees.Word) (y : Bool) (d : ℕ) (k : Derivation) (before : Addresses) (u : ℕ) → ofForest y d (put (wordPiece w) k) before u ≡ ofForest y d k before u
+  forest-word (atomWord t) y d k before u = refl
+  forest-word (quotedWord t) y d k before u = refl
 
-  row-phrase : (p : Phrase) (y : Bool) (d : ℕ) (k : Derivation) (before : Addresses) (u : ℕ) → rowed y d (put (phrasePiece p) k) before u ≡ rowed y d k before u
-  row-phrase (one w) y d k before u = ap (λ e. andThen e (λ b v. rowed y d k b v)) (row-word w y d nil before u)
-  row-phrase (more p w) y d k before u = ap (λ e. andThen e (λ b v. rowed y d k b v)) (row-phrase p y d (put (wordPiece w) nil) before u ∙ row-word w y d nil before u)
+  forest-phrase : (p : Phrase) (y : Bool) (d : ℕ) (k : Derivation) (before : Addresses) (u : ℕ) → ofForest y d (put (phrasePiece p) k) before u ≡ ofForest y d k before u
+  forest-phrase (one w) y d k before u = ap (λ e. andThen e (λ b v. ofForest y d k b v)) (forest-word w y d nil before u)
+  forest-phrase (more p w) y d k before u = ap (λ e. andThen e (λ b v. ofForest y d k b v)) (forest-phrase p y d (put (wordPiece w) nil) before u ∙ forest-word w y d nil before u)
 
-  row-nodes : (m : Nodes) (y : Bool) (d : ℕ) (k : Derivation) (before : Addresses) (u : ℕ) → rowed y d (put (nodesPiece m) k) before u ≡ rowed y d k before u
-  row-nodes (first t w) y d k before u = ap (λ e. andThen (andThen e (λ b v. reached b v)) (λ b v. rowed y d k b v)) (row-word w y d nil before u)
-  row-nodes (next m t w) y d k before u =
-      ap (λ e. andThen e (λ b v. rowed y d k b v))
-      (row-nodes m y d (leaf (of At t) (put (nodePiece w) nil)) before u ∙ ap (λ e. andThen e (λ b v. reached b v)) (row-word w y d nil before u))
+  forest-nodes : (m : Nodes) (y : Bool) (d : ℕ) (k : Derivation) (before : Addresses) (u : ℕ) → ofForest y d (put (nodesPiece m) k) before u ≡ ofForest y d k before u
+  forest-nodes (first t w) y d k before u = ap (λ e. andThen (andThen e (λ b v. reached b v)) (λ b v. ofForest y d k b v)) (forest-word w y d nil before u)
+  forest-nodes (next m t w) y d k before u =
+      ap (λ e. andThen e (λ b v. ofForest y d k b v))
+      (forest-nodes m y d (leaf (of At t) (put (nodePiece w) nil)) before u ∙ ap (λ e. andThen e (λ b v. reached b v)) (forest-word w y d nil before u))
 
   mutual
-    row-place : (r : Place) (d : ℕ) (k : Derivation) (before : Addresses) (u : ℕ) → rowed false d (put (placePiece r) k) before u ≡ andThen (placeExpansion d r before u) (λ b v. rowed false d k b v)
-    row-place empty d k before u = refl
-    row-place (comma l t) d k before u = ap (λ e. andThen e (λ b v. rowed false d k b v)) (row-list l d (leaf (of Comma t) nil) before u ∙ and-reached (listExpansion d l before u))
+    forest-place : (r : Slot) (d : ℕ) (k : Derivation) (before : Addresses) (u : ℕ) → ofForest false d (put (slotPiece r) k) before u ≡ andThen (slotExpansion d r before u) (λ b v. ofForest false d k b v)
+    forest-place empty d k before u = refl
+    forest-place (comma l t) d k before u = ap (λ e. andThen e (λ b v. ofForest false d k b v)) (forest-list l d (leaf (of Comma t) nil) before u ∙ and-reached (listExpansion d l before u))
 
-    pub row-list : (l : AddressList) (d : ℕ) (k : Derivation) (before : Addresses) (u : ℕ) → rowed false d (put (listPiece l) k) before u ≡ andThen (listExpansion d l before u) (λ b v. rowed false d k b v)
-    row-list (idle r) d k before u = ap (λ e. andThen e (λ b v. rowed false d k b v)) (row-place r d nil before u ∙ and-reached (placeExpansion d r before u))
-    row-list (full r a) d k before u =
-        ap (λ e. andThen e (λ b v. rowed false d k b v))
-        (row-place r d (put (addressPiece a) nil) before u ∙ and-same (placeExpansion d r before u) (λ b v. row-address a false d nil b v ∙ and-reached (addressExpansion false d a b v)))
+    pub forest-list : (l : AddressList) (d : ℕ) (k : Derivation) (before : Addresses) (u : ℕ) → ofForest false d (put (listPiece l) k) before u ≡ andThen (listExpansion d l before u) (λ b v. ofForest false d k b v)
+    forest-list (idle r) d k before u = ap (λ e. andThen e (λ b v. ofForest false d k b v)) (forest-place r d nil before u ∙ and-reached (slotExpansion d r before u))
+    forest-list (full r a) d k before u =
+        ap (λ e. andThen e (λ b v. ofForest false d k b v))
+        (forest-place r d (put (addressPiece a) nil) before u ∙ and-same (slotExpansion d r before u) (λ b v. forest-address a false d nil b v ∙ and-reached (addressExpansion false d a b v)))
 
-    row-address : (a : trees.Address) (y : Bool) (d : ℕ) (k : Derivation) (before : Addresses) (u : ℕ)
-        → rowed y d (put (addressPiece a) k) before u ≡ andThen (addressExpansion y d a before u) (λ b v. rowed y d k b v)
-    row-address (mailbox p m) y d k before u =
-        let row = put (phrasePiece p) (put (nodesPiece m) nil) in
-        let n : wordsOf (partOf 0 row) ≡ phraseMeaning p = name-words p (put (nodesPiece m) nil) in
-        let w : wordsOf (partOf 1 row) ≡ nodesMeaning m = node-words p m nil in
-        ap (λ e. andThen (andThen e (λ members v. reached (andAddress before (address 1 (wordsOf (partOf 0 row)) (wordsOf (partOf 1 row)) members)) v)) (λ b v. rowed y d k b v))
-        (row-phrase p false (d + 0) (put (nodesPiece m) nil) noAddress u ∙ row-nodes m false (d + 0) nil noAddress u)
-        ∙ ap₂ (λ x z. rowed y d k (andAddress before (address 1 x z noAddress)) u) n w
-    row-address (angle none t l c) y d k before u =
-        ap (λ e. andThen (andThen e (λ members v. reached (andAddress before (address 2 noWord noWord members)) v)) (λ b v. rowed y d k b v))
-        (row-list l (d + 1) (leaf (of GreaterThan c) nil) noAddress u ∙ and-reached (listExpansion (d + 1) l noAddress u))
-    row-address (angle (some p) t l c) y d k before u =
-        let row = put (phrasePiece p) (leaf (of LessThan t) (put (listPiece l) (leaf (of GreaterThan c) nil))) in
-        ap (λ e. andThen (andThen e (λ members v. reached (andAddress before (address 2 (wordsOf (partOf 0 row)) noWord members)) v)) (λ b v. rowed y d k b v))
-        (row-phrase p false (d + 1) (leaf (of LessThan t) (put (listPiece l) (leaf (of GreaterThan c) nil))) noAddress u ∙ row-list l (d + 1) (leaf (of GreaterThan c) nil) noAddress u ∙ and-reached (listExpansion (d + 1) l noAddress u))
-        ∙ ap (λ x. andThen (andThen (listExpansion (d + 1) l noAddress u) (λ members v. reached (andAddress before (address 2 x noWord members)) v)) (λ b v. rowed y d k b v)) (name-words p (leaf (of LessThan t) (put (listPiece l) (leaf (of GreaterThan c) nil))))
-    row-address (group none t l c) y d k before u =
-        ap (λ e. andThen (andThen e (λ members v. reached (andAddress before (address 3 noWord noWord members)) v)) (λ b v. rowed y d k b v))
-        (row-list l (d + 1) (leaf (of Semicolon c) nil) noAddress u ∙ and-reached (listExpansion (d + 1) l noAddress u))
-    row-address (group (some p) t l c) y d k before u =
-        let row = put (phrasePiece p) (leaf (of Colon t) (put (listPiece l) (leaf (of Semicolon c) nil))) in
-        ap (λ e. andThen (andThen e (λ members v. reached (andAddress before (address 3 (wordsOf (partOf 0 row)) noWord members)) v)) (λ b v. rowed y d k b v))
-        (row-phrase p false (d + 1) (leaf (of Colon t) (put (listPiece l) (leaf (of Semicolon c) nil))) noAddress u ∙ row-list l (d + 1) (leaf (of Semicolon c) nil) noAddress u ∙ and-reached (listExpansion (d + 1) l noAddress u))
-        ∙ ap (λ x. andThen (andThen (listExpansion (d + 1) l noAddress u) (λ members v. reached (andAddress before (address 3 x noWord members)) v)) (λ b v. rowed y d k b v)) (name-words p (leaf (of Colon t) (put (listPiece l) (leaf (of Semicolon c) nil))))
-    row-address (quoted t) y d k before u = refl
-    row-address (typed t a c b) y d k before u =
+    forest-address : (a : trees.Address) (y : Bool) (d : ℕ) (k : Derivation) (before : Addresses) (u : ℕ)
+        → ofForest y d (put (addressPiece a) k) before u ≡ andThen (addressExpansion y d a before u) (λ b v. ofForest y d k b v)
+    forest-address (mailbox p m) y d k before u =
+        let forest = put (phrasePiece p) (put (nodesPiece m) nil) in
+        let n : wordsOf (partOf 0 forest) ≡ phraseMeaning p = name-words p (put (nodesPiece m) nil) in
+        let w : wordsOf (partOf 1 forest) ≡ nodesMeaning m = node-words p m nil in
+        ap (λ e. andThen (andThen e (λ members v. reached (andAddress before (address 1 (wordsOf (partOf 0 forest)) (wordsOf (partOf 1 forest)) members)) v)) (λ b v. ofForest y d k b v))
+        (forest-phrase p false (d + 0) (put (nodesPiece m) nil) noAddress u ∙ forest-nodes m false (d + 0) nil noAddress u)
+        ∙ ap₂ (λ x z. ofForest y d k (andAddress before (address 1 x z noAddress)) u) n w
+    forest-address (angle none t l c) y d k before u =
+        ap (λ e. andThen (andThen e (λ members v. reached (andAddress before (address 2 noWord noWord members)) v)) (λ b v. ofForest y d k b v))
+        (forest-list l (d + 1) (leaf (of GreaterThan c) nil) noAddress u ∙ and-reached (listExpansion (d + 1) l noAddress u))
+    forest-address (angle (some p) t l c) y d k before u =
+        let forest = put (phrasePiece p) (leaf (of LessThan t) (put (listPiece l) (leaf (of GreaterThan c) nil))) in
+        ap (λ e. andThen (andThen e (λ members v. reached (andAddress before (address 2 (wordsOf (partOf 0 forest)) noWord members)) v)) (λ b v. ofForest y d k b v))
+        (forest-phrase p false (d + 1) (leaf (of LessThan t) (put (listPiece l) (leaf (of GreaterThan c) nil))) noAddress u ∙ forest-list l (d + 1) (leaf (of GreaterThan c) nil) noAddress u ∙ and-reached (listExpansion (d + 1) l noAddress u))
+        ∙ ap (λ x. andThen (andThen (listExpansion (d + 1) l noAddress u) (λ members v. reached (andAddress before (address 2 x noWord members)) v)) (λ b v. ofForest y d k b v)) (name-words p (leaf (of LessThan t) (put (listPiece l) (leaf (of GreaterThan c) nil))))
+    forest-address (group none t l c) y d k before u =
+        ap (λ e. andThen (andThen e (λ members v. reached (andAddress before (address 3 noWord noWord members)) v)) (λ b v. ofForest y d k b v))
+        (forest-list l (d + 1) (leaf (of Semicolon c) nil) noAddress u ∙ and-reached (listExpansion (d + 1) l noAddress u))
+    forest-address (group (some p) t l c) y d k before u =
+        let forest = put (phrasePiece p) (leaf (of Colon t) (put (listPiece l) (leaf (of Semicolon c) nil))) in
+        ap (λ e. andThen (andThen e (λ members v. reached (andAddress before (address 3 (wordsOf (partOf 0 forest)) noWord members)) v)) (λ b v. ofForest y d k b v))
+        (forest-phrase p false (d + 1) (leaf (of Colon t) (put (listPiece l) (leaf (of Semicolon c) nil))) noAddress u ∙ forest-list l (d + 1) (leaf (of Semicolon c) nil) noAddress u ∙ and-reached (listExpansion (d + 1) l noAddress u))
+        ∙ ap (λ x. andThen (andThen (listExpansion (d + 1) l noAddress u) (λ members v. reached (andAddress before (address 3 x noWord members)) v)) (λ b v. ofForest y d k b v)) (name-words p (leaf (of Colon t) (put (listPiece l) (leaf (of Semicolon c) nil))))
+    forest-address (quoted t) y d k before u = refl
+    forest-address (typed t a c b) y d k before u =
         let parts = leaf (of Colon t) (leaf (of Atom a) (leaf (of Colon c) (put (addressPiece b) nil))) in
         let include : Addresses → Expansion = λ held. expandInclude store opening y (placeOf (t .start)) d held before u in
         let by : ℕ → Bool → Expansion = λ kind z. pick (eqb kind (kindNumber rfc733.include)) (include (addressesAfter noAddress parts))
-        (andThen (rowed z (d + 1) (put (addressPiece b) nil) noAddress u) (λ members v. reached (andAddress before (address kind (andWord noWord (atom (a .meaning))) (nodesOf kind parts) members)) v)) in
-        ap (λ kind. andThen (by kind (otherType kind)) (λ b′ v. rowed y d k b′ v)) (ap (λ m. kindNumber (typedKind m)) (append-nil (a .meaning)))
-        ∙ ap (λ e. andThen e (λ b′ v. rowed y d k b′ v))
+        (andThen (ofForest z (d + 1) (put (addressPiece b) nil) noAddress u) (λ members v. reached (andAddress before (address kind (andWord noWord (atom (a .meaning))) (nodesOf kind parts) members)) v)) in
+        ap (λ kind. andThen (by kind (otherType kind)) (λ b′ v. ofForest y d k b′ v)) (ap (λ m. kindNumber (typedKind m)) (append-nil (a .meaning)))
+        ∙ ap (λ e. andThen e (λ b′ v. ofForest y d k b′ v))
         (of-typed (λ kind. by kind (otherType kind) ≡ pick (eqb kind (kindNumber rfc733.include)) (include (addressesAfter noAddress parts))
-        (andThen (rowed true (d + 1) (put (addressPiece b) nil) noAddress u) (λ members v. reached (andAddress before (address kind (andWord noWord (atom (a .meaning))) noWord members)) v))) refl refl refl (a .meaning)
+        (andThen (ofForest true (d + 1) (put (addressPiece b) nil) noAddress u) (λ members v. reached (andAddress before (address kind (andWord noWord (atom (a .meaning))) noWord members)) v))) refl refl refl (a .meaning)
         ∙ ap₂ (λ held member. typedExpansion (kindNumber (typedKind (a .meaning))) (a .meaning) (include held) member before)
-        (after-address b noAddress nil) (row-address b true (d + 1) nil noAddress u ∙ and-reached (addressExpansion true (d + 1) b noAddress u)))
+        (after-address b noAddress nil) (forest-address b true (d + 1) nil noAddress u ∙ and-reached (addressExpansion true (d + 1) b noAddress u)))
 
-  pub row-expansion : (l : AddressList) (d : ℕ) (before : Addresses) (u : ℕ) → rowed false d (asRow l) before u ≡ listExpansion d l before u
-  row-expansion l d before u = row-list l d nil before u ∙ and-reached (listExpansion d l before u)
+  pub forest-expansion : (l : AddressList) (d : ℕ) (before : Addresses) (u : ℕ) → ofForest false d (asForest l) before u ≡ listExpansion d l before u
+  forest-expansion l d before u = forest-list l d nil before u ∙ and-reached (listExpansion d l before u)

@@ -12,8 +12,8 @@ use Rattle.octets.specs.Believed.Numbers.{levelLimit, openingLimit, tooManyLeve
 use Rattle.scanner.specs.Believed.Scanning.{scan, symbolsOf}
 use Rattle.grammar.specs.Believed.Grammar.{levels}
 use Rattle.grammar.specs.Believed.Rfc733.{Derivation, DerivedList}
-use Rattle.grammar.specs.Executable.Trees733.{Sym, asRow}
-use Rattle.grammar.proofs.Rfc733.Derivations.{row-levels, tree-derived}
+use Rattle.grammar.specs.Executable.Trees733.{Sym, asForest}
+use Rattle.grammar.proofs.Rfc733.Derivations.{forest-levels, tree-derived}
 use Rattle.addresses.specs.Believed.Editions.{bodySymbols}
 use Rattle.addresses.specs.Believed.Outcome.{bodyRead}
 use Rattle.addresses.proofs.Judgements.{refusedAt, judged, listed-read}
@@ -23,9 +23,9 @@ use Rattle.plain.specs.Believed.PlainText.{addressesText}
 use Rattle.plain.specs.declared.places.Place.{Place}
 use Rattle.plain.proofs.Walks.{Begin, plainly, spot, comma-spot, front-plain}
 use Rattle.expansion.specs.Believed.Store.{listIn}
-use Rattle.expansion.specs.Believed.Expansion.{Expansion, stopped, Opening, expandRow, openedWithin, expansion}
+use Rattle.expansion.specs.Believed.Expansion.{Expansion, stopped, Opening, expandForest, openedWithin, expansion}
 use Rattle.expansion.specs.Ties.Walk.{Trail, halted, wrote, before, writing, walk, walkWithin, walked}
-use Rattle.expansion.proofs.TreeExpansion.{listExpansion, row-expansion}
+use Rattle.expansion.proofs.TreeExpansion.{listExpansion, forest-expansion}
 use Rattle.expansion.proofs.WalkThrough.{onward, listed, clear-comma, onward-same, unmoved, through-list}
 
 -- what holds of both for a refusal and for every list holds for the body
@@ -50,19 +50,19 @@ module _ (store : List ℕ) where
   -- a list from any place in any list on
   from-list : (deep : ℕ) → Agree deep → (placeOf : ℕ → ℕ) (base : ℕ) (l : Derivation) (xs : List Sym) → DerivedList l xs → levels l ≤ levelLimit → (b : Begin) (m : Addresses) (u : ℕ) (k : Place → ℕ → Trail)
       → before (listed b m) (walk store (λ i′ p′ b′ l′ u′ n′. walkWithin store deep i′ p′ b′ l′ u′ n′) placeOf base writing (spot b m true) [] xs u k)
-      ≡ onward (expandRow store (λ i′ p′ d′ m′ u′. openedWithin store deep i′ p′ d′ m′ u′) placeOf false base l m u) (λ m′ v. before (listed b m′) (k (spot b m′ true) v))
+      ≡ onward (expandForest store (λ i′ p′ d′ m′ u′. openedWithin store deep i′ p′ d′ m′ u′) placeOf false base l m u) (λ m′ v. before (listed b m′) (k (spot b m′ true) v))
   from-list deep agree placeOf base l xs derived n b m u k =
       let (t, e, d′) = tree-derived derived in
       let o : Opening = λ i′ p′ d′ m′ u′. openedWithin store deep i′ p′ d′ m′ u′ in
-      let n′ : levels (asRow t) ≤ levelLimit = rw e at n in
+      let n′ : levels (asForest t) ≤ levelLimit = rw e at n in
       ap (λ ys. before (listed b m) (walk store (λ i′ p′ b′ l′ u′ n′. walkWithin store deep i′ p′ b′ l′ u′ n′) placeOf base writing (spot b m true) [] ys u k)) (sym (d′ .yields))
-      ∙ through-list store (λ i′ p′ b′ l′ u′ n′. walkWithin store deep i′ p′ b′ l′ u′ n′) placeOf base o agree t b m true base [] [] u k (d′ .lawful) tt refl (omega arith) (omega (arith, n′, row-levels t)) (clear-comma b m _)
+      ∙ through-list store (λ i′ p′ b′ l′ u′ n′. walkWithin store deep i′ p′ b′ l′ u′ n′) placeOf base o agree t b m true base [] [] u k (d′ .lawful) tt refl (omega arith) (omega (arith, n′, forest-levels t)) (clear-comma b m _)
       ∙ onward-same (listExpansion store o placeOf base t m u) (λ m′ v. ap (λ z. before (listed b m′) (k z v)) (comma-spot b m′ true))
-      ∙ ap (λ f. onward f (λ m′ v. before (listed b m′) (k (spot b m′ true) v))) (sym (ap (λ r. expandRow store o placeOf false base r m u) e ∙ row-expansion store o placeOf t base m u))
+      ∙ ap (λ f. onward f (λ m′ v. before (listed b m′) (k (spot b m′ true) v))) (sym (ap (λ r. expandForest store o placeOf false base r m u) e ∙ forest-expansion store o placeOf t base m u))
 
   within-list : (deep : ℕ) → Agree deep → (i p d : ℕ) (b : Begin) (m : Addresses) (u : ℕ) (k : Place → ℕ → Trail) (l : Derivation) → DerivedList l (symbolsOf (scan (listIn store i) 0)) → levels l ≤ levelLimit → (z : Bool)
       → before (listed b m) (pick z (halted tooManyLevels p u) (walk store (λ i′ p′ b′ l′ u′ n′. walkWithin store deep i′ p′ b′ l′ u′ n′) (λ start. p) d writing (spot b m true) [] (symbolsOf (scan (listIn store i) 0)) (suc u) k))
-      ≡ onward (pick z (stopped tooManyLevels p u) (expandRow store (λ i′ p′ d′ m′ u′. openedWithin store deep i′ p′ d′ m′ u′) (λ start. p) false d l m (suc u))) (λ m′ v. before (listed b m′) (k (spot b m′ true) v))
+      ≡ onward (pick z (stopped tooManyLevels p u) (expandForest store (λ i′ p′ d′ m′ u′. openedWithin store deep i′ p′ d′ m′ u′) (λ start. p) false d l m (suc u))) (λ m′ v. before (listed b m′) (k (spot b m′ true) v))
   within-list deep agree i p d b m u k l derived n true = refl
   within-list deep agree i p d b m u k l derived n false = from-list deep agree (λ start. p) d l (symbolsOf (scan (listIn store i) 0)) derived n b m (suc u) k
 
@@ -78,7 +78,7 @@ module _ (store : List ℕ) where
       (λ n q. halted n i u)
       (λ l. pick (ltb levelLimit (d + levels l)) (halted tooManyLevels p u) (walk store (λ i′ p′ b′ l′ u′ n′. walkWithin store deep i′ p′ b′ l′ u′ n′) (λ start. p) d writing (spot b m true) [] (symbolsOf (scan (listIn store i) 0)) (suc u) k))
       (λ n q. stopped n i u)
-      (λ l. pick (ltb levelLimit (d + levels l)) (stopped tooManyLevels p u) (expandRow store (λ i′ p′ d′ m′ u′. openedWithin store deep i′ p′ d′ m′ u′) (λ start. p) false d l m (suc u)))
+      (λ l. pick (ltb levelLimit (d + levels l)) (stopped tooManyLevels p u) (expandForest store (λ i′ p′ d′ m′ u′. openedWithin store deep i′ p′ d′ m′ u′) (λ start. p) false d l m (suc u)))
       (listIn store i) 0 (length (listIn store i))
       (λ n q. refl)
       (λ l h n. within-list deep (agree-within deep) i p d b m u k l (rw take-length at h) n (ltb levelLimit (d + levels l))))

@@ -18,7 +18,7 @@ use Rattle.scanner.specs.declared.Next.{Next}
 use Rattle.scanner.specs.declared.Next.the-variants.{Found, Ended, Fault}
 use Rattle.scanner.specs.Ties.Meanings.{meaningAt}
 use Rattle.scanner.proofs.Unfolding.{SymbolAt, found}
-use Rattle.grammar.proofs.Readers.{endsAddress}
+use Rattle.grammar.proofs.Rfc733.Readers.{endsAddress}
 use Rattle.plain.specs.Ties.Walking.{symbolText, after, afterComma, colonNext}
 use Rattle.plain.specs.Ties.Writing.{isColon}
 use Rattle.plain.specs.declared.places.Place.{Place}

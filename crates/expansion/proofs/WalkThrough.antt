@@ -14,22 +14,22 @@ use Rattle.octets.specs.Believed.Numbers.{levelLimit, leadsNowhere}
 use Rattle.octets.specs.Believed.Text.{bytes}
 use Rattle.grammar.specs.Believed.Rfc733.{kindNumber, typedKind, include}
 use Rattle.grammar.specs.Executable.Trees733.{Class, Atom, Quoted, At, LessThan, GreaterThan, Comma, Semicolon, Colon, Lexeme, Sym, of, atomWord, quotedWord, Phrase, one, more, Nodes, first, next, comma, AddressList, idle, full, mailbox, angle, group, quoted, typed}
-use Rattle.grammar.proofs.Rfc733.Trees.{wordSymbol, phraseThen, nodesThen, placeThen, listThen, addressThen, placeLawful, listLawful, addressLawful, placeLevels, listLevels, addressLevels}
-use Rattle.grammar.proofs.Readers.{endsAddress, AddressEnds}
+use Rattle.grammar.proofs.Rfc733.Trees.{wordSymbol, phraseThen, nodesThen, slotThen, listThen, addressThen, slotLawful, listLawful, addressLawful, slotLevels, listLevels, addressLevels}
+use Rattle.grammar.proofs.Rfc733.Readers.{endsAddress, AddressEnds}
 use Rattle.grammar.specs.Executable.Trees733 as trees
-use Rattle.grammar.proofs.Rfc733.HouseRule.{oneAtom, placeAtomGroup, listAtomGroup, atomColon-list, oneAtom-false, oneAtom-true}
+use Rattle.grammar.proofs.Rfc733.HouseRule.{oneAtom, slotAtomGroup, listAtomGroup, atomColon-list, oneAtom-false, oneAtom-true}
 use Rattle.grammar.proofs.Rfc733.HouseRule as house
 use Rattle.plain.specs.Believed.Meaning.{atom, noWord, andWord, Addresses, noAddress, andAddress, Address, address, meaning}
 use Rattle.plain.specs.Believed.PlainText.{wordText, phraseText, nodesText, atomGroup, addressesText, addressText}
 use Rattle.plain.specs.Ties.Walking.{gapText, gapBefore, afterAtom, afterComma, after, colonNext, symbolText}
 use Rattle.plain.specs.declared.places.Place.{Place}
 use Rattle.plain.specs.declared.places.Place.the-variants.{Start, Bare, BareComma, Named, Typing, Word, Node, Closed, Parted}
-use Rattle.plain.proofs.TreeMeanings.{wordMeaning, phraseMeaning, nameMeaning, nodesMeaning, placeMeaning, listMeaning, addressMeaning, of-typed, atom-group}
+use Rattle.plain.proofs.TreeMeanings.{wordMeaning, phraseMeaning, nameMeaning, nodesMeaning, slotMeaning, listMeaning, addressMeaning, of-typed, atom-group}
 use Rattle.plain.proofs.Walks.{space-behind, no-colon-nodes, Begin, plainly, barely, namely, front, spot, comma-spot, Opens, spot-opens, joint, front-named, front-bare, front-plain}
 use Rattle.expansion.specs.Believed.Store.{leadsTo, onlyMailboxes, isMailbox}
 use Rattle.expansion.specs.Believed.Expansion.{Expansion, stopped, reached, andThen, Opening, expandInclude}
 use Rattle.expansion.specs.Ties.Walk.{Trail, halted, wrote, before, withoutTyped, withTyped, inTyped, isTyping, withList, levelsAfter, includeWord, includeNext, includeHere, afterOne, opens, writing, skipping, innerAfter, WalkOpening, sought, includeTrail, walk}
-use Rattle.expansion.proofs.TreeExpansion.{placeExpansion, listExpansion, addressExpansion}
+use Rattle.expansion.proofs.TreeExpansion.{slotExpansion, listExpansion, addressExpansion}
 use Rattle.expansion.proofs.Seeking.{Ending, at-greater, at-comma, at-semicolon, ending, no-mailbox, typed-no-mailbox, leads-typed, sought-address}
 
 -- ---- texts before a trail
@@ -182,15 +182,15 @@ module _ (store : List ℕ) (opening : WalkOpening) (placeOf : ℕ → ℕ) (bas
     skip-mailbox (typed t a c b) xs e = no-mailbox (sym (typed-no-mailbox (a .meaning) (addressMeaning b)) ∙ e)
 
     mutual
-      skip-place : (r : trees.Place) (xs : List Sym) → onlyMailboxes (placeMeaning r) ≡ true → skip true p s (placeThen r xs) u k ≡ skip true p s xs u k
+      skip-place : (r : trees.Slot) (xs : List Sym) → onlyMailboxes (slotMeaning r) ≡ true → skip true p s (slotThen r xs) u k ≡ skip true p s xs u k
       skip-place trees.empty xs e = refl
       skip-place (comma l t) xs e = skip-list l (of Comma t ∷ xs) e
 
       skip-list : (l : AddressList) (xs : List Sym) → onlyMailboxes (listMeaning l) ≡ true → skip true p s (listThen l xs) u k ≡ skip true p s xs u k
       skip-list (idle r) xs e = skip-place r xs e
       skip-list (full r a) xs e =
-          skip-place r (addressThen a xs) (both-parts (onlyMailboxes (placeMeaning r)) (isMailbox (addressMeaning a)) e .0)
-          ∙ skip-mailbox a xs (both-parts (onlyMailboxes (placeMeaning r)) (isMailbox (addressMeaning a)) e .1)
+          skip-place r (addressThen a xs) (both-parts (onlyMailboxes (slotMeaning r)) (isMailbox (addressMeaning a)) e .0)
+          ∙ skip-mailbox a xs (both-parts (onlyMailboxes (slotMeaning r)) (isMailbox (addressMeaning a)) e .1)
 
     -- what leads to a record
     picked : (z : Bool) (o : Option ℕ) {i : ℕ} → pick z o none ≡ some i → z ≡ true
@@ -328,7 +328,7 @@ module _ (store : List ℕ) (opening : WalkOpening) (placeOf : ℕ → ℕ) (bas
   untyped (true ∷ s) e = absurd (let o : _≡_ {A = ℕ} 0 1 = cc in omega arith)
   untyped (false ∷ s) e = refl
 
-  abbrev flag : Bool → trees.Place → Bool
+  abbrev flag : Bool → trees.Slot → Bool
   flag c trees.empty = c
   flag c (comma l t) = true
 
@@ -453,20 +453,20 @@ module _ (store : List ℕ) (opening : WalkOpening) (placeOf : ℕ → ℕ) (bas
         by false f = through-typed t a c held b m e d s xs u k j h f n i
 
     -- an address at a place
-    full-by : (r : trees.Place) (a : trees.Address) (b : Begin) (m : Addresses) (c : Bool) (d : ℕ) (s : List Bool) (xs : List Sym) (u : ℕ) (k : Place → ℕ → Trail)
-        → Clear b m c (placeAtomGroup r (house.atomGroup a))
-        → before (listed b m) (W (spot b m c) s (placeThen r (addressThen a xs)) u k) ≡ onward (placeExpansion store o placeOf d r m u) (λ m′ v. before (listed b m′) (W (spot b m′ (flag c r)) s (addressThen a xs) v k))
+    full-by : (r : trees.Slot) (a : trees.Address) (b : Begin) (m : Addresses) (c : Bool) (d : ℕ) (s : List Bool) (xs : List Sym) (u : ℕ) (k : Place → ℕ → Trail)
+        → Clear b m c (slotAtomGroup r (house.atomGroup a))
+        → before (listed b m) (W (spot b m c) s (slotThen r (addressThen a xs)) u k) ≡ onward (slotExpansion store o placeOf d r m u) (λ m′ v. before (listed b m′) (W (spot b m′ (flag c r)) s (addressThen a xs) v k))
         → ((m′ : Addresses) (c′ : Bool) (v : ℕ) → Clear b m′ c′ (house.atomGroup a) → before (listed b m′) (W (spot b m′ c′) s (addressThen a xs) v k) ≡ onward (addressExpansion store o placeOf false d a m′ v) (After b s xs k))
-        → before (listed b m) (W (spot b m c) s (placeThen r (addressThen a xs)) u k) ≡ onward (andThen (placeExpansion store o placeOf d r m u) (λ m′ v. addressExpansion store o placeOf false d a m′ v)) (After b s xs k)
+        → before (listed b m) (W (spot b m c) s (slotThen r (addressThen a xs)) u k) ≡ onward (andThen (slotExpansion store o placeOf d r m u) (λ m′ v. addressExpansion store o placeOf false d a m′ v)) (After b s xs k)
     full-by trees.empty a b m c d s xs u k h p f = f m c u h
     full-by (comma l t) a b m c d s xs u k h p f =
         p ∙ onward-same (listExpansion store o placeOf d l m u) (λ m′ v. f m′ true v (clear-comma b m′ (house.atomGroup a)))
         ∙ sym (onward-then (listExpansion store o placeOf d l m u) (λ m′ v. addressExpansion store o placeOf false d a m′ v) (After b s xs k))
 
     mutual
-      through-place : (r : trees.Place) (x : Bool) (b : Begin) (m : Addresses) (c : Bool) (d : ℕ) (s : List Bool) (ys : List Sym) (u : ℕ) (k : Place → ℕ → Trail)
-          → placeLawful r → inTyped s ≡ false → d ≡ base + length s → length s + placeLevels r ≤ levelLimit → Clear b m c (placeAtomGroup r x)
-          → before (listed b m) (W (spot b m c) s (placeThen r ys) u k) ≡ onward (placeExpansion store o placeOf d r m u) (λ m′ v. before (listed b m′) (W (spot b m′ (flag c r)) s ys v k))
+      through-place : (r : trees.Slot) (x : Bool) (b : Begin) (m : Addresses) (c : Bool) (d : ℕ) (s : List Bool) (ys : List Sym) (u : ℕ) (k : Place → ℕ → Trail)
+          → slotLawful r → inTyped s ≡ false → d ≡ base + length s → length s + slotLevels r ≤ levelLimit → Clear b m c (slotAtomGroup r x)
+          → before (listed b m) (W (spot b m c) s (slotThen r ys) u k) ≡ onward (slotExpansion store o placeOf d r m u) (λ m′ v. before (listed b m′) (W (spot b m′ (flag c r)) s ys v k))
       through-place trees.empty x b m c d s ys u k lawful w q v h = refl
       through-place (comma l t) x b m c d s ys u k lawful w q v h =
           through-list l b m c d s (of Comma t ∷ ys) u k lawful refl w q v h
@@ -478,7 +478,7 @@ module _ (store : List ℕ) (opening : WalkOpening) (placeOf : ℕ → ℕ) (bas
           → before (listed b m) (W (spot b m c) s (listThen l xs) u k) ≡ onward (listExpansion store o placeOf d l m u) (After b s xs k)
       through-list (idle r) b m c d s xs u k lawful j w q v h =
           through-place r false b m c d s xs u k lawful w q v h
-          ∙ onward-same (placeExpansion store o placeOf d r m u) (λ m′ n. ap (before (listed b m′)) (joins-place xs j (spot b m′ (flag c r)) (spot b m′ true) (after-spot b m′ (flag c r)) s n k))
+          ∙ onward-same (slotExpansion store o placeOf d r m u) (λ m′ n. ap (before (listed b m′)) (joins-place xs j (spot b m′ (flag c r)) (spot b m′ true) (after-spot b m′ (flag c r)) s n k))
       through-list (full r a) b m c d s xs u k lawful j w q v h =
           full-by r a b m c d s xs u k h (through-place r (house.atomGroup a) b m c d s (addressThen a xs) u k (lawful .0) w q (omega (arith, v)) h)
           (λ m′ c′ n h′. through-address a false b m′ c′ d s xs n k (lawful .1) j w q (omega (arith, v)) h′)

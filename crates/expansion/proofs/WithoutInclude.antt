@@ -6,14 +6,14 @@ use mathlib.Core.List.{List}
 use Rattle.octets.specs.Believed.Numbers.{openingLimit}
 use Rattle.octets.specs.Believed.Choice.{pick}
 use Rattle.grammar.specs.Believed.Rfc733.{Derivation, DerivedList, kindNumber, typedKind}
-use Rattle.grammar.specs.Executable.Trees733.{Sym, Place, empty, comma, AddressList, idle, full, mailbox, angle, group, quoted, typed}
+use Rattle.grammar.specs.Executable.Trees733.{Sym, Slot, empty, comma, AddressList, idle, full, mailbox, angle, group, quoted, typed}
 use Rattle.grammar.specs.Executable.Trees733 as trees
 use Rattle.grammar.proofs.Rfc733.Derivations.{tree-derived}
 use Rattle.plain.specs.Believed.Meaning.{Addresses, noAddress, andAddress, address, atom, noWord, andWord, meaning}
-use Rattle.plain.proofs.TreeMeanings.{nameMeaning, placeMeaning, listMeaning, addressMeaning, meaning-row}
-use Rattle.expansion.specs.Believed.Expansion.{reached, andThen, Opening, expandInclude, expandRow, openedWithin, expansion}
+use Rattle.plain.proofs.TreeMeanings.{nameMeaning, slotMeaning, listMeaning, addressMeaning, meaning-forest}
+use Rattle.expansion.specs.Believed.Expansion.{reached, andThen, Opening, expandInclude, expandForest, openedWithin, expansion}
 use Rattle.expansion.specs.Believed.Promises.{NoInclude, NotInclude}
-use Rattle.expansion.proofs.TreeExpansion.{placeExpansion, listExpansion, addressExpansion, row-expansion}
+use Rattle.expansion.proofs.TreeExpansion.{slotExpansion, listExpansion, addressExpansion, forest-expansion}
 
 -- addresses after others
 abbrev pub andAll : Addresses → Addresses → Addresses
@@ -26,14 +26,14 @@ all-none (andAddress m a) = ap (λ b. andAddress b a) (all-none m)
 
 module _ (store : List ℕ) (opening : Opening) (placeOf : ℕ → ℕ) where
   mutual
-    same-place : (r : Place) (d : ℕ) (before : Addresses) (u : ℕ) → NoInclude (placeMeaning r) → placeExpansion store opening placeOf d r before u ≡ reached (andAll before (placeMeaning r)) u
+    same-place : (r : Slot) (d : ℕ) (before : Addresses) (u : ℕ) → NoInclude (slotMeaning r) → slotExpansion store opening placeOf d r before u ≡ reached (andAll before (slotMeaning r)) u
     same-place empty d before u n = refl
     same-place (comma l t) d before u n = same-list l d before u n
 
     pub same-list : (l : AddressList) (d : ℕ) (before : Addresses) (u : ℕ) → NoInclude (listMeaning l) → listExpansion store opening placeOf d l before u ≡ reached (andAll before (listMeaning l)) u
     same-list (idle r) d before u n = same-place r d before u n
     same-list (full r a) d before u n =
-        ap (λ e. andThen e (λ b v. addressExpansion store opening placeOf false d a b v)) (same-place r d before u (n .0)) ∙ same-address a false d (andAll before (placeMeaning r)) u (n .1)
+        ap (λ e. andThen e (λ b v. addressExpansion store opening placeOf false d a b v)) (same-place r d before u (n .0)) ∙ same-address a false d (andAll before (slotMeaning r)) u (n .1)
 
     same-address : (a : trees.Address) (y : Bool) (d : ℕ) (before : Addresses) (u : ℕ) → NotInclude (addressMeaning a) → addressExpansion store opening placeOf y d a before u ≡ reached (andAddress before (addressMeaning a)) u
     same-address (mailbox p m) y d before u n = refl
@@ -50,8 +50,8 @@ module _ (store : List ℕ) (opening : Opening) (placeOf : ℕ → ℕ) where
 pub without-include : (store : List ℕ) {k : Derivation} {xs : List Sym} → DerivedList k xs → NoInclude (meaning k) → expansion store k ≡ reached (meaning k) 0
 without-include store {k} derived n =
     let (l, e, d′) = tree-derived derived in
-    let m : meaning k ≡ listMeaning l = ap meaning e ∙ meaning-row l in
+    let m : meaning k ≡ listMeaning l = ap meaning e ∙ meaning-forest l in
     let opening : Opening = λ i p d before u. openedWithin store openingLimit i p d before u in
     let n′ : NoInclude (listMeaning l) = rw m at n in
-    ap (λ j. expandRow store opening (λ s. s) false 0 j noAddress 0) e ∙ row-expansion store opening (λ s. s) l 0 noAddress 0
+    ap (λ j. expandForest store opening (λ s. s) false 0 j noAddress 0) e ∙ forest-expansion store opening (λ s. s) l 0 noAddress 0
     ∙ same-list store opening (λ s. s) l 0 noAddress 0 n′ ∙ ap (λ z. reached z 0) (all-none (listMeaning l) ∙ sym m)

@@ -9,14 +9,14 @@ use Rattle.octets.specs.Believed.Choice.{either}
 use Rattle.grammar.specs.Believed.Grammar.{levels}
 use Rattle.grammar.specs.Believed.Language.{AtMost, upTo, Refusal, unfit, unfinished, tooDeep, Verdict, accepted, refused}
 use Rattle.grammar.specs.Believed.Rfc733.{Derivation, DerivedList, RightWithin}
-use Rattle.grammar.specs.Executable.Trees733.{Class, Atom, Quoted, At, LessThan, GreaterThan, Comma, Semicolon, Colon, Sym, of, AddressList, asRow}
+use Rattle.grammar.specs.Executable.Trees733.{Class, Atom, Quoted, At, LessThan, GreaterThan, Comma, Semicolon, Colon, Sym, of, AddressList, asForest}
 use Rattle.grammar.proofs.Rfc733.Trees.{listLevels, DerivedTree}
 use Rattle.grammar.specs.Executable.Machines.{Step, go, stop, standsBy}
 use Rattle.grammar.proofs.Any.Machine as any-machine
-use Rattle.grammar.specs.Executable.Machine733.{State, step, run, read, judge, finish, start, asRows}
+use Rattle.grammar.specs.Executable.Machine733.{State, step, run, read, judge, finish, start, asForests}
 use Rattle.grammar.proofs.Rfc733.Steps.{machine}
-use Rattle.grammar.proofs.Rfc733.Derivations.{row-levels, row-derived, tree-derived}
-use Rattle.grammar.proofs.Rfc733.Condition3.{answer-only, goes-on-row, goes-on-tree}
+use Rattle.grammar.proofs.Rfc733.Derivations.{forest-levels, forest-derived, tree-derived}
+use Rattle.grammar.proofs.Rfc733.Condition3.{answer-only, goes-on-forest, goes-on-tree}
 use Rattle.expected.specs.Believed.Things.{Thing, word, at, atSign, lessThan, greaterThan, comma, semicolon, colon, bodyEnd, IsOf, GoesOnWith, Could, goesOn, ends, ExactlyWhereRefused, ExactlyAtTheEnd, Alike, sameClass, bothWords, AlikeGoOn}
 use Rattle.expected.specs.Believed.Things as things
 use Rattle.expected.specs.Executable.Named.{NamesExactly, goes, isSome, anywhere, takes, namedAt, named}
@@ -30,7 +30,7 @@ Leads n before s = any-machine.Leads DerivedTree listLevels step finish start n 
 
 module _ (n : ℕ) (before : List Sym) (s : State) (f : Leads n before s) where
   taken : (st : Step State) (x : Sym) → step n s x ≡ st → goes st ≡ true → GoesOnWith n before x
-  taken (go s′) x e g = goes-on-row (AtMost n) (upTo before x) (any-machine.taken-goes-on DerivedTree listLevels step finish start machine n before s s′ x f e)
+  taken (go s′) x e g = goes-on-forest (AtMost n) (upTo before x) (any-machine.taken-goes-on DerivedTree listLevels step finish start machine n before s s′ x f e)
   taken (stop why) x e g = absurd (true≢false (sym g))
 
   stopped : (st : Step State) (x : Sym) → step n s x ≡ st → GoesOnWith n before x → goes st ≡ true
@@ -58,7 +58,7 @@ module _ (n : ℕ) (before : List Sym) (s : State) (f : Leads n before s) where
   end-could none e g = absurd (true≢false (sym g))
   end-could (some l) e g =
       let d = any-machine.ended-derives DerivedTree listLevels step finish start machine n before s l f e in
-      ends (row-derived (d .0)) (omega (arith, row-levels l, d .1))
+      ends (forest-derived (d .0)) (omega (arith, forest-levels l, d .1))
 
   named-could : (thing : Thing) → namedAt n s thing ≡ true → Could n before thing
   named-could word g = word-could (takes n s Atom) (takes n s Quoted) refl refl g
@@ -96,8 +96,8 @@ module _ (n : ℕ) (before : List Sym) (s : State) (f : Leads n before s) where
   end-named (some l) k e d v = refl
   end-named none k e d v =
       let (l, q, d′) = tree-derived d in
-      let w : levels (asRow l) ≤ n = rw q at v in
-      absurd (any-machine.unended-derives DerivedTree listLevels step finish start machine n before s l f e d′ (omega (arith, row-levels l)))
+      let w : levels (asForest l) ≤ n = rw q at v in
+      absurd (any-machine.unended-derives DerivedTree listLevels step finish start machine n before s l f e d′ (omega (arith, forest-levels l)))
 
   could-named : (thing : Thing) → Could n before thing → namedAt n s thing ≡ true
   could-named thing (goesOn x i g) = is-named thing (x .class) i (goes-on-takes x g)
@@ -120,9 +120,9 @@ module _ (n : ℕ) (before : List Sym) (s : State) (f : Leads n before s) where
 
 -- ---- at the place of a refusal
 
-rows-refused : (v : Verdict Class AddressList) (why : Refusal) (rest : List Sym) → asRows v ≡ refused why rest → v ≡ refused why rest
-rows-refused (accepted l) why rest e = let z : _≡_ {A = ℕ} 0 1 = cc in absurd (omega arith)
-rows-refused (refused w r) why rest e = cc
+forests-refused : (v : Verdict Class AddressList) (why : Refusal) (rest : List Sym) → asForests v ≡ refused why rest → v ≡ refused why rest
+forests-refused (accepted l) why rest e = let z : _≡_ {A = ℕ} 0 1 = cc in absurd (omega arith)
+forests-refused (refused w r) why rest e = cc
 
 -- what stands before the place
 pub before-refused : (limit : ℕ) (xs rest : List Sym) (why : Refusal) → RightWithin limit xs (refused why rest) → (before : List Sym) × (xs ≡ before ++ rest)
@@ -132,7 +132,7 @@ before-refused limit xs rest tooDeep r = (r .0 .before, r .0 .splits)
 
 pub names-right : (limit : ℕ) (xs : List Sym) → ExactlyWhereRefused limit xs (named limit xs)
 names-right limit xs why before rest r splits =
-    let e : judge (run limit start xs) ≡ refused why rest = rows-refused (read limit xs) why rest (sym (answer-only limit xs (refused why rest) r)) in
+    let e : judge (run limit start xs) ≡ refused why rest = forests-refused (read limit xs) why rest (sym (answer-only limit xs (refused why rest) r)) in
     let a = any-machine.stood DerivedTree listLevels step finish start machine limit start xs rest why e in
     let q : a .before ≡ before = append-cancel-right (a .before) before rest (sym (a .splits) ∙ splits) in
     let s = standsBy step limit start xs in
@@ -143,8 +143,8 @@ names-right limit xs why before rest r splits =
 pub names-at-end : (limit : ℕ) (xs : List Sym) → ExactlyAtTheEnd limit xs (named limit xs)
 names-at-end limit xs k d v =
     let (l, q, t) = tree-derived d in
-    let w : levels (asRow l) ≤ limit = rw q at v in
-    let f = any-machine.stood-at-end DerivedTree listLevels step finish start machine limit l xs t (omega (arith, row-levels l)) in
+    let w : levels (asForest l) ≤ limit = rw q at v in
+    let f = any-machine.stood-at-end DerivedTree listLevels step finish start machine limit l xs t (omega (arith, forest-levels l)) in
     let s = standsBy step limit start xs in
     record { only = named-could limit xs s f; all = could-named limit xs s f }
 

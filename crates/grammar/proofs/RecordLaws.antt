@@ -7,19 +7,19 @@ use lib.ListN.{length, length-append}
 use lib.Seq.{sets}
 use Rattle.records.specs.Believed.AddressRecords.{addressLayout, addressRecordSize, tableBytes}
 use Rattle.records.proofs.TableLaws.{stored-behind as behind}
-use Rattle.grammar.specs.Executable.Trees733.{Place, empty, comma, AddressList, idle, full, Address, mailbox, angle, group, quoted, typed}
-use Rattle.grammar.proofs.Rfc733.TreeRecords.{placeCount, listCount, addressCount, placeRecords, listRecords, insideRecords, addressRecords}
+use Rattle.grammar.specs.Executable.Trees733.{Slot, empty, comma, AddressList, idle, full, Address, mailbox, angle, group, quoted, typed}
+use Rattle.grammar.proofs.Rfc733.TreeRecords.{slotCount, listCount, addressCount, slotRecords, listRecords, insideRecords, addressRecords}
 
 -- ---- as many records as addresses
 
 mutual
-  pub place-length : (r : Place) (d p i : ℕ) → length (placeRecords r d p i) ≡ placeCount r
-  place-length empty d p i = refl
-  place-length (comma l t) d p i = list-length l d p i
+  pub slot-length : (r : Slot) (d p i : ℕ) → length (slotRecords r d p i) ≡ slotCount r
+  slot-length empty d p i = refl
+  slot-length (comma l t) d p i = list-length l d p i
 
   pub list-length : (l : AddressList) (d p i : ℕ) → length (listRecords l d p i) ≡ listCount l
-  list-length (idle r) d p i = place-length r d p i
-  list-length (full r a) d p i = simp length-append (omega (arith, place-length r d p i, inside-length a (suc d) (suc (i + placeCount r))))
+  list-length (idle r) d p i = slot-length r d p i
+  list-length (full r a) d p i = simp length-append (omega (arith, slot-length r d p i, inside-length a (suc d) (suc (i + slotCount r))))
 
   pub inside-length : (a : Address) (d i : ℕ) → suc (length (insideRecords a d i)) ≡ addressCount a
   inside-length (mailbox p m) d i = refl
@@ -31,11 +31,11 @@ mutual
 -- ---- one record after the other
 
 -- the records of one address more, behind those of a place
-pub stored-behind : (table : List ℕ) (first : ℕ) (r : Place) (a : Address) (depth parent : ℕ)
-    → sets (sets table (first * addressRecordSize) (tableBytes (placeRecords r depth parent first))) ((first + placeCount r) * addressRecordSize) (tableBytes (addressRecords a depth parent (first + placeCount r)))
+pub stored-behind : (table : List ℕ) (first : ℕ) (r : Slot) (a : Address) (depth parent : ℕ)
+    → sets (sets table (first * addressRecordSize) (tableBytes (slotRecords r depth parent first))) ((first + slotCount r) * addressRecordSize) (tableBytes (addressRecords a depth parent (first + slotCount r)))
     ≡ sets table (first * addressRecordSize) (tableBytes (listRecords (full r a) depth parent first))
 stored-behind table first r a depth parent =
-    let rs = placeRecords r depth parent first in
-    let more = addressRecords a depth parent (first + placeCount r) in
-    ap (λ n. sets (sets table (first * addressRecordSize) (tableBytes rs)) ((first + n) * addressRecordSize) (tableBytes more)) (sym (place-length r depth parent first))
+    let rs = slotRecords r depth parent first in
+    let more = addressRecords a depth parent (first + slotCount r) in
+    ap (λ n. sets (sets table (first * addressRecordSize) (tableBytes rs)) ((first + n) * addressRecordSize) (tableBytes more)) (sym (slot-length r depth parent first))
     ∙ behind addressLayout table first rs more

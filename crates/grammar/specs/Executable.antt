@@ -4,7 +4,7 @@ use Prim.Native.Nat.{ℕ, _≤_}
 use mathlib.Core.Path.{_≡_}
 use mathlib.Core.List.{List}
 use Rattle.scanner.specs.Believed.Symbols.{Symbol}
-use Rattle.grammar.specs.Believed.Grammar.{Grammar, Row, Derived, levels}
+use Rattle.grammar.specs.Believed.Grammar.{Grammar, Forest, Derived, levels}
 use Rattle.grammar.specs.Believed.Language.{Verdict, Right}
 use Rattle.grammar.specs.Believed.Rfc733 as of733
 use Rattle.grammar.specs.Believed.Rfc822 as of822
@@ -18,13 +18,13 @@ pub mod Trees822
 pub mod Machine822
 
 -- a verdict that is computed, with at most `limit` levels, for every limit of at least `least`
-pub record Decides {C N : Type 0} (G : Grammar C N) (A : N) (least : ℕ) (verdict : ℕ → List (Symbol C) → Verdict C (Row C N)) : Type 0 where
+pub record Decides {C N : Type 0} (G : Grammar C N) (A : N) (least : ℕ) (verdict : ℕ → List (Symbol C) → Verdict C (Forest C N)) : Type 0 where
   -- it is right for every sequence of symbols
   pub right : (limit : ℕ) → least ≤ limit → (xs : List (Symbol C)) → Right (Derived G A) levels limit xs (verdict limit xs)
   -- .. and no other is
-  pub only : (limit : ℕ) → least ≤ limit → (xs : List (Symbol C)) (v : Verdict C (Row C N)) → Right (Derived G A) levels limit xs v → v ≡ verdict limit xs
+  pub only : (limit : ℕ) → least ≤ limit → (xs : List (Symbol C)) (v : Verdict C (Forest C N)) → Right (Derived G A) levels limit xs v → v ≡ verdict limit xs
   -- .. since there is exactly one derivation
-  pub one : (k k′ : Row C N) (xs : List (Symbol C)) → Derived G A k xs → Derived G A k′ xs → k ≡ k′
+  pub one : (k k′ : Forest C N) (xs : List (Symbol C)) → Derived G A k xs → Derived G A k′ xs → k ≡ k′
 
 -- of RFC 733, for every limit
 abbrev pub Decides733 : Type 0

@@ -25,7 +25,7 @@ use Rattle.header.specs.declared.names.Known.{Known}
 use Rattle.header.specs.declared.names.Known.the-variants as known
 use Rattle.header.proofs.names.Known.{the-type}
 use Rattle.scanner.specs.declared.Class.{Class}
-use Rattle.grammar.specs.Believed.Grammar.{Row}
+use Rattle.grammar.specs.Believed.Grammar.{Forest}
 use Rattle.grammar.specs.Believed.Records.{count, records}
 use Rattle.grammar.proofs.Any.Records.{length-records}
 use Rattle.grammar.proofs.Any.Positions.{ReadBack}
@@ -56,7 +56,7 @@ module _ (edition : ℕ) (message : List ℕ) (start end : ℕ) (table : List �
   room-is : length table / addressRecordSize ≡ tableRecords
   room-is = rw (← size)
 
-  module _ {N : Type 0} (k : Row Class N) (back : ReadBack k) (answered : AnsweredBy edition message start end (λ A refuse derive. derive N k)) where
+  module _ {N : Type 0} (k : Forest Class N) (back : ReadBack k) (answered : AnsweredBy edition message start end (λ A refuse derive. derive N k)) where
     -- the records in the table are those of the list
     records-in : count k ≤ tableRecords → tabulate (recordIn (sets table 0 (tableBytes (records k)))) (count k) 0 ≡ records k
     records-in h =

@@ -26,10 +26,10 @@ use header::names::known_name;
 use octets::answers::Answer;
 use octets::numbers::TABLE_RECORDS;
 use octets::numbers::TOO_LITTLE_ROOM;
-use records::addresses::ADDRESS_RECORD_SIZE;
-use records::fields::FIELD_RECORD_SIZE;
 use octets::writing::store_byte_in;
 use octets::writing::store_bytes_in;
+use records::addresses::ADDRESS_RECORD_SIZE;
+use records::fields::FIELD_RECORD_SIZE;
 
 // The bytes of a table of field records, and of one of address records.
 const FIELD_TABLE_SIZE: usize = TABLE_RECORDS * FIELD_RECORD_SIZE;

@@ -9,13 +9,13 @@ use Rattle.octets.specs.Believed.Choice.{pick}
 use Rattle.octets.specs.Believed.Text.{bytes}
 use Rattle.grammar.specs.Believed.Rfc733.{kindNumber}
 use Rattle.grammar.specs.Believed.Rfc733 as rfc733
-use Rattle.grammar.specs.Executable.Trees733.{Class, Atom, Quoted, At, LessThan, GreaterThan, Comma, Semicolon, Colon, Lexeme, Sym, of, atomWord, quotedWord, Phrase, one, more, Nodes, first, next, Place, comma, AddressList, idle, full}
-use Rattle.grammar.proofs.Rfc733.Trees.{wordSymbol, phraseThen, nameThen, nodesThen, placeThen, listThen, addressThen, houseRule, placeLawful, listLawful, addressLawful, listLevels, DerivedTree}
+use Rattle.grammar.specs.Executable.Trees733.{Class, Atom, Quoted, At, LessThan, GreaterThan, Comma, Semicolon, Colon, Lexeme, Sym, of, atomWord, quotedWord, Phrase, one, more, Nodes, first, next, Slot, comma, AddressList, idle, full}
+use Rattle.grammar.proofs.Rfc733.Trees.{wordSymbol, phraseThen, nameThen, nodesThen, slotThen, listThen, addressThen, houseRule, slotLawful, listLawful, addressLawful, listLevels, DerivedTree}
 use Rattle.grammar.specs.Executable.Trees733 as trees
-use Rattle.grammar.proofs.Rfc733.HouseRule.{placeAtomGroup, listAtomGroup, atomColon-list}
+use Rattle.grammar.proofs.Rfc733.HouseRule.{slotAtomGroup, listAtomGroup, atomColon-list}
 use Rattle.plain.specs.Believed.Meaning.{Word, atom, quotedString, Words, noWord, andWord, Addresses, noAddress, andAddress, Address, address}
 use Rattle.plain.specs.Believed.PlainText.{atomGroup, firstAtomGroup}
-use Rattle.plain.proofs.TreeMeanings.{wordMeaning, phraseMeaning, nameMeaning, nodesMeaning, placeMeaning, listMeaning, addressMeaning, typedMeaning, atom-group, addressesDepth, list-depth}
+use Rattle.plain.proofs.TreeMeanings.{wordMeaning, phraseMeaning, nameMeaning, nodesMeaning, slotMeaning, listMeaning, addressMeaning, typedMeaning, atom-group, addressesDepth, list-depth}
 use Rattle.plain.proofs.Writable.{WritablePhrase, WritableList, empty, also, WritableAddress, mailbox, angle, group, quoted, typed, listOf, addressOf, Mark, mark, marks, wordMarks, phraseMarks, atMark, nodesMarks, commaMark, gapMarks, listMarks, addressMarks}
 
 -- ---- the first symbol
@@ -109,13 +109,13 @@ grow-name (andWord before w) xs ms e =
 
 -- the comma of a nameless group whose list must not begin with an atom and ":"
 record GrownGap (name : Words) (l : Addresses) (xs : List Sym) (ms : List Mark) : Type 0 where
-  lead : Place
+  lead : Slot
   rest : List Sym
-  is : xs ≡ placeThen lead rest
+  is : xs ≡ slotThen lead rest
   left : marks rest ≡ ms
-  means : placeMeaning lead ≡ noAddress
-  lawful : placeLawful lead
-  shut : name ≡ noWord → placeAtomGroup lead (firstAtomGroup l) ≡ false
+  means : slotMeaning lead ≡ noAddress
+  lawful : slotLawful lead
+  shut : name ≡ noWord → slotAtomGroup lead (firstAtomGroup l) ≡ false
 
 no-lead : (name : Words) (l : Addresses) (xs : List Sym) (ms : List Mark) → marks xs ≡ ms → (name ≡ noWord → firstAtomGroup l ≡ false) → GrownGap name l xs ms
 no-lead name l xs ms e h = record { lead = trees.empty; rest = xs; is = refl; left = e; means = refl; lawful = tt; shut = h }
@@ -132,14 +132,14 @@ grow-gap (andWord before w) noAddress xs ms e = no-lead (andWord before w) noAdd
 grow-gap noWord (andAddress l a) xs ms e = pick-lead (firstAtomGroup (andAddress l a)) (andAddress l a) xs ms refl e
 grow-gap (andWord before w) (andAddress l a) xs ms e = no-lead (andWord before w) (andAddress l a) xs ms e (λ z. absurd (let o : _≡_ {A = ℕ} 0 1 = cc in omega arith))
 
-record GrownList (l : Addresses) (r : Place) (xs : List Sym) (ms : List Mark) : Type 0 where
+record GrownList (l : Addresses) (r : Slot) (xs : List Sym) (ms : List Mark) : Type 0 where
   tree : AddressList
   rest : List Sym
-  is : placeThen r xs ≡ listThen tree rest
+  is : slotThen r xs ≡ listThen tree rest
   left : marks rest ≡ ms
   means : listMeaning tree ≡ l
   lawful : listLawful tree
-  leading : listAtomGroup tree ≡ placeAtomGroup r (firstAtomGroup l)
+  leading : listAtomGroup tree ≡ slotAtomGroup r (firstAtomGroup l)
 
 record GrownAddress (a : Address) (xs : List Sym) (ms : List Mark) : Type 0 where
   tree : trees.Address
@@ -150,20 +150,20 @@ record GrownAddress (a : Address) (xs : List Sym) (ms : List Mark) : Type 0 wher
   lawful : addressLawful tree
 
 -- a place and an address
-grow-first : (a : Address) (r : Place) (xs : List Sym) (ms : List Mark) → placeMeaning r ≡ noAddress → placeLawful r → GrownAddress a xs ms → GrownList (andAddress noAddress a) r xs ms
+grow-first : (a : Address) (r : Slot) (xs : List Sym) (ms : List Mark) → slotMeaning r ≡ noAddress → slotLawful r → GrownAddress a xs ms → GrownList (andAddress noAddress a) r xs ms
 grow-first a r xs ms e o g =
     record {
       tree = full r (g .tree);
       rest = g .rest;
-      is = ap (placeThen r) (g .is);
+      is = ap (slotThen r) (g .is);
       left = g .left;
       means = ap₂ andAddress e (g .means);
       lawful = (o, g .lawful);
-      leading = ap (placeAtomGroup r) (atom-group (g .tree) ∙ ap atomGroup (g .means));
+      leading = ap (slotAtomGroup r) (atom-group (g .tree) ∙ ap atomGroup (g .means));
     }
 
 -- the comma after a list
-grow-next : (a : Address) (l : Addresses) (b : Address) (r : Place) (xs : List Sym) (ms ns : List Mark) → (g : GrownList (andAddress l b) r xs (commaMark ∷ ms)) → (t : Popped Comma (bytes ",") (g .rest) ms)
+grow-next : (a : Address) (l : Addresses) (b : Address) (r : Slot) (xs : List Sym) (ms ns : List Mark) → (g : GrownList (andAddress l b) r xs (commaMark ∷ ms)) → (t : Popped Comma (bytes ",") (g .rest) ms)
     → GrownAddress a (t .rest) ns → GrownList (andAddress (andAddress l b) a) r xs ns
 grow-next a l b r xs ms ns g t h =
     record {
@@ -217,7 +217,7 @@ typed-grown t v u h =
     }
 
 mutual
-  grow-list : (l : WritableList) (r : Place) (xs : List Sym) (ms : List Mark) → placeMeaning r ≡ noAddress → placeLawful r → marks xs ≡ listMarks l ms → GrownList (listOf l) r xs ms
+  grow-list : (l : WritableList) (r : Slot) (xs : List Sym) (ms : List Mark) → slotMeaning r ≡ noAddress → slotLawful r → marks xs ≡ listMarks l ms → GrownList (listOf l) r xs ms
   grow-list empty r xs ms e o q = record { tree = idle r; rest = xs; is = refl; left = q; means = e; lawful = o; leading = refl }
   grow-list (also empty a) r xs ms e o q = grow-first (addressOf a) r xs ms e o (grow-address a xs ms q)
   grow-list (also (also l b) a) r xs ms e o q =

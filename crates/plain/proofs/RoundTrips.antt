@@ -15,15 +15,15 @@ use Rattle.grammar.specs.Believed.Grammar.{levels}
 use Rattle.grammar.specs.Believed.Language.{accepted}
 use Rattle.grammar.specs.Believed.Rfc733.{Derivation, DerivedList}
 use Rattle.grammar.proofs.Rfc733.Trees.{listThen}
-use Rattle.grammar.specs.Executable.Trees733.{asRow}
-use Rattle.grammar.proofs.Rfc733.Derivations.{row-levels, row-derived, tree-derived}
+use Rattle.grammar.specs.Executable.Trees733.{asForest}
+use Rattle.grammar.proofs.Rfc733.Derivations.{forest-levels, forest-derived, tree-derived}
 use Rattle.grammar.specs.Executable.Machine733.{answer}
 use Rattle.grammar.proofs.Rfc733.Condition3.{one-derivation, answer-accepts}
 use Rattle.plain.specs.Believed.Meaning.{Addresses, meaning, SameAddresses}
 use Rattle.plain.specs.Believed.PlainText.{addressesText, plainText}
 use Rattle.plain.specs.Ties.Walking.{writtenText}
 use Rattle.plain.specs.Believed.RoundTrip.{AcceptedBody, RoundTrip}
-use Rattle.plain.proofs.TreeMeanings.{listMeaning, meaning-row, addressesDepth, list-depth}
+use Rattle.plain.proofs.TreeMeanings.{listMeaning, meaning-forest, addressesDepth, list-depth}
 use Rattle.plain.proofs.Writable.{WritableList, listOf}
 use Rattle.plain.proofs.Reading.{seen-faultless, seen-marks, reads-plain}
 use Rattle.plain.proofs.Growing.{grown}
@@ -42,17 +42,17 @@ pub reread-writable : (w : WritableList) → Reread (addressesText (listOf w) []
 reread-writable w =
     let v = reads-plain w .from 0 in
     let (t, d, e, n) = grown w _ (seen-marks v) in
-    record { again = asRow t; faultless = seen-faultless v; derived = row-derived d; means = meaning-row t ∙ e; deep = row-levels t ∙ n }
+    record { again = asForest t; faultless = seen-faultless v; derived = forest-derived d; means = meaning-forest t ∙ e; deep = forest-levels t ∙ n }
 
 -- the symbols of any text, if they are derived
 reread : (text : List ℕ) (at : ℕ) {k : Derivation} → DerivedList k (symbolsOf (scan text at)) → Reread (plainText k) (meaning k) × (levels k ≡ addressesDepth (meaning k))
 reread text at {k} d =
     let (l, e, d′) = tree-derived d in
-    let m : meaning k ≡ listMeaning l = ap meaning e ∙ meaning-row l in
+    let m : meaning k ≡ listMeaning l = ap meaning e ∙ meaning-forest l in
     let g : WritableSymbols (listThen l []) = rw (d′ .yields) (writable-symbols text at) in
     let (w, f) = writable-list l g in
     let q : meaning k ≡ listOf w = m ∙ sym f in
-    (rw q (reread-writable w), ap levels e ∙ row-levels l ∙ list-depth l ∙ ap addressesDepth (sym m))
+    (rw q (reread-writable w), ap levels e ∙ forest-levels l ∙ list-depth l ∙ ap addressesDepth (sym m))
 
 -- a plain text of at most 32,768 bytes is accepted, with the same addresses, nesting, words and nodes, and written again it is the same bytes
 pub round-trip : {message : List ℕ} {start end : ℕ} {k : Derivation} → AcceptedBody message start end k → length (plainText k) ≤ messageLimit → RoundTrip k

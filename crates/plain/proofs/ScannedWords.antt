@@ -21,13 +21,13 @@ use Rattle.scanner.specs.Believed.Characters as characters
 use Rattle.scanner.specs.Believed.Scanning.{Scanned, next, faultAt, State, outside, inAtom, inQuoted, takingInQuoted, inLiteral, takingInLiteral, inComment, takingInComment, Move, go, halt, atomClass, moveOutside, endingWith, moveInAtom, moveInQuoted, closed, moveInComment, take, takenData, move, atEnd, followedBy, then, scanFrom, scan, symbolsOf}
 use Rattle.scanner.specs.Believed.Scanning as scanning
 use Rattle.scanner.proofs.MoveLaws.{tag}
-use Rattle.grammar.specs.Executable.Trees733.{Class, Atom, Quoted, At, LessThan, GreaterThan, Comma, Semicolon, Colon, Stray, Dot, Literal, Sym, of, atomWord, quotedWord, Phrase, one, more, Nodes, first, Place, comma, AddressList, idle, full}
-use Rattle.grammar.proofs.Rfc733.Trees.{wordSymbol, phraseThen, nameThen, nodesThen, placeThen, listThen, addressThen}
+use Rattle.grammar.specs.Executable.Trees733.{Class, Atom, Quoted, At, LessThan, GreaterThan, Comma, Semicolon, Colon, Stray, Dot, Literal, Sym, of, atomWord, quotedWord, Phrase, one, more, Nodes, first, Slot, comma, AddressList, idle, full}
+use Rattle.grammar.proofs.Rfc733.Trees.{wordSymbol, phraseThen, nameThen, nodesThen, slotThen, listThen, addressThen}
 use Rattle.grammar.specs.Executable.Trees733 as trees
 use Rattle.grammar.specs.Believed.Rfc733.{kindNumber}
 use Rattle.grammar.specs.Believed.Rfc733 as rfc733
 use Rattle.plain.specs.Believed.Meaning.{noWord, Addresses, andAddress, Address, address}
-use Rattle.plain.proofs.TreeMeanings.{wordMeaning, phraseMeaning, nameMeaning, nodesMeaning, placeMeaning, listMeaning, addressMeaning, typedMeaning}
+use Rattle.plain.proofs.TreeMeanings.{wordMeaning, phraseMeaning, nameMeaning, nodesMeaning, slotMeaning, listMeaning, addressMeaning, typedMeaning}
 use Rattle.plain.proofs.ByteKinds.{KindView, isWhite, isControl, isReturn, isPlain, isOpen, isClose, isLess, isGreater, isAt, isComma, isSemicolon, isColon, isBackslash, isQuote, isAbove, byte-view, IsPlain, IsDatum, aboveTag, datum}
 use Rattle.plain.proofs.Writable.{Each, WritableAtom, WritableWord, WritableWords, WritablePhrase, WritableList, empty, also, WritableAddress, mailbox, angle, group, quoted, typed, listOf, addressOf}
 
@@ -317,7 +317,7 @@ record FineAddress (m : Address) (xs : List Sym) : Type 0 where
   behind : WritableSymbols xs
 
 mutual
-  place-fine : (r : Place) (xs : List Sym) → WritableSymbols (placeThen r xs) → FineList (placeMeaning r) xs
+  place-fine : (r : Slot) (xs : List Sym) → WritableSymbols (slotThen r xs) → FineList (slotMeaning r) xs
   place-fine trees.empty xs g = record { list = empty; is = refl; behind = g }
   place-fine (comma l t) xs g = let f = list-fine l (of Comma t ∷ xs) g in record { list = f .list; is = f .is; behind = f .behind .1 }
 

@@ -13,8 +13,8 @@ use Rattle.grammar.specs.Believed.Grammar.{nil, leaf}
 use Rattle.grammar.specs.Believed.Records.{partOf}
 use Rattle.grammar.specs.Believed.Rfc733.{Derivation, include, postal, otherTyped, kindNumber, typedKind}
 use Rattle.grammar.specs.Believed.Rfc733 as rfc733
-use Rattle.grammar.specs.Executable.Trees733.{nodePiece, Comma, At, put, Atom, Colon, LessThan, GreaterThan, Semicolon, Lexeme, Sym, of, atomWord, quotedWord, Phrase, one, more, Nodes, first, next, Place, empty, comma, AddressList, idle, full, mailbox, angle, group, quoted, typed, wordPiece, phrasePiece, nodesPiece, placePiece, listPiece, addressPiece, asRow}
-use Rattle.grammar.proofs.Rfc733.Trees.{phraseThen, nodesThen, placeLevels, listLevels, addressLevels}
+use Rattle.grammar.specs.Executable.Trees733.{nodePiece, Comma, At, put, Atom, Colon, LessThan, GreaterThan, Semicolon, Lexeme, Sym, of, atomWord, quotedWord, Phrase, one, more, Nodes, first, next, Slot, empty, comma, AddressList, idle, full, mailbox, angle, group, quoted, typed, wordPiece, phrasePiece, nodesPiece, slotPiece, listPiece, addressPiece, asForest}
+use Rattle.grammar.proofs.Rfc733.Trees.{phraseThen, nodesThen, slotLevels, listLevels, addressLevels}
 use Rattle.grammar.specs.Executable.Trees733 as trees
 use Rattle.grammar.proofs.Rfc733.HouseRule as house
 use Rattle.grammar.proofs.Rfc733.Derivations.{phrase-yield, nodes-yield}
@@ -44,13 +44,13 @@ abbrev pub typedMeaning : List ℕ → Address → Address
 typedMeaning letters member = address (kindNumber (typedKind letters)) (andWord noWord (atom letters)) noWord (andAddress noAddress member)
 
 abbrev mutual
-  pub placeMeaning : Place → Addresses
-  placeMeaning empty = noAddress
-  placeMeaning (comma l t) = listMeaning l
+  pub slotMeaning : Slot → Addresses
+  slotMeaning empty = noAddress
+  slotMeaning (comma l t) = listMeaning l
 
   pub listMeaning : AddressList → Addresses
-  listMeaning (idle r) = placeMeaning r
-  listMeaning (full r a) = andAddress (placeMeaning r) (addressMeaning a)
+  listMeaning (idle r) = slotMeaning r
+  listMeaning (full r a) = andAddress (slotMeaning r) (addressMeaning a)
 
   pub addressMeaning : trees.Address → Address
   addressMeaning (mailbox p m) = address (kindNumber rfc733.mailbox) (phraseMeaning p) (nodesMeaning m) noAddress
@@ -106,41 +106,41 @@ after-nodes : (m : Nodes) (before : Addresses) (k : Derivation) → addressesAft
 after-nodes (first t w) before k = ap (λ b. addressesAfter b k) (after-word w before nil)
 after-nodes (next m t w) before k = ap (λ b. addressesAfter b k) (after-nodes m before (leaf (of At t) (put (nodePiece w) nil)) ∙ after-word w before nil)
 
--- ---- the addresses of a row are those of the tree
+-- ---- the addresses of a forest are those of the tree
 
 typed-address : (atom′ : Lexeme) (kind : ℕ) (name nodes nodes′ : Words) (members members′ : Addresses) → kind ≡ kindNumber (typedKind (atom′ .meaning)) → nodes ≡ nodes′ → members ≡ members′
     → address kind name nodes members ≡ address (kindNumber (typedKind (atom′ .meaning))) name nodes′ members′
 typed-address atom′ kind name nodes nodes′ members members′ e f g = cc
 
 mutual
-  after-place : (r : Place) (k : Derivation) → addressesAfter noAddress (put (placePiece r) k) ≡ addressesAfter (placeMeaning r) k
+  after-place : (r : Slot) (k : Derivation) → addressesAfter noAddress (put (slotPiece r) k) ≡ addressesAfter (slotMeaning r) k
   after-place empty k = refl
   after-place (comma l t) k = ap (λ b. addressesAfter b k) (after-list l (leaf (of Comma t) nil))
 
   pub after-list : (l : AddressList) (k : Derivation) → addressesAfter noAddress (put (listPiece l) k) ≡ addressesAfter (listMeaning l) k
   after-list (idle r) k = ap (λ b. addressesAfter b k) (after-place r nil)
-  after-list (full r a) k = ap (λ b. addressesAfter b k) (after-place r (put (addressPiece a) nil) ∙ after-address a (placeMeaning r) nil)
+  after-list (full r a) k = ap (λ b. addressesAfter b k) (after-place r (put (addressPiece a) nil) ∙ after-address a (slotMeaning r) nil)
 
   pub after-address : (a : trees.Address) (before : Addresses) (k : Derivation) → addressesAfter before (put (addressPiece a) k) ≡ addressesAfter (andAddress before (addressMeaning a)) k
   after-address (mailbox p m) before k =
-      let row = put (phrasePiece p) (put (nodesPiece m) nil) in
-      let n : wordsOf (partOf 0 row) ≡ phraseMeaning p = name-words p (put (nodesPiece m) nil) in
-      let w : wordsOf (partOf 1 row) ≡ nodesMeaning m = node-words p m nil in
-      let e : addressesAfter noAddress row ≡ noAddress = after-phrase p noAddress (put (nodesPiece m) nil) ∙ after-nodes m noAddress nil in
+      let forest = put (phrasePiece p) (put (nodesPiece m) nil) in
+      let n : wordsOf (partOf 0 forest) ≡ phraseMeaning p = name-words p (put (nodesPiece m) nil) in
+      let w : wordsOf (partOf 1 forest) ≡ nodesMeaning m = node-words p m nil in
+      let e : addressesAfter noAddress forest ≡ noAddress = after-phrase p noAddress (put (nodesPiece m) nil) ∙ after-nodes m noAddress nil in
       ap (λ b. addressesAfter (andAddress before b) k) (cc)
   after-address (angle none t l u) before k =
       ap (λ b. addressesAfter (andAddress before (address (kindNumber rfc733.angleList) noWord noWord b)) k) (after-list l (leaf (of GreaterThan u) nil))
   after-address (angle (some p) t l u) before k =
-      let row = put (phrasePiece p) (leaf (of LessThan t) (put (listPiece l) (leaf (of GreaterThan u) nil))) in
-      let n : wordsOf (partOf 0 row) ≡ phraseMeaning p = name-words p (leaf (of LessThan t) (put (listPiece l) (leaf (of GreaterThan u) nil))) in
-      let e : addressesAfter noAddress row ≡ listMeaning l = after-phrase p noAddress (leaf (of LessThan t) (put (listPiece l) (leaf (of GreaterThan u) nil))) ∙ after-list l (leaf (of GreaterThan u) nil) in
+      let forest = put (phrasePiece p) (leaf (of LessThan t) (put (listPiece l) (leaf (of GreaterThan u) nil))) in
+      let n : wordsOf (partOf 0 forest) ≡ phraseMeaning p = name-words p (leaf (of LessThan t) (put (listPiece l) (leaf (of GreaterThan u) nil))) in
+      let e : addressesAfter noAddress forest ≡ listMeaning l = after-phrase p noAddress (leaf (of LessThan t) (put (listPiece l) (leaf (of GreaterThan u) nil))) ∙ after-list l (leaf (of GreaterThan u) nil) in
       ap (λ b. addressesAfter (andAddress before b) k) (cc)
   after-address (group none t l u) before k =
       ap (λ b. addressesAfter (andAddress before (address (kindNumber rfc733.group) noWord noWord b)) k) (after-list l (leaf (of Semicolon u) nil))
   after-address (group (some p) t l u) before k =
-      let row = put (phrasePiece p) (leaf (of Colon t) (put (listPiece l) (leaf (of Semicolon u) nil))) in
-      let n : wordsOf (partOf 0 row) ≡ phraseMeaning p = name-words p (leaf (of Colon t) (put (listPiece l) (leaf (of Semicolon u) nil))) in
-      let e : addressesAfter noAddress row ≡ listMeaning l = after-phrase p noAddress (leaf (of Colon t) (put (listPiece l) (leaf (of Semicolon u) nil))) ∙ after-list l (leaf (of Semicolon u) nil) in
+      let forest = put (phrasePiece p) (leaf (of Colon t) (put (listPiece l) (leaf (of Semicolon u) nil))) in
+      let n : wordsOf (partOf 0 forest) ≡ phraseMeaning p = name-words p (leaf (of Colon t) (put (listPiece l) (leaf (of Semicolon u) nil))) in
+      let e : addressesAfter noAddress forest ≡ listMeaning l = after-phrase p noAddress (leaf (of Colon t) (put (listPiece l) (leaf (of Semicolon u) nil))) ∙ after-list l (leaf (of Semicolon u) nil) in
       ap (λ b. addressesAfter (andAddress before b) k) (cc)
   after-address (quoted t) before k = refl
   after-address (typed t a u b) before k =
@@ -148,8 +148,8 @@ mutual
       (typed-address a _ _ _ _ _ _ (ap (λ m. kindNumber (typedKind m)) (append-nil (a .meaning))) (no-typed-nodes (a .meaning ++ []) (leaf (of Colon t) (leaf (of Atom a) (leaf (of Colon u) (put (addressPiece b) nil))))) (after-address b noAddress nil))
 
 -- the meaning of a derivation, by its tree
-pub meaning-row : (l : AddressList) → meaning (asRow l) ≡ listMeaning l
-meaning-row l = after-list l nil
+pub meaning-forest : (l : AddressList) → meaning (asForest l) ≡ listMeaning l
+meaning-forest l = after-list l nil
 
 -- ---- what a meaning tells of its derivations
 
@@ -167,7 +167,7 @@ typed-depth letters member =
     of-typed (λ kind. addressDepth (address kind (andWord noWord (atom letters)) noWord (andAddress noAddress member)) ≡ suc (addressDepth member)) (omega arith) (omega arith) (omega arith) letters
 
 mutual
-  place-depth : (r : Place) → placeLevels r ≡ addressesDepth (placeMeaning r)
+  place-depth : (r : Slot) → slotLevels r ≡ addressesDepth (slotMeaning r)
   place-depth empty = refl
   place-depth (comma l t) = list-depth l
 

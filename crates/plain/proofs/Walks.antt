@@ -9,9 +9,9 @@ use Rattle.octets.specs.Believed.Choice.{pick, both}
 use Rattle.octets.specs.Believed.Text.{bytes}
 use Rattle.grammar.specs.Believed.Rfc733.{Derivation, DerivedList}
 use Rattle.grammar.specs.Executable.Trees733.{Atom, Quoted, At, LessThan, GreaterThan, Comma, Semicolon, Colon, Lexeme, Sym, of, atomWord, quotedWord, Phrase, one, more, Nodes, first, next, comma, AddressList, idle, full, mailbox, angle, group, quoted, typed}
-use Rattle.grammar.proofs.Rfc733.Trees.{wordSymbol, phraseThen, nodesThen, placeThen, listThen, addressThen, placeLawful, listLawful, addressLawful}
+use Rattle.grammar.proofs.Rfc733.Trees.{wordSymbol, phraseThen, nodesThen, slotThen, listThen, addressThen, slotLawful, listLawful, addressLawful}
 use Rattle.grammar.specs.Executable.Trees733 as trees
-use Rattle.grammar.proofs.Rfc733.HouseRule.{oneAtom, placeAtomGroup, listAtomGroup, atomColon-list, oneAtom-false, oneAtom-true}
+use Rattle.grammar.proofs.Rfc733.HouseRule.{oneAtom, slotAtomGroup, listAtomGroup, atomColon-list, oneAtom-false, oneAtom-true}
 use Rattle.grammar.proofs.Rfc733.HouseRule as house
 use Rattle.grammar.proofs.Rfc733.Derivations.{tree-derived}
 use Rattle.plain.specs.Believed.Meaning.{noWord, Addresses, noAddress, andAddress, Address, meaning}
@@ -19,7 +19,7 @@ use Rattle.plain.specs.Believed.PlainText.{wordText, spaceBehind, phrase
 use Rattle.plain.specs.Ties.Walking.{gapText, gapBefore, afterAtom, afterComma, colonNext, walkText}
 use Rattle.plain.specs.declared.places.Place.{Place}
 use Rattle.plain.specs.declared.places.Place.the-variants.{Start, Bare, BareComma, Named, Typing, Word, Node, Closed, Parted}
-use Rattle.plain.proofs.TreeMeanings.{wordMeaning, phraseMeaning, nodesMeaning, placeMeaning, listMeaning, addressMeaning, meaning-row, atom-group, typed-text}
+use Rattle.plain.proofs.TreeMeanings.{wordMeaning, phraseMeaning, nodesMeaning, slotMeaning, listMeaning, addressMeaning, meaning-forest, atom-group, typed-text}
 
 -- ---- words
 
@@ -76,7 +76,7 @@ behind (quoted t) = Word
 behind (typed t a u b) = behind b
 
 abbrev mutual
-  behindPlace : Place → trees.Place → Place
+  behindPlace : Place → trees.Slot → Place
   behindPlace place trees.empty = place
   behindPlace place (comma l t) = afterComma (behindList place l)
 
@@ -105,7 +105,7 @@ spot plainly noAddress c = Start
 spot barely noAddress c = pick c BareComma Bare
 spot namely noAddress c = Named
 
-abbrev hasComma : trees.Place → Bool
+abbrev hasComma : trees.Slot → Bool
 hasComma trees.empty = false
 hasComma (comma l t) = true
 
@@ -124,14 +124,14 @@ comma-behind (quoted t) = refl
 comma-behind (typed t a u b) = comma-behind b
 
 mutual
-  place-spot : (r : trees.Place) (k : Begin) → behindPlace (opened k) r ≡ spot k (placeMeaning r) (hasComma r)
+  place-spot : (r : trees.Slot) (k : Begin) → behindPlace (opened k) r ≡ spot k (slotMeaning r) (hasComma r)
   place-spot trees.empty plainly = refl
   place-spot trees.empty barely = refl
   place-spot trees.empty namely = refl
   place-spot (comma l t) k = list-spot l k
 
   list-spot : (l : AddressList) (k : Begin) → afterComma (behindList (opened k) l) ≡ spot k (listMeaning l) true
-  list-spot (idle r) k = ap afterComma (place-spot r k) ∙ comma-spot k (placeMeaning r) (hasComma r)
+  list-spot (idle r) k = ap afterComma (place-spot r k) ∙ comma-spot k (slotMeaning r) (hasComma r)
   list-spot (full r a) k = comma-behind a
 
 -- places where an address can begin
@@ -176,7 +176,7 @@ spot-word plainly noAddress x = refl
 spot-word barely noAddress x = refl
 spot-word namely noAddress x = refl
 
-pub clear-word : (k : Begin) (r : trees.Place) (x : Bool) → Clear k (placeAtomGroup r x) → afterAtom (spot k (placeMeaning r) (hasComma r)) x ≡ Word
+pub clear-word : (k : Begin) (r : trees.Slot) (x : Bool) → Clear k (slotAtomGroup r x) → afterAtom (spot k (slotMeaning r) (hasComma r)) x ≡ Word
 clear-word plainly trees.empty x h = refl
 clear-word barely trees.empty x h = rw h
 clear-word namely trees.empty x h = refl
@@ -217,8 +217,8 @@ front-plain (andAddress l a) r = refl
 -- ---- lists and addresses
 
 mutual
-  walk-place : (e : trees.Place) (k : Begin) (x : Bool) (xs : List Sym) → placeLawful e → Clear k (placeAtomGroup e x)
-      → walkText (opened k) (placeThen e xs) ≡ front k (placeMeaning e) (addressesText (placeMeaning e) (walkText (behindPlace (opened k) e) xs))
+  walk-place : (e : trees.Slot) (k : Begin) (x : Bool) (xs : List Sym) → slotLawful e → Clear k (slotAtomGroup e x)
+      → walkText (opened k) (slotThen e xs) ≡ front k (slotMeaning e) (addressesText (slotMeaning e) (walkText (behindPlace (opened k) e) xs))
   walk-place trees.empty k x xs o c = refl
   walk-place (comma l t) k x xs o c = walk-list l k (of Comma t ∷ xs) o c
 
@@ -226,13 +226,13 @@ mutual
       → walkText (opened k) (listThen l xs) ≡ front k (listMeaning l) (addressesText (listMeaning l) (walkText (behindList (opened k) l) xs))
   walk-list (idle e) k xs o c = walk-place e k false xs o c
   walk-list (full e a) k xs o c =
-      let at : Place = spot k (placeMeaning e) (hasComma e) in
+      let at : Place = spot k (slotMeaning e) (hasComma e) in
       let h : afterAtom at (house.atomGroup a) ≡ Word = clear-word k e (house.atomGroup a) c in
       let f : walkText (behindPlace (opened k) e) (addressThen a xs) ≡ gapText (gapBefore at (house.atomGroup a)) (addressText (addressMeaning a) (walkText (behind a) xs)) =
-      ap (λ place. walkText place (addressThen a xs)) (place-spot e k) ∙ walk-address a at xs (o .1) (spot-opens k (placeMeaning e) (hasComma e)) h in
+      ap (λ place. walkText place (addressThen a xs)) (place-spot e k) ∙ walk-address a at xs (o .1) (spot-opens k (slotMeaning e) (hasComma e)) h in
       walk-place e k (house.atomGroup a) (addressThen a xs) (o .0) c
-      ∙ ap (λ r. front k (placeMeaning e) (addressesText (placeMeaning e) r)) (f ∙ rw (atom-group a))
-      ∙ joint k (placeMeaning e) (hasComma e) (addressMeaning a) (addressText (addressMeaning a) (walkText (behind a) xs)) (rw (atom-group a) at h)
+      ∙ ap (λ r. front k (slotMeaning e) (addressesText (slotMeaning e) r)) (f ∙ rw (atom-group a))
+      ∙ joint k (slotMeaning e) (hasComma e) (addressMeaning a) (addressText (addressMeaning a) (walkText (behind a) xs)) (rw (atom-group a) at h)
 
   pub walk-address : (a : trees.Address) (place : Place) (xs : List Sym) → addressLawful a → Opens place → afterAtom place (house.atomGroup a) ≡ Word
       → walkText place (addressThen a xs) ≡ gapText (gapBefore place (house.atomGroup a)) (addressText (addressMeaning a) (walkText (behind a) xs))
@@ -260,5 +260,5 @@ mutual
 pub walk-plain : {k : Derivation} {xs : List Sym} → DerivedList k xs → walkText Start xs ≡ plainText k
 walk-plain {k} {xs} d =
     let (l, e, d′) = tree-derived d in
-    let m : meaning k ≡ listMeaning l = ap meaning e ∙ meaning-row l in
+    let m : meaning k ≡ listMeaning l = ap meaning e ∙ meaning-forest l in
     rw (← (d′ .yields), m) (walk-list l plainly [] (d′ .lawful) tt ∙ front-plain (listMeaning l) _)

@@ -7,8 +7,8 @@ use native.Mathlib.Omega.{arith}
 use Rattle.scanner.specs.Believed.Categories.{InStray, here, further}
 use Rattle.scanner.proofs.EveryCategory.{told-unless-stray}
 use Rattle.grammar.specs.Believed.Rfc733.{classNumber, Derivation, DerivedList}
-use Rattle.grammar.specs.Executable.Trees733.{Class, Stray, Lexeme, Sym, of, Word, atomWord, quotedWord, Phrase, one, more, Nodes, first, next, Place, empty, comma, AddressList, idle, full, Address, mailbox, angle, group, quoted, typed}
-use Rattle.grammar.proofs.Rfc733.Trees.{wordSymbol, phraseThen, nameThen, nodesThen, placeThen, listThen, addressThen}
+use Rattle.grammar.specs.Executable.Trees733.{Class, Stray, Lexeme, Sym, of, Word, atomWord, quotedWord, Phrase, one, more, Nodes, first, next, Slot, empty, comma, AddressList, idle, full, Address, mailbox, angle, group, quoted, typed}
+use Rattle.grammar.proofs.Rfc733.Trees.{wordSymbol, phraseThen, nameThen, nodesThen, slotThen, listThen, addressThen}
 use Rattle.grammar.proofs.Rfc733.Derivations.{tree-derived}
 use Rattle.touch.specs.Believed.EveryByte.{EveryByte}
 
@@ -36,7 +36,7 @@ module _ {place : ℕ} where
   past-nodes (next m t w) i = past-word w (past (omega arith) (past-nodes m i))
 
   mutual
-    past-place : (r : Place) {xs : List Sym} → InStray place (placeThen r xs) → InStray place xs
+    past-place : (r : Slot) {xs : List Sym} → InStray place (slotThen r xs) → InStray place xs
     past-place empty i = i
     past-place (comma l t) i = past (omega arith) (past-list l i)
 

@@ -8,11 +8,11 @@ use Rattle.grammar.specs.Believed.Grammar.{levels}
 use Rattle.records.specs.Believed.AddressRecords.{AddressRecord}
 use Rattle.grammar.specs.Believed.Records.{records}
 use Rattle.grammar.specs.Believed.Rfc733.{Derivation, DerivedList}
-use Rattle.grammar.specs.Executable.Trees733.{LessThan, GreaterThan, Comma, Semicolon, Colon, Sym, of, Place, empty, comma, AddressList, idle, full, Address, mailbox, angle, group, quoted, typed}
-use Rattle.grammar.proofs.Rfc733.Trees.{nodesThen, placeThen, listThen, addressThen, placeLevels, listLevels, addressLevels}
-use Rattle.grammar.proofs.Rfc733.Derivations.{row-levels, tree-derived}
+use Rattle.grammar.specs.Executable.Trees733.{LessThan, GreaterThan, Comma, Semicolon, Colon, Sym, of, Slot, empty, comma, AddressList, idle, full, Address, mailbox, angle, group, quoted, typed}
+use Rattle.grammar.proofs.Rfc733.Trees.{nodesThen, slotThen, listThen, addressThen, slotLevels, listLevels, addressLevels}
+use Rattle.grammar.proofs.Rfc733.Derivations.{forest-levels, tree-derived}
 use Rattle.grammar.proofs.RecordLaws.{inside-length}
-use Rattle.grammar.proofs.Rfc733.TreeRecords.{phraseEnd, nameStart, addressEnd, addressRecord, placeCount, listCount, addressCount, placeRecords, listRecords, insideRecords, tree-records}
+use Rattle.grammar.proofs.Rfc733.TreeRecords.{phraseEnd, nameStart, addressEnd, addressRecord, slotCount, listCount, addressCount, slotRecords, listRecords, insideRecords, tree-records}
 use Rattle.grammar.proofs.Symbols.{InOrder}
 use Rattle.grammar.proofs.Rfc733.Order.{phrase-lies, nodes-lies, name-lies}
 
@@ -51,13 +51,13 @@ well-from (node r inside rest) p i from from′ to w h = (w .0, omega (arith, w 
 
 abbrev mutual
   -- before those of `n`, at this depth, with this parent, from this number on
-  placeNest : Place → ℕ → ℕ → ℕ → Nest → Nest
+  placeNest : Slot → ℕ → ℕ → ℕ → Nest → Nest
   placeNest empty d p i n = n
   placeNest (comma l t) d p i n = listNest l d p i n
 
   listNest : AddressList → ℕ → ℕ → ℕ → Nest → Nest
   listNest (idle r) d p i n = placeNest r d p i n
-  listNest (full r a) d p i n = placeNest r d p i (node (addressRecord a d p) (insideNest a (suc d) (suc (i + placeCount r))) n)
+  listNest (full r a) d p i n = placeNest r d p i (node (addressRecord a d p) (insideNest a (suc d) (suc (i + slotCount r))) n)
 
   insideNest : Address → ℕ → ℕ → Nest
   insideNest (mailbox p m) d i = nil
@@ -67,7 +67,7 @@ abbrev mutual
   insideNest (typed t a u b) d i = node (addressRecord b d i) (insideNest b (suc d) (suc i)) nil
 
 mutual
-  place-flat : (r : Place) (d p i : ℕ) (n : Nest) → flatten (placeNest r d p i n) ≡ placeRecords r d p i ++ flatten n
+  place-flat : (r : Slot) (d p i : ℕ) (n : Nest) → flatten (placeNest r d p i n) ≡ slotRecords r d p i ++ flatten n
   place-flat empty d p i n = refl
   place-flat (comma l t) d p i n = list-flat l d p i n
 
@@ -75,8 +75,8 @@ mutual
   list-flat (idle r) d p i n = place-flat r d p i n
   list-flat (full r a) d p i n =
       place-flat r d p i _
-      ∙ ap (λ z. placeRecords r d p i ++ (addressRecord a d p ∷ (z ++ flatten n))) (inside-flat a (suc d) (suc (i + placeCount r)))
-      ∙ sym (append-assoc (placeRecords r d p i) (addressRecord a d p ∷ insideRecords a (suc d) (suc (i + placeCount r))) (flatten n))
+      ∙ ap (λ z. slotRecords r d p i ++ (addressRecord a d p ∷ (z ++ flatten n))) (inside-flat a (suc d) (suc (i + slotCount r)))
+      ∙ sym (append-assoc (slotRecords r d p i) (addressRecord a d p ∷ insideRecords a (suc d) (suc (i + slotCount r))) (flatten n))
 
   inside-flat : (a : Address) (d i : ℕ) → flatten (insideNest a d i) ≡ insideRecords a d i
   inside-flat (mailbox p m) d i = refl
@@ -87,13 +87,13 @@ mutual
 
 -- .. no more than the levels, and one
 mutual
-  place-height : (r : Place) (d p i : ℕ) (n : Nest) → height (placeNest r d p i n) ≤ max (suc (placeLevels r)) (height n)
+  place-height : (r : Slot) (d p i : ℕ) (n : Nest) → height (placeNest r d p i n) ≤ max (suc (slotLevels r)) (height n)
   place-height empty d p i n = omega arith
   place-height (comma l t) d p i n = list-height l d p i n
 
   list-height : (l : AddressList) (d p i : ℕ) (n : Nest) → height (listNest l d p i n) ≤ max (suc (listLevels l)) (height n)
   list-height (idle r) d p i n = place-height r d p i n
-  list-height (full r a) d p i n = omega (arith, place-height r d p i (node (addressRecord a d p) (insideNest a (suc d) (suc (i + placeCount r))) n), inside-height a (suc d) (suc (i + placeCount r)))
+  list-height (full r a) d p i n = omega (arith, place-height r d p i (node (addressRecord a d p) (insideNest a (suc d) (suc (i + slotCount r))) n), inside-height a (suc d) (suc (i + slotCount r)))
 
   inside-height : (a : Address) (d i : ℕ) → height (insideNest a d i) ≤ addressLevels a
   inside-height (mailbox p m) d i = omega arith
@@ -139,7 +139,7 @@ node-well {a} {from} b d p i end n w =
     (own-parent a d p, b .starts d p, rw (own-end a d p) (b .ordered d p), rw (own-end a d p) (b .well d p (suc d) (suc i)), rw (own-end a d p) (well-at n p (i + addressCount a) (suc i + length (flatten (insideNest a (suc d) (suc i)))) (addressEnd a) end q w))
 
 mutual
-  place-well : (r : Place) (from to : ℕ) (xs : List Sym) → InOrder from to (placeThen r xs) → NestTaken (placeNest r) (placeCount r) from to xs
+  place-well : (r : Slot) (from to : ℕ) (xs : List Sym) → InOrder from to (slotThen r xs) → NestTaken (placeNest r) (slotCount r) from to xs
   place-well empty from to xs h = record { upTo = from; le = omega arith; rest = h; well = λ d p i end n w. well-at n p (i + 0) i from end (omega arith) w }
   place-well (comma l t) from to xs h =
       let k = list-well l from to (of Comma t ∷ xs) h in
@@ -159,7 +159,7 @@ mutual
         upTo = addressEnd a;
         le = omega (arith, k .le, b .starts 0 0, b .ordered 0 0);
         rest = b .rest;
-        well = λ d p i end n w. k .well d p i end _ (node-well b d p (i + placeCount r) end n (well-at n p (i + (placeCount r + addressCount a)) (i + placeCount r + addressCount a) (addressEnd a) end (omega arith) w));
+        well = λ d p i end n w. k .well d p i end _ (node-well b d p (i + slotCount r) end n (well-at n p (i + (slotCount r + addressCount a)) (i + slotCount r + addressCount a) (addressEnd a) end (omega arith) w));
       }
 
   address-well : (a : Address) (from to : ℕ) (xs : List Sym) → InOrder from to (addressThen a xs) → NestTakenBy a from to xs
@@ -215,4 +215,4 @@ nested {k} {xs} from to d h =
 
 pub nested-height : {k : Derivation} {xs : List Sym} (from to : ℕ) (d : DerivedList k xs) (h : InOrder from to xs) → height (nested from to d h .nest) ≤ suc (levels k)
 unfolding nested
-nested-height {k} from to d h = let (l, e, t) = tree-derived d in omega (arith, list-height l 0 0 0 nil, ap levels e, row-levels l)
+nested-height {k} from to d h = let (l, e, t) = tree-derived d in omega (arith, list-height l 0 0 0 nil, ap levels e, forest-levels l)

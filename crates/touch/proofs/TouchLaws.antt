@@ -17,7 +17,7 @@ use Rattle.scanner.specs.Believed.Categories.{categoryAt}
 use Rattle.scanner.specs.declared.Class.{Class}
 use Rattle.scanner.specs.declared.Category.{Category}
 use Rattle.scanner.proofs.BodyChecks.{Clean, when-clean, when-refused}
-use Rattle.grammar.specs.Believed.Language.{Verdict, accepted, refused, number, positionOf}
+use Rattle.grammar.specs.Believed.Language.{Verdict, accepted, refused, number, startOf}
 use Rattle.grammar.specs.Believed.Records.{count, records}
 use Rattle.grammar.specs.Believed.Rfc733.{Derivation}
 use Rattle.grammar.specs.Executable.Machine733.{answer}
@@ -83,7 +83,7 @@ module _ (message : List ℕ) (start end place : ℕ) (path : List ℕ) where
           right = u .right;
           splits = splits;
           named = named levelLimit symbols;
-          tells = ap told (e ∙ ap (λ (o : Outcome). o .answer) q ∙ ap (Expected (number (u .why)) (positionOf end (u .rest))) (named-there x));
+          tells = ap told (e ∙ ap (λ (o : Outcome). o .answer) q ∙ ap (Expected (number (u .why)) (startOf end (u .rest))) (named-there x));
           exactly = names-right levelLimit symbols (u .why) before (u .rest) (u .right) splits;
         },
         f ∙ ap (λ (o : Outcome). o .path) q,

@@ -16,7 +16,7 @@ use lib.ListN.{length, getD, take, drop, replicate, drop-of-length-le}
 use Rattle.octets.proofs.Parts.{from-here}
 use Rattle.octets.specs.Believed.Octets.{lineFeedByte, spaceByte}
 use Rattle.octets.specs.Believed.Stored.{numberAt}
-use Rattle.grammar.specs.Believed.Records.{recordBy, recordIn}
+use Rattle.records.specs.Believed.AddressRecords.{recordBy, recordIn}
 use Rattle.listing.specs.Believed.Lines.{decimal, spaced}
 use Rattle.scanner.specs.Believed.Answers.{nextInBody}
 use Rattle.scanner.specs.declared.Class.{Class}

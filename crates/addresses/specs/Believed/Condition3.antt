@@ -14,8 +14,8 @@ use Rattle.scanner.specs.Believed.Scanning.{scanBy}
 use Rattle.scanner.specs.Believed.Answers.{faultOf}
 use Rattle.scanner.specs.Believed.Symbols.{Symbol}
 use Rattle.scanner.specs.declared.Class.{Class}
-use Rattle.grammar.specs.Believed.Grammar.{Row, Derived, levels}
-use Rattle.grammar.specs.Believed.Language.{Refusal, refused, number, positionOf, Right}
+use Rattle.grammar.specs.Believed.Grammar.{Forest, Derived, levels}
+use Rattle.grammar.specs.Believed.Language.{Refusal, refused, number, startOf, Right}
 use Rattle.grammar.specs.Believed.Records.{count, records}
 use Rattle.grammar.specs.Believed.Rfc733.{Derivation}
 use Rattle.addresses.specs.Believed.Editions.{Edition, edition733}
@@ -23,7 +23,7 @@ use Rattle.addresses.specs.Believed.Editions.{symbolsIn}
 
 module _ {N : Type 0} (edition : Edition N) where
   -- these symbols have this derivation, of at most 64 levels
-  pub record IsListIn (symbols : List (Symbol Class)) (k : Row Class N) : Type 0 where
+  pub record IsListIn (symbols : List (Symbol Class)) (k : Forest Class N) : Type 0 where
     pub derived : Derived (edition .grammar) (edition .list) k symbols
     pub within : levels k ≤ levelLimit
 
@@ -32,18 +32,18 @@ module _ {N : Type 0} (edition : Edition N) where
     pub why : Refusal
     pub rest : List (Symbol Class)
     pub right : Right (Derived (edition .grammar) (edition .list)) levels levelLimit symbols (refused why rest)
-    pub tells : told r ≡ telling (number why) (positionOf end rest) 0
+    pub tells : told r ≡ telling (number why) (startOf end rest) 0
 
   -- what condition 3 says of the symbols of a body with this end, a lent table, the answer and the table afterwards
   pub record Settled (symbols : List (Symbol Class)) (end : ℕ) (table : List ℕ) (r : Answer) (after : List ℕ) : Type 0 where
     -- exactly one derivation: two derivations of these symbols are equal, whatever their levels
-    pub one : (k k′ : Row Class N) → Derived (edition .grammar) (edition .list) k symbols → Derived (edition .grammar) (edition .list) k′ symbols → k ≡ k′
+    pub one : (k k′ : Forest Class N) → Derived (edition .grammar) (edition .list) k symbols → Derived (edition .grammar) (edition .list) k′ symbols → k ≡ k′
     -- a list, with room: accepted, with the count and the records of its one derivation, byte for byte, and nothing else changed
-    pub with-room : (k : Row Class N) → IsListIn symbols k → count k ≤ roomFor addressRecordSize table → (told r ≡ telling accepted 0 (count k)) × (after ≡ sets table 0 (tableBytes (records k)))
+    pub with-room : (k : Forest Class N) → IsListIn symbols k → count k ≤ roomFor addressRecordSize table → (told r ≡ telling accepted 0 (count k)) × (after ≡ sets table 0 (tableBytes (records k)))
     -- a list, without room: 11 with the number of its addresses
-    pub without-room : (k : Row Class N) → IsListIn symbols k → roomFor addressRecordSize table < count k → (told r ≡ telling tooLittleRoom 0 (count k)) × (after ≡ table)
+    pub without-room : (k : Forest Class N) → IsListIn symbols k → roomFor addressRecordSize table < count k → (told r ≡ telling tooLittleRoom 0 (count k)) × (after ≡ table)
     -- no list: refused, whatever the room
-    pub no-list : ((k : Row Class N) → IsListIn symbols k → ⊥) → RightlyRefused symbols end r × (after ≡ table)
+    pub no-list : ((k : Forest Class N) → IsListIn symbols k → ⊥) → RightlyRefused symbols end r × (after ≡ table)
 
   -- condition 3 speaks of a body that scans without fault, with its positions in order, in a message within the limit
   abbrev pub Condition3In : List ℕ → ℕ → ℕ → List ℕ → Answer → List ℕ → Type 0

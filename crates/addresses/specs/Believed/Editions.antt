@@ -18,7 +18,7 @@ pub record Edition (N : Type 0) : Type 0 where
   pub classes : List ℕ
   -- the scanner's symbols, as the rules take them
   pub taken : List (Symbol Class) → List (Symbol Class)
-  -- the rules, and the notion of a list in them
+  -- the rules, and the nonterminal of a list in them
   pub grammar : Grammar Class N
   pub list : N
 
@@ -27,7 +27,7 @@ abbrev pub symbolsIn : {N : Type 0} → Edition N → List ℕ → ℕ → ℕ �
 symbolsIn edition message start end = edition .taken (symbolsOf (scanBy (edition .classes) (take end message) start))
 
 -- RFC 733 takes the symbols as they are
-abbrev pub edition733 : Edition of733.Notion
+abbrev pub edition733 : Edition of733.Nonterminal
 edition733 = record { classes = classTable; taken = λ xs. xs; grammar = of733.rfc733; list = of733.list }
 
 -- the symbols of a body in RFC 733
@@ -42,5 +42,5 @@ abbrev pub takenIn822 : List (Symbol Class) → List (Symbol Class)
 takenIn822 [] = []
 takenIn822 (x ∷ xs) = record { class = classIn822 (x .class) (x .lexeme .start) (x .lexeme .end); lexeme = x .lexeme } ∷ takenIn822 xs
 
-abbrev pub edition822 : Edition of822.Notion
+abbrev pub edition822 : Edition of822.Nonterminal
 edition822 = record { classes = classTable822; taken = takenIn822; grammar = of822.rfc822; list = of822.list }

@@ -16,8 +16,8 @@ use Rattle.scanner.specs.Believed.Symbols.{Symbol}
 use Rattle.scanner.specs.Believed.Scanning.{scanBy}
 use Rattle.scanner.specs.Believed.Answers.{bodyChecked, unlessFault}
 use Rattle.scanner.specs.declared.Class.{Class}
-use Rattle.grammar.specs.Believed.Grammar.{Row}
-use Rattle.grammar.specs.Believed.Language.{Verdict, accepted, refused, number, positionOf}
+use Rattle.grammar.specs.Believed.Grammar.{Forest}
+use Rattle.grammar.specs.Believed.Language.{Verdict, accepted, refused, number, startOf}
 use Rattle.grammar.specs.Believed.Records.{count, records}
 use Rattle.grammar.specs.Believed.Rfc733.{Derivation}
 use Rattle.grammar.specs.Executable.Machine733.{answer}
@@ -37,30 +37,30 @@ abbrev pub refusal : List ℕ → ℕ → ℕ → Outcome
 refusal table number position = record { answer = Refused number position; table = table }
 
 -- a derivation: its records at the front of the table, or 11 with their count where there is too little room
-abbrev pub derived : {N : Type 0} → List ℕ → Row Class N → Outcome
+abbrev pub derived : {N : Type 0} → List ℕ → Forest Class N → Outcome
 derived table k =
     pick (ltb (roomFor addressRecordSize table) (count k)) (record { answer = NoRoom (count k); table = table })
     (record { answer = Accepted (count k); table = sets table 0 (tableBytes (records k)) })
 
 -- a verdict on a body with this end: what is answered of a derivation, or the refusal
-abbrev pub byVerdict : {N A : Type 0} → (ℕ → ℕ → A) → (Row Class N → A) → ℕ → Verdict Class (Row Class N) → A
+abbrev pub byVerdict : {N A : Type 0} → (ℕ → ℕ → A) → (Forest Class N → A) → ℕ → Verdict Class (Forest Class N) → A
 byVerdict refuse derive end (accepted k) = derive k
-byVerdict refuse derive end (refused why rest) = refuse (number why) (positionOf end rest)
+byVerdict refuse derive end (refused why rest) = refuse (number why) (startOf end rest)
 
 -- .. where its records are written
-abbrev pub decided : {N : Type 0} → ℕ → List ℕ → Verdict Class (Row Class N) → Outcome
+abbrev pub decided : {N : Type 0} → ℕ → List ℕ → Verdict Class (Forest Class N) → Outcome
 decided end table verdict = byVerdict (refusal table) (derived table) end verdict
 
 -- ---- in any edition, by a verdict on the symbols
 
 -- what is answered for any message and positions, of a derivation or of a refusal
-abbrev pub readIn : {N A : Type 0} → Edition N → (List (Symbol Class) → Verdict Class (Row Class N)) → (ℕ → ℕ → A) → (Row Class N → A) → List ℕ → ℕ → ℕ → A
+abbrev pub readIn : {N A : Type 0} → Edition N → (List (Symbol Class) → Verdict Class (Forest Class N)) → (ℕ → ℕ → A) → (Forest Class N → A) → List ℕ → ℕ → ℕ → A
 readIn edition verdict refuse derive message start end =
     bodyChecked refuse message start end
     (unlessFault refuse (scanBy (edition .classes) (take end message) start) (byVerdict refuse derive end (verdict (symbolsIn edition message start end))))
 
 -- the outcome for any message, positions and table
-abbrev pub outcomeIn : {N : Type 0} → Edition N → (List (Symbol Class) → Verdict Class (Row Class N)) → List ℕ → ℕ → ℕ → List ℕ → Outcome
+abbrev pub outcomeIn : {N : Type 0} → Edition N → (List (Symbol Class) → Verdict Class (Forest Class N)) → List ℕ → ℕ → ℕ → List ℕ → Outcome
 outcomeIn edition verdict message start end table = readIn edition verdict (refusal table) (derived table) message start end
 
 -- ---- in RFC 733

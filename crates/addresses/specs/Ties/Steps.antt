@@ -13,7 +13,7 @@ use Rattle.scanner.specs.declared.Next.{Next}
 use Rattle.scanner.specs.declared.Next.the-variants.{Found, Ended, Fault}
 use Rattle.scanner.specs.Ties.Meanings.{meaningAt}
 use Rattle.scanner.specs.Ties.Steps.{Faultless}
-use Rattle.grammar.specs.Believed.Language.{Refusal, refused, number, positionOf}
+use Rattle.grammar.specs.Believed.Language.{Refusal, refused, number, startOf}
 use Rattle.grammar.specs.Believed.Rfc733.{sameClass}
 use Rattle.grammar.specs.Executable.Trees733.{Class, Atom, Quoted, At, LessThan, GreaterThan, Semicolon, Colon, Lexeme, Sym, of, oneOf, atomWord, quotedWord, Phrase, one, more, Nodes, empty, AddressList, idle, Address, angle, group}
 use Rattle.grammar.proofs.Rfc733.Trees.{phraseThen, nameThen, nodesThen, atomColon}
@@ -158,7 +158,7 @@ module _ (classes text : List ℕ) where
     pub why : Refusal
     pub rest : List Sym
     pub number-is : number-told ≡ number why
-    pub place-is : place ≡ positionOf (length text) rest
+    pub place-is : place ≡ startOf (length text) rest
     pub stops : (a : A) → Verdicts a why rest
 
   pub record NodesContext : Type 0 where

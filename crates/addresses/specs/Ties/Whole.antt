@@ -11,8 +11,8 @@ use Rattle.records.specs.Believed.AddressRecords.{tableBytes}
 use Rattle.scanner.specs.Believed.Symbols.{Symbol}
 use Rattle.scanner.specs.Ties.Steps.{Faultless}
 use Rattle.scanner.specs.declared.Class.{Class}
-use Rattle.grammar.specs.Believed.Grammar.{Row}
-use Rattle.grammar.specs.Believed.Language.{Refusal, Verdict, accepted, refused, number, positionOf}
+use Rattle.grammar.specs.Believed.Grammar.{Forest}
+use Rattle.grammar.specs.Believed.Language.{Refusal, Verdict, accepted, refused, number, startOf}
 use Rattle.grammar.specs.Believed.Records.{count, records}
 use Rattle.grammar.specs.Executable.Machine733.{answer}
 use Rattle.addresses.specs.Believed.Outcome.{byVerdict, decided}
@@ -30,9 +30,9 @@ abbrev pub endsWithin : List ℕ → List ℕ → ℕ → ℕ → Bool
 endsWithin classes text limit at = byVerdict (λ n p. false) (λ k. true) (length text) (answer limit (symbolsFrom classes text at))
 
 -- by any verdict on the symbols
-module _ {N : Type 0} (verdict : List (Symbol Class) → Verdict Class (Row Class N)) (classes text : List ℕ) where
+module _ {N : Type 0} (verdict : List (Symbol Class) → Verdict Class (Forest Class N)) (classes text : List ℕ) where
   pub record IsListed (at : ℕ) (table after : List ℕ) (n : ℕ) : Type 0 where
-    pub derivation : Row Class N
+    pub derivation : Forest Class N
     pub verdict-is : verdict (symbolsFrom classes text at) ≡ accepted derivation
     pub count-is : n ≡ count derivation
     pub stored : after ≡ sets table 0 (tableBytes (records derivation))
@@ -42,7 +42,7 @@ module _ {N : Type 0} (verdict : List (Symbol Class) → Verdict Class (Row Clas
     pub rest : List (Symbol Class)
     pub verdict-is : verdict (symbolsFrom classes text at) ≡ refused why rest
     pub number-is : number-told ≡ number why
-    pub place-is : place ≡ positionOf (length text) rest
+    pub place-is : place ≡ startOf (length text) rest
 
   abbrev pub WholeIs : ℕ → List ℕ → List ℕ → Whole → Type 0
   WholeIs at table after (Listed n) = IsListed at table after n

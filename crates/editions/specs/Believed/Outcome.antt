@@ -11,21 +11,21 @@ use Rattle.octets.specs.Believed.Numbers.{messageLimit, levelLimit, messageTooL
 use Rattle.octets.specs.declared.answers.Answer.{Answer}
 use Rattle.scanner.specs.Believed.Symbols.{Symbol}
 use Rattle.scanner.specs.declared.Class.{Class}
-use Rattle.grammar.specs.Believed.Grammar.{Row}
+use Rattle.grammar.specs.Believed.Grammar.{Forest}
 use Rattle.grammar.specs.Believed.Language.{Verdict}
 use Rattle.grammar.specs.Believed.Rfc733 as rules733
-use Rattle.grammar.specs.Believed.Rfc822.{Notion}
+use Rattle.grammar.specs.Believed.Rfc822.{Nonterminal}
 use Rattle.grammar.specs.Executable.Machine822.{read}
 use Rattle.addresses.specs.Believed.Editions.{edition733, takenIn822, edition822}
 use Rattle.addresses.specs.Believed.Outcome.{Outcome, refusal, derived, readIn, bodyRead}
 use Rattle.addresses.specs.Believed.Condition3.{Condition3In}
 
 -- the verdict on the scanner's symbols is that of the executable layer for RFC 822, the only right one by `Decides`
-abbrev pub verdict822 : List (Symbol Class) → Verdict Class (Row Class Notion)
+abbrev pub verdict822 : List (Symbol Class) → Verdict Class (Forest Class Nonterminal)
 verdict822 xs = read levelLimit (takenIn822 xs)
 
 -- what is answered in RFC 822, of a derivation or of a refusal
-abbrev pub bodyRead822 : {A : Type 0} → (ℕ → ℕ → A) → (Row Class Notion → A) → List ℕ → ℕ → ℕ → A
+abbrev pub bodyRead822 : {A : Type 0} → (ℕ → ℕ → A) → (Forest Class Nonterminal → A) → List ℕ → ℕ → ℕ → A
 bodyRead822 refuse derive message start end = readIn edition822 (read levelLimit) refuse derive message start end
 
 -- the outcome in RFC 822
@@ -33,11 +33,11 @@ abbrev pub outcome822 : List ℕ → ℕ → ℕ → List ℕ → Outcome
 outcome822 message start end table = bodyRead822 (refusal table) (derived table) message start end
 
 -- what is answered in the edition with a number, of a derivation in its rules or of a refusal; the edition is the whole number
-abbrev pub readOf : {A : Type 0} → ℕ → (ℕ → ℕ → A) → ((N : Type 0) → Row Class N → A) → List ℕ → ℕ → ℕ → A
+abbrev pub readOf : {A : Type 0} → ℕ → (ℕ → ℕ → A) → ((N : Type 0) → Forest Class N → A) → List ℕ → ℕ → ℕ → A
 readOf edition refuse derive message start end =
     pick (ltb messageLimit (length message)) (refuse messageTooLong messageLimit)
-    (pick (eqb edition 733) (bodyRead refuse (derive rules733.Notion) message start end)
-    (pick (eqb edition 822) (bodyRead822 refuse (derive Notion) message start end) (refuse editionUnknown 0)))
+    (pick (eqb edition 733) (bodyRead refuse (derive rules733.Nonterminal) message start end)
+    (pick (eqb edition 822) (bodyRead822 refuse (derive Nonterminal) message start end) (refuse editionUnknown 0)))
 
 -- the outcome for any edition, message, positions and table
 abbrev pub outcomeOf : ℕ → List ℕ → ℕ → ℕ → List ℕ → Outcome

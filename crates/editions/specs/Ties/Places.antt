@@ -91,8 +91,8 @@ effectNumber refuse = 9
 abbrev pub cells : Row → List ℕ
 cells r = effectNumber (r .effect) ∷ pick (r .ends) 1 0 ∷ r .next
 
-abbrev pub placeCount : ℕ
-placeCount = 23
+abbrev pub slotCount : ℕ
+slotCount = 23
 
 abbrev pub columns : ℕ
 columns = 13

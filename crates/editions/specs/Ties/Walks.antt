@@ -10,7 +10,7 @@ use Rattle.octets.specs.Believed.Stored.{bytesOf}
 use Rattle.records.specs.Believed.AddressRecords.{addressRecordSize, AddressRecord, recordBy, endOffset, tableBytes}
 use Rattle.scanner.specs.Believed.Symbols.{Symbol}
 use Rattle.scanner.specs.declared.Class.{Class}
-use Rattle.editions.specs.Ties.Places.{Walked, walkedBy, placeCount, Effect, nothing, firstWord, furtherWord, mailboxRecord, mailboxEnd, angleRecord, angleEnd, groupRecord, groupEnd, refuse, oneIf, parentOf, stepFrom}
+use Rattle.editions.specs.Ties.Places.{Walked, walkedBy, slotCount, Effect, nothing, firstWord, furtherWord, mailboxRecord, mailboxEnd, angleRecord, angleEnd, groupRecord, groupEnd, refuse, oneIf, parentOf, stepFrom}
 use Rattle.editions.specs.declared.Walk.{Walk}
 use Rattle.editions.specs.declared.Stepped.{Stepped}
 use Rattle.editions.specs.declared.Stepped.the-variants.{On, Off}
@@ -32,7 +32,7 @@ abbrev pub walkedOf : Walk → List AddressRecord → Walked
 walkedOf w rs = walkedBy (w .place) (w .name .start) (w .name .end) (w .group) (w .angle) rs
 
 pub record Fine (w : Walk) : Type 0 where
-  pub place : w .place < placeCount
+  pub place : w .place < slotCount
   pub group : w .group ≤ w .free
   pub angle : w .angle ≤ w .free
 

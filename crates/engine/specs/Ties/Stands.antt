@@ -12,7 +12,7 @@ use Rattle.records.specs.Believed.AddressRecords.{addressRecordSize, tableBytes
 use Rattle.grammar.specs.Believed.Rfc733.{kindNumber, typedKind, angleList, group}
 use Rattle.grammar.specs.Executable.Trees733.{Lexeme, Phrase, one, more, atomWord, quotedWord, idle, full, AddressList, Address}
 use Rattle.grammar.specs.Executable.Machine733.{Here, inList, inTyped, Level, top, inAngle, inGroup, State, list, phrase, firstAt, nextAt, node, want, levelsHere, levelsAt, fresh, Began}
-use Rattle.grammar.proofs.Rfc733.TreeRecords.{placeCount, listCount, placeRecords, listRecords, addressRecords, phraseStart, phraseEnd, nodesEnd, nameStart, nameEnd}
+use Rattle.grammar.proofs.Rfc733.TreeRecords.{slotCount, listCount, slotRecords, listRecords, addressRecords, phraseStart, phraseEnd, nodesEnd, nameStart, nameEnd}
 use Rattle.engine.specs.Ties.Actions.{Mode, atPlace, atStart, atFirstAtom, wanting, atAtom, atQuoted, atWords, atNode, modeNumber, afterAt, afterAddress}
 use Rattle.engine.specs.declared.Engine.{Engine}
 
@@ -45,7 +45,7 @@ modeOf (want h t a u) = wanting
 abbrev mutual
   -- the number of the record of an address that stands here
   pub numberHere : Here → ℕ
-  numberHere (inList k r) = parentAt k + placeCount r
+  numberHere (inList k r) = parentAt k + slotCount r
   numberHere (inTyped h t a u) = suc (numberHere h)
 
   -- the parent of the addresses of a list (its number plus 1, or 0), which is also the number of the first of them
@@ -134,7 +134,7 @@ HoldsState stack (want h t a u) = HoldsHere stack (inTyped h t a u)
 abbrev mutual
   -- before an address
   pub storedHere : List ℕ → Here → List ℕ
-  storedHere lent (inList k r) = sets (storedLevel lent k) (parentAt k * addressRecordSize) (tableBytes (placeRecords r (levelsAt k) (parentAt k) (parentAt k)))
+  storedHere lent (inList k r) = sets (storedLevel lent k) (parentAt k * addressRecordSize) (tableBytes (slotRecords r (levelsAt k) (parentAt k) (parentAt k)))
   storedHere lent (inTyped h t a u) = storedHere lent h
 
   -- before a list

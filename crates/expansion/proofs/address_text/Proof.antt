@@ -2,7 +2,7 @@
 use native.Mathlib.Omega.{arith}
 use mathlib.Core.List.{[], _∷_}
 use lib.ListN.{length}
-use Rattle.grammar.proofs.Readers.{endsAddress}
+use Rattle.grammar.proofs.Rfc733.Readers.{endsAddress}
 use Rattle.addresses.proofs.ClassCases.{by-class, by-class-not}
 use Rattle.plain.proofs.CanWrite.{can-write}
 use Rattle.plain.proofs.WalkSteps.{behind, behind-less, none-comes}

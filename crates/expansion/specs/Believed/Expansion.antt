@@ -9,7 +9,7 @@ use lib.ListN.{length}
 use Rattle.octets.specs.Believed.Choice.{pick, either}
 use Rattle.octets.specs.Believed.Numbers.{levelLimit, openingLimit, tooManyLevels, leadsNowhere, tooManyOpenings}
 use Rattle.grammar.specs.Believed.Grammar.{nil, leaf, branch, yield, levels}
-use Rattle.grammar.specs.Believed.Language.{positionOf}
+use Rattle.grammar.specs.Believed.Language.{startOf}
 use Rattle.grammar.specs.Believed.Records.{meaningOf, nameOf}
 use Rattle.grammar.specs.Believed.Rfc733.{Derivation, kindNumber, include, postal, otherTyped}
 use Rattle.addresses.specs.Believed.Outcome.{bodyRead}
@@ -46,23 +46,23 @@ module _ (store : List ℕ) where
         | some i ↦ opening i place depth before openings
       ]
 
-  -- addresses, and then those of a row, expanded, with so many levels open around it; `placeOf` tells the position that counts for an
+  -- addresses, and then those of a forest, expanded, with so many levels open around it; `placeOf` tells the position that counts for an
   -- Include which starts at a position
-  abbrev pub expandRow : Opening → (ℕ → ℕ) → Bool → ℕ → Derivation → Addresses → ℕ → Expansion
-  expandRow opening placeOf typed depth nil before openings = reached before openings
-  expandRow opening placeOf typed depth (leaf x row) before openings = expandRow opening placeOf typed depth row before openings
-  expandRow opening placeOf typed depth (branch rule parts row) before openings =
+  abbrev pub expandForest : Opening → (ℕ → ℕ) → Bool → ℕ → Derivation → Addresses → ℕ → Expansion
+  expandForest opening placeOf typed depth nil before openings = reached before openings
+  expandForest opening placeOf typed depth (leaf x forest) before openings = expandForest opening placeOf typed depth forest before openings
+  expandForest opening placeOf typed depth (branch rule parts forest) before openings =
       andThen
       (elim (rule .makes) [
-        | none ↦ expandRow opening placeOf typed depth parts before openings
+        | none ↦ expandForest opening placeOf typed depth parts before openings
         | some makes ↦
             let kind = makes .kind (meaningOf (nameOf (makes .name) parts)) in
             pick (eqb kind (kindNumber include))
-            (expandInclude opening typed (placeOf (positionOf 0 (yield parts))) depth (addressesAfter noAddress parts) before openings)
-            (andThen (expandRow opening placeOf (otherType kind) (depth + pick (rule .opens) 1 0) parts noAddress openings)
+            (expandInclude opening typed (placeOf (startOf 0 (yield parts))) depth (addressesAfter noAddress parts) before openings)
+            (andThen (expandForest opening placeOf (otherType kind) (depth + pick (rule .opens) 1 0) parts noAddress openings)
             (λ members openings′. reached (andAddress before (addressOf makes parts members)) openings′))
       ])
-      (λ before′ openings′. expandRow opening placeOf typed depth row before′ openings′)
+      (λ before′ openings′. expandForest opening placeOf typed depth forest before′ openings′)
 
   -- ---- stored lists
 
@@ -72,7 +72,7 @@ module _ (store : List ℕ) where
   expandStored opening i place depth before openings =
       let list = listIn store i in
       bodyRead (λ n p. stopped n i openings)
-      (λ k. pick (ltb levelLimit (depth + levels k)) (stopped tooManyLevels place openings) (expandRow opening (λ start. place) false depth k before (suc openings)))
+      (λ k. pick (ltb levelLimit (depth + levels k)) (stopped tooManyLevels place openings) (expandForest opening (λ start. place) false depth k before (suc openings)))
       list 0 (length list)
 
   -- the opening of a record, after at most 64 openings, of which at most 64 lie in each other; a further one is 20. Those around it
@@ -85,4 +85,4 @@ module _ (store : List ℕ) where
 
   -- the expansion of a derivation
   abbrev pub expansion : Derivation → Expansion
-  expansion k = expandRow (λ i place depth before openings. openedWithin openingLimit i place depth before openings) (λ start. start) false 0 k noAddress 0
+  expansion k = expandForest (λ i place depth before openings. openedWithin openingLimit i place depth before openings) (λ start. start) false 0 k noAddress 0

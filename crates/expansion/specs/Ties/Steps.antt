@@ -10,7 +10,7 @@ use Rattle.octets.specs.Believed.Classes.{classTable}
 use Rattle.octets.specs.Believed.Numbers.{messageLimit, levelLimit, openingLimit, storeRecordSize, tooManyLevels}
 use Rattle.scanner.specs.Believed.Scanning.{scan, symbolsOf}
 use Rattle.addresses.specs.Believed.Outcome.{bodyRead}
-use Rattle.grammar.proofs.Readers.{endsAddress}
+use Rattle.grammar.proofs.Rfc733.Readers.{endsAddress}
 use Rattle.addresses.specs.Ties.Steps.{symbolsFrom}
 use Rattle.octets.specs.Believed.Choice.{pick}
 use Rattle.expansion.specs.Believed.Store.{listIn}

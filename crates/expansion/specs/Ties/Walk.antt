@@ -15,7 +15,7 @@ use Rattle.scanner.specs.declared.Class.the-variants.{Atom, At, LessThan, Great
 use Rattle.grammar.specs.Believed.Grammar.{levels, begins}
 use Rattle.grammar.specs.Believed.Rfc733.{sameClass, kindNumber, typedKind, include}
 use Rattle.grammar.specs.Executable.Trees733.{oneOf}
-use Rattle.grammar.proofs.Readers.{endsAddress, endsList}
+use Rattle.grammar.proofs.Rfc733.Readers.{endsAddress, endsList}
 use Rattle.plain.specs.Ties.Walking.{symbolText, after, afterAtom, afterComma, colonNext, walkText}
 use Rattle.plain.specs.declared.places.Place.{Place}
 use Rattle.plain.specs.declared.places.Place.the-variants.{Start, Bare, BareComma, Named, Typing, Word, Node, Closed, Parted}

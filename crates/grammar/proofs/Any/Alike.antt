@@ -1,4 +1,4 @@
--- Two notions of derivation with the same lists: what is right of the one is right of the other. Assumes nothing.
+-- Two relations of derivation with the same lists: what is right of the one is right of the other. Assumes nothing.
 use Prim.Native.Nat.{ℕ, _≤_}
 use native.Mathlib.Omega.{arith}
 use mathlib.Core.Path.{_≡_, sym, ap, _∙_}

@@ -1,4 +1,4 @@
--- A right verdict is the only right one, over any notion with one derivation for each list of symbols. Assumes nothing.
+-- A right verdict is the only right one, over any relation with one derivation for each list of symbols. Assumes nothing.
 use Prim.Native.Nat.{ℕ, _≤_}
 use native.Mathlib.Omega.{arith}
 use native.Mathlib.Decide.{decLe}

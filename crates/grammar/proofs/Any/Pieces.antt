@@ -1,4 +1,4 @@
--- Trees for the derivations of any grammar: a tree is a rule and the row of its parts; if every rule is covered by trees, every derivation is a tree. Assumes nothing.
+-- Trees for the derivations of any grammar: a tree is a rule and the forest of its parts; if every rule is covered by trees, every derivation is a tree. Assumes nothing.
 use Prim.Native.Nat.{ℕ, zero, suc, _+_, _<_}
 use native.Mathlib.Omega.{arith}
 use mathlib.Core.Path.{_≡_, refl, ap, ap₂, _∙_}
@@ -6,7 +6,7 @@ use mathlib.Core.List.{List, [], _∷_, List·Memᴰ, List·Memᴰ·head as here
 use lib.ListN.{length, getD}
 use Rattle.octets.specs.Believed.Choice.{pick}
 use Rattle.scanner.specs.Believed.Symbols.{Lexeme, Symbol}
-use Rattle.grammar.specs.Believed.Grammar.{Item, symbol, part, Rule, Grammar, Row, nil, leaf, yieldThen, yield, levels, Allowed, Fits, done, take, apply, Derived}
+use Rattle.grammar.specs.Believed.Grammar.{Item, symbol, nonterminal, Rule, Grammar, Forest, nil, leaf, yieldThen, yield, levels, Allowed, Fits, done, take, apply, Derived}
 use Rattle.grammar.specs.Executable.Pieces.{Piece, piece, put}
 
 -- the symbol of a class with a lexeme
@@ -34,11 +34,11 @@ module _ {C N : Type 0} (G : Grammar C N) where
     pub allowed : Allowed (G .same) (p .rule .never) (yield (p .parts))
 
   -- .. by the i-th rule
-  pub by-rule : (A : N) (i : ℕ) (r : Rule C N) {p : Row C N} → i < length (G .rules A) → Fits G (getD (G .rules A) i r .items) p
+  pub by-rule : (A : N) (i : ℕ) (r : Rule C N) {p : Forest C N} → i < length (G .rules A) → Fits G (getD (G .rules A) i r .items) p
       → Allowed (G .same) (getD (G .rules A) i r .never) (yield p) → From A (piece (getD (G .rules A) i r) p)
   by-rule A i r h d o = record { member = member (G .rules A) i r h; fits = d; allowed = o }
 
-  pub put-fits : {A : N} {p : Piece C N} {items : List (Item C N)} {k : Row C N} → From A p → Fits G items k → Fits G (part A ∷ items) (put p k)
+  pub put-fits : {A : N} {p : Piece C N} {items : List (Item C N)} {k : Forest C N} → From A p → Fits G items k → Fits G (nonterminal A ∷ items) (put p k)
   put-fits f d = apply (f .member) (f .fits) (f .allowed) d
 
   module _ (Tree : N → Type 0) (pieceOf : (A : N) → Tree A → Piece C N) where
@@ -46,16 +46,16 @@ module _ {C N : Type 0} (G : Grammar C N) where
     abbrev pub Values : List (Item C N) → Type 0
     Values [] = Unit {0}
     Values (symbol c ∷ items) = Lexeme × Values items
-    Values (part A ∷ items) = Tree A × Values items
+    Values (nonterminal A ∷ items) = Tree A × Values items
 
-    abbrev pub rowOf : (items : List (Item C N)) → Values items → Row C N
-    rowOf [] v = nil
-    rowOf (symbol c ∷ items) v = leaf (mark c (v .0)) (rowOf items (v .1))
-    rowOf (part A ∷ items) v = put (pieceOf A (v .0)) (rowOf items (v .1))
+    abbrev pub forestOf : (items : List (Item C N)) → Values items → Forest C N
+    forestOf [] v = nil
+    forestOf (symbol c ∷ items) v = leaf (mark c (v .0)) (forestOf items (v .1))
+    forestOf (nonterminal A ∷ items) v = put (pieceOf A (v .0)) (forestOf items (v .1))
 
     -- whatever the items of a rule hold, if the rule allows its symbols, is a tree
     abbrev pub Covers : N → Rule C N → Type 0
-    Covers A r = (v : Values (r .items)) → Allowed (G .same) (r .never) (yield (rowOf (r .items) v)) → (x : Tree A) × (piece r (rowOf (r .items) v) ≡ pieceOf A x)
+    Covers A r = (v : Values (r .items)) → Allowed (G .same) (r .never) (yield (forestOf (r .items) v)) → (x : Tree A) × (piece r (forestOf (r .items) v) ≡ pieceOf A x)
 
     abbrev pub AllCovered : N → List (Rule C N) → Type 0
     AllCovered A [] = Unit {0}
@@ -67,17 +67,17 @@ module _ {C N : Type 0} (G : Grammar C N) where
 
     module _ (all : (A : N) → AllCovered A (G .rules A)) where
       -- the one induction over derivations
-      pub values : {items : List (Item C N)} {k : Row C N} → Fits G items k → (v : Values items) × (k ≡ rowOf items v)
+      pub values : {items : List (Item C N)} {k : Forest C N} → Fits G items k → (v : Values items) × (k ≡ forestOf items v)
       values done = (tt, refl)
-      values (take {x = x} {row = k} e d) = let (v, q) = values d in ((x .lexeme, v), ap₂ leaf (ap (λ c. mark c (x .lexeme)) e) q)
-      values (apply {A = A} {rule = r} {parts = p} {row = k} m d o d′) =
+      values (take {x = x} {forest = k} e d) = let (v, q) = values d in ((x .lexeme, v), ap₂ leaf (ap (λ c. mark c (x .lexeme)) e) q)
+      values (apply {A = A} {rule = r} {parts = p} {forest = k} m d o d′) =
           let (u, q) = values d in
           let (x, f) = covers A (G .rules A) r m (all A) u (rw q at o) in
           let (w, q′) = values d′ in
           ((x, w), ap₂ put (ap (piece r) q ∙ f) q′)
 
       -- every derivation is a tree
-      pub tree-of : {A : N} {k : Row C N} {xs : List (Symbol C)} → Derived G A k xs → (x : Tree A) × (k ≡ put (pieceOf A x) nil) × (yield (put (pieceOf A x) nil) ≡ xs)
+      pub tree-of : {A : N} {k : Forest C N} {xs : List (Symbol C)} → Derived G A k xs → (x : Tree A) × (k ≡ put (pieceOf A x) nil) × (yield (put (pieceOf A x) nil) ≡ xs)
       tree-of {A} {k} {xs} d =
           let (v, q) = values (d .fits) in
           (v .0, q, rw q at (d .yields))

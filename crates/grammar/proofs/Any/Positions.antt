@@ -11,8 +11,8 @@ use Rattle.octets.specs.Believed.Numbers.{numberWidth}
 use Rattle.records.specs.Believed.AddressRecords.{AddressRecord, noRecord, addressRecordSize, tableBytes, recordIn}
 use Rattle.records.proofs.ReadBack.{address-back}
 use Rattle.scanner.specs.Believed.Symbols.{Symbol}
-use Rattle.grammar.specs.Believed.Grammar.{Makes, Rule, Row, nil, leaf, branch, yieldThen, yield}
-use Rattle.grammar.specs.Believed.Language.{positionOf}
+use Rattle.grammar.specs.Believed.Grammar.{Makes, Rule, Forest, nil, leaf, branch, yieldThen, yield}
+use Rattle.grammar.specs.Believed.Language.{startOf}
 use Rattle.grammar.specs.Believed.Records.{lastEnd, partOf, nameOf, count, recordOf, recordsFrom, records}
 use Rattle.grammar.proofs.Any.Records.{length-records, parent-smaller}
 
@@ -24,7 +24,7 @@ module _ {C : Type 0} (limit : ℕ) where
   SymbolsUpTo [] = Unit {0}
   SymbolsUpTo (x ∷ xs) = (x .lexeme .start ≤ limit) × (x .lexeme .end ≤ limit) × SymbolsUpTo xs
 
-  position-up-to : (q : ℕ) → q ≤ limit → (xs : List (Symbol C)) → SymbolsUpTo xs → positionOf q xs ≤ limit
+  position-up-to : (q : ℕ) → q ≤ limit → (xs : List (Symbol C)) → SymbolsUpTo xs → startOf q xs ≤ limit
   position-up-to q h [] u = h
   position-up-to q h (x ∷ xs) u = u .0
 
@@ -32,38 +32,38 @@ module _ {C : Type 0} (limit : ℕ) where
   last-up-to q h [] u = h
   last-up-to q h (x ∷ xs) u = last-up-to (x .lexeme .end) (u .1) xs (u .2)
 
--- ---- rows
+-- ---- forests
 
 module _ {C N : Type 0} (limit : ℕ) where
-  -- the symbols of a row do not lie past a position
-  abbrev RowUpTo : Row C N → Type 0
-  RowUpTo nil = Unit {0}
-  RowUpTo (leaf x row) = (x .lexeme .start ≤ limit) × (x .lexeme .end ≤ limit) × RowUpTo row
-  RowUpTo (branch rule parts row) = RowUpTo parts × RowUpTo row
+  -- the symbols of a forest do not lie past a position
+  abbrev ForestUpTo : Forest C N → Type 0
+  ForestUpTo nil = Unit {0}
+  ForestUpTo (leaf x forest) = (x .lexeme .start ≤ limit) × (x .lexeme .end ≤ limit) × ForestUpTo forest
+  ForestUpTo (branch rule parts forest) = ForestUpTo parts × ForestUpTo forest
 
-  row-up-to : (row : Row C N) (xs : List (Symbol C)) → SymbolsUpTo limit (yieldThen row xs) → RowUpTo row × SymbolsUpTo limit xs
-  row-up-to nil xs u = (tt, u)
-  row-up-to (leaf x row) xs u = let (a, b) = row-up-to row xs (u .2) in ((u .0, u .1, a), b)
-  row-up-to (branch rule parts row) xs u =
-      let (a, b) = row-up-to parts (yieldThen row xs) u in
-      let (c, d) = row-up-to row xs b in
+  forest-up-to : (forest : Forest C N) (xs : List (Symbol C)) → SymbolsUpTo limit (yieldThen forest xs) → ForestUpTo forest × SymbolsUpTo limit xs
+  forest-up-to nil xs u = (tt, u)
+  forest-up-to (leaf x forest) xs u = let (a, b) = forest-up-to forest xs (u .2) in ((u .0, u .1, a), b)
+  forest-up-to (branch rule parts forest) xs u =
+      let (a, b) = forest-up-to parts (yieldThen forest xs) u in
+      let (c, d) = forest-up-to forest xs b in
       ((a, c), d)
 
-  yield-up-to : (row : Row C N) (xs : List (Symbol C)) → RowUpTo row → SymbolsUpTo limit xs → SymbolsUpTo limit (yieldThen row xs)
+  yield-up-to : (forest : Forest C N) (xs : List (Symbol C)) → ForestUpTo forest → SymbolsUpTo limit xs → SymbolsUpTo limit (yieldThen forest xs)
   yield-up-to nil xs r u = u
-  yield-up-to (leaf x row) xs r u = (r .0, r .1, yield-up-to row xs (r .2) u)
-  yield-up-to (branch rule parts row) xs r u = yield-up-to parts (yieldThen row xs) (r .0) (yield-up-to row xs (r .1) u)
+  yield-up-to (leaf x forest) xs r u = (r .0, r .1, yield-up-to forest xs (r .2) u)
+  yield-up-to (branch rule parts forest) xs r u = yield-up-to parts (yieldThen forest xs) (r .0) (yield-up-to forest xs (r .1) u)
 
-  part-up-to : (i : ℕ) (row : Row C N) → RowUpTo row → SymbolsUpTo limit (partOf i row)
+  part-up-to : (i : ℕ) (forest : Forest C N) → ForestUpTo forest → SymbolsUpTo limit (partOf i forest)
   part-up-to i nil r = tt
-  part-up-to zero (leaf x row) r = (r .0, r .1, tt)
-  part-up-to zero (branch rule parts row) r = yield-up-to parts [] (r .0) tt
-  part-up-to (suc i) (leaf x row) r = part-up-to i row (r .2)
-  part-up-to (suc i) (branch rule parts row) r = part-up-to i row (r .1)
+  part-up-to zero (leaf x forest) r = (r .0, r .1, tt)
+  part-up-to zero (branch rule parts forest) r = yield-up-to parts [] (r .0) tt
+  part-up-to (suc i) (leaf x forest) r = part-up-to i forest (r .2)
+  part-up-to (suc i) (branch rule parts forest) r = part-up-to i forest (r .1)
 
-  name-up-to : (o : Option ℕ) (row : Row C N) → RowUpTo row → SymbolsUpTo limit (nameOf o row)
-  name-up-to none row r = tt
-  name-up-to (some i) row r = part-up-to i row r
+  name-up-to : (o : Option ℕ) (forest : Forest C N) → ForestUpTo forest → SymbolsUpTo limit (nameOf o forest)
+  name-up-to none forest r = tt
+  name-up-to (some i) forest r = part-up-to i forest r
 
 -- ---- records
 
@@ -90,45 +90,45 @@ module _ (limit : ℕ) where
   up-to-at (r ∷ rs) (suc i) d a l = up-to-at rs i d (a .1) (omega arith)
 
 module _ {C N : Type 0} (limit : ℕ) where
-  record-up-to : (makes : Makes) (depth parent : ℕ) (parts : Row C N) → RowUpTo limit parts → RecordUpTo limit (recordOf makes depth parent parts)
+  record-up-to : (makes : Makes) (depth parent : ℕ) (parts : Forest C N) → ForestUpTo limit parts → RecordUpTo limit (recordOf makes depth parent parts)
   record-up-to makes depth parent parts r =
       let xs = yield-up-to limit parts [] r tt in
       let name = name-up-to limit (makes .name) parts r in
-      let start : positionOf 0 (yield parts) ≤ limit = position-up-to limit 0 (omega arith) (yield parts) xs in
+      let start : startOf 0 (yield parts) ≤ limit = position-up-to limit 0 (omega arith) (yield parts) xs in
       record {
         start = start;
-        end = last-up-to limit (positionOf 0 (yield parts)) start (yield parts) xs;
-        name-start = position-up-to limit (positionOf 0 (yield parts)) start (nameOf (makes .name) parts) name;
-        name-end = last-up-to limit (positionOf 0 (yield parts)) start (nameOf (makes .name) parts) name;
+        end = last-up-to limit (startOf 0 (yield parts)) start (yield parts) xs;
+        name-start = position-up-to limit (startOf 0 (yield parts)) start (nameOf (makes .name) parts) name;
+        name-end = last-up-to limit (startOf 0 (yield parts)) start (nameOf (makes .name) parts) name;
       }
 
-  branch-up-to : (rule : Rule C N) (parts row : Row C N) (depth parent next : ℕ) → RowUpTo limit parts
-      → ((d p i : ℕ) → RecordsUpTo limit (recordsFrom parts d p i)) → ((d p i : ℕ) → RecordsUpTo limit (recordsFrom row d p i))
-      → RecordsUpTo limit (recordsFrom (branch rule parts row) depth parent next)
-  branch-up-to rule parts row depth parent next r a b = by (rule .makes) refl
+  branch-up-to : (rule : Rule C N) (parts forest : Forest C N) (depth parent next : ℕ) → ForestUpTo limit parts
+      → ((d p i : ℕ) → RecordsUpTo limit (recordsFrom parts d p i)) → ((d p i : ℕ) → RecordsUpTo limit (recordsFrom forest d p i))
+      → RecordsUpTo limit (recordsFrom (branch rule parts forest) depth parent next)
+  branch-up-to rule parts forest depth parent next r a b = by (rule .makes) refl
     where
-      by : (o : Option Makes) → rule .makes ≡ o → RecordsUpTo limit (recordsFrom (branch rule parts row) depth parent next)
+      by : (o : Option Makes) → rule .makes ≡ o → RecordsUpTo limit (recordsFrom (branch rule parts forest) depth parent next)
       by none e = rw e (up-to-append limit (recordsFrom parts depth parent next) _ (a depth parent next) (b depth parent (next + count parts)))
       by (some makes) e = rw e (record-up-to makes depth parent parts r, up-to-append limit (recordsFrom parts (suc depth) (suc next) (suc next)) _ (a (suc depth) (suc next) (suc next)) (b depth parent (suc next + count parts)))
 
-  from-up-to : (row : Row C N) (depth parent next : ℕ) → RowUpTo limit row → RecordsUpTo limit (recordsFrom row depth parent next)
+  from-up-to : (forest : Forest C N) (depth parent next : ℕ) → ForestUpTo limit forest → RecordsUpTo limit (recordsFrom forest depth parent next)
   from-up-to nil depth parent next r = tt
-  from-up-to (leaf x row) depth parent next r = from-up-to row depth parent next (r .2)
-  from-up-to (branch rule parts row) depth parent next r = branch-up-to rule parts row depth parent next (r .0) (λ d p i. from-up-to parts d p i (r .0)) (λ d p i. from-up-to row d p i (r .1))
+  from-up-to (leaf x forest) depth parent next r = from-up-to forest depth parent next (r .2)
+  from-up-to (branch rule parts forest) depth parent next r = branch-up-to rule parts forest depth parent next (r .0) (λ d p i. from-up-to parts d p i (r .0)) (λ d p i. from-up-to forest d p i (r .1))
 
   -- the records of a derivation of symbols that do not lie past a position
-  pub records-up-to : (row : Row C N) → SymbolsUpTo limit (yield row) → RecordsUpTo limit (records row)
-  records-up-to row u = from-up-to row 0 0 0 (row-up-to limit row [] u .0)
+  pub records-up-to : (forest : Forest C N) → SymbolsUpTo limit (yield forest) → RecordsUpTo limit (records forest)
+  records-up-to forest u = from-up-to forest 0 0 0 (forest-up-to limit forest [] u .0)
 
 -- ---- read back from a table
 
 -- each record of a derivation whose number a record can hold is read back from a table with room for all
-abbrev pub ReadBack : {C N : Type 0} → Row C N → Type 0
+abbrev pub ReadBack : {C N : Type 0} → Forest C N → Type 0
 ReadBack k =
     (table : List ℕ) → count k * addressRecordSize ≤ length table → (i : ℕ) → i < count k → i < 256 ^ numberWidth
     → recordIn (sets table 0 (tableBytes (records k))) i ≡ getD (records k) i noRecord
 
-pub read-back : {C N : Type 0} (k : Row C N) (limit : ℕ) → limit < 256 ^ numberWidth → SymbolsUpTo limit (yield k) → ReadBack k
+pub read-back : {C N : Type 0} (k : Forest C N) (limit : ℕ) → limit < 256 ^ numberWidth → SymbolsUpTo limit (yield k) → ReadBack k
 read-back k limit small u table fits i l h =
     let n : length (records k) ≡ count k = length-records k in
     let before : getD (records k) i noRecord .parent ≤ i = parent-smaller k i noRecord (omega arith) in

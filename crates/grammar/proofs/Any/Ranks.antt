@@ -9,14 +9,14 @@ use borrow.Author.Tests.{leb-true}
 use Rattle.octets.specs.Believed.Choice.{pick, both}
 use Rattle.octets.proofs.ChoiceLaws.{both-parts}
 use Rattle.scanner.specs.Believed.Symbols.{Symbol}
-use Rattle.grammar.specs.Believed.Grammar.{Item, symbol, part, Rule, Grammar, Row, levels, Fits, done, take, apply, Derived}
+use Rattle.grammar.specs.Believed.Grammar.{Item, symbol, nonterminal, Rule, Grammar, Forest, levels, Fits, done, take, apply, Derived}
 
 module _ {C N : Type 0} (rank : N → ℕ) where
   -- with so many levels around them, no part of these items passes the bound
   abbrev pub below : ℕ → ℕ → List (Item C N) → Bool
   below bound around [] = leb around bound
   below bound around (symbol c ∷ items) = below bound around items
-  below bound around (part A ∷ items) = both (leb (around + rank A) bound) (below bound around items)
+  below bound around (nonterminal A ∷ items) = both (leb (around + rank A) bound) (below bound around items)
 
   -- every rule keeps the rank
   abbrev pub ranked : ℕ → List (Rule C N) → Bool
@@ -28,21 +28,21 @@ module _ {C N : Type 0} (rank : N → ℕ) where
   ranked-rule bound r (r′ ∷ rs) (there m) h = ranked-rule bound r rs m (both-parts (below bound (pick (r′ .opens) 1 0) (r′ .items)) (ranked bound rs) h .1)
 
   module _ (G : Grammar C N) (all : (A : N) → ranked (rank A) (G .rules A) ≡ true) where
-    levels-below : {items : List (Item C N)} {k : Row C N} → Fits G items k → (bound around : ℕ) → below bound around items ≡ true → around + levels k ≤ bound
+    levels-below : {items : List (Item C N)} {k : Forest C N} → Fits G items k → (bound around : ℕ) → below bound around items ≡ true → around + levels k ≤ bound
     levels-below done bound around h = let l = leb-true around bound h in omega arith
     levels-below (take e d) bound around h = levels-below d bound around h
-    levels-below (apply {A = A} {rule = r} {items = items} {parts = p} {row = k} m d o d′) bound around h =
+    levels-below (apply {A = A} {rule = r} {items = items} {parts = p} {forest = k} m d o d′) bound around h =
         let (a, b) = both-parts (leb (around + rank A) bound) (below bound around items) h in
         let l = leb-true (around + rank A) bound a in
         let i = levels-below d (rank A) (pick (r .opens) 1 0) (ranked-rule (rank A) r (G .rules A) m (all A)) in
         let j = levels-below d′ bound around b in
         omega arith
 
-    part-below : {A : N} {k : Row C N} → Fits G (part A ∷ []) k → levels k ≤ rank A
+    part-below : {A : N} {k : Forest C N} → Fits G (nonterminal A ∷ []) k → levels k ≤ rank A
     part-below {A} (apply {rule = r} m e o done) =
         let i = levels-below e (rank A) (pick (r .opens) 1 0) (ranked-rule (rank A) r (G .rules A) m (all A)) in
         omega arith
 
     -- what is derived has at most as many levels as its rank
-    pub bounded : {A : N} {k : Row C N} {xs : List (Symbol C)} → Derived G A k xs → levels k ≤ rank A
+    pub bounded : {A : N} {k : Forest C N} {xs : List (Symbol C)} → Derived G A k xs → levels k ≤ rank A
     bounded d = part-below (d .fits)

@@ -7,9 +7,9 @@ use mathlib.Core.List.{List, [], _∷_}
 use mathlib.Core.Option.{Option, none, some}
 use borrow.Author.Tests.{leb-true, leb-false}
 use Rattle.grammar.specs.Believed.Language.{tooDeep, accepted}
-use Rattle.grammar.specs.Executable.Trees733.{Atom, LessThan, Semicolon, Colon, Lexeme, Sym, of, Word, atomWord, quotedWord, Phrase, one, more, Nodes, first, next, Place, empty, comma, AddressList, idle, full, Address, mailbox, angle, group, quoted, typed}
-use Rattle.grammar.proofs.Rfc733.Trees.{wordSymbol, phraseThen, nameThen, nodesThen, placeThen, listThen, addressThen, placeLevels, listLevels, addressLevels, placeLawful, listLawful, addressLawful, houseRule, DerivedTree}
-use Rattle.grammar.proofs.Rfc733.HouseRule.{oneAtom, atomNamed, atomGroup, placeAtomGroup, listAtomGroup, atomColon-list}
+use Rattle.grammar.specs.Executable.Trees733.{Atom, LessThan, Semicolon, Colon, Lexeme, Sym, of, Word, atomWord, quotedWord, Phrase, one, more, Nodes, first, next, Slot, empty, comma, AddressList, idle, full, Address, mailbox, angle, group, quoted, typed}
+use Rattle.grammar.proofs.Rfc733.Trees.{wordSymbol, phraseThen, nameThen, nodesThen, slotThen, listThen, addressThen, slotLevels, listLevels, addressLevels, slotLawful, listLawful, addressLawful, houseRule, DerivedTree}
+use Rattle.grammar.proofs.Rfc733.HouseRule.{oneAtom, atomNamed, atomGroup, slotAtomGroup, listAtomGroup, atomColon-list}
 use Rattle.grammar.specs.Executable.Machines.{go, stop, after}
 use Rattle.grammar.specs.Executable.Machine733.{Here, inList, inTyped, Level, top, inAngle, inGroup, State, list, phrase, firstAt, nextAt, node, want, spot, asList, levelsHere, levelsAt, close, complete, withinLimit, entered, enter, onWord, Began, nameless, fresh, begun, run, read}
 
@@ -109,11 +109,11 @@ run-group n (inTyped h v a u) none t xs d c = rw (enter-within n (inGroup (inTyp
 run-group n h (some p) t xs d c = run-phrase n h p _ ∙ rw (not-begun h p c, enter-within n (inGroup h (some p) t) d)
 
 -- the fresh place of a list and of its first address
-clear-place : (k : Level) (r : Place) (b : Bool) → Clear (nameless k) (placeAtomGroup r b) → Clear (nameless k) (placeAtomGroup r false)
-clear-place k empty b c = clear-false (nameless k)
-clear-place k (comma l t) b c = c
+clear-slot : (k : Level) (r : Slot) (b : Bool) → Clear (nameless k) (slotAtomGroup r b) → Clear (nameless k) (slotAtomGroup r false)
+clear-slot k empty b c = clear-false (nameless k)
+clear-slot k (comma l t) b c = c
 
-clear-address : (k : Level) (r : Place) (b : Bool) → Clear (nameless k) (placeAtomGroup r b) → Clear (fresh (inList k r)) b
+clear-address : (k : Level) (r : Slot) (b : Bool) → Clear (nameless k) (slotAtomGroup r b) → Clear (fresh (inList k r)) b
 clear-address k empty b c = c
 clear-address k (comma l t) b c = tt
 
@@ -122,16 +122,16 @@ clear-group h none t l u c = sym (atomColon-list l (of Semicolon u ∷ []) refl)
 clear-group h (some p) t l u c = tt
 
 mutual
-  pub run-place : (r : Place) (n : ℕ) (k : Level) (xs : List Sym) → levelsAt k + placeLevels r ≤ n → placeLawful r → Clear (nameless k) (placeAtomGroup r false)
-      → run n (list k (idle empty)) (placeThen r xs) ≡ run n (list k (idle r)) xs
-  run-place empty n k xs d o c = refl
-  run-place (comma l t) n k xs d o c = run-list l n k _ d o c ∙ rw (complete-doneList k l)
+  pub run-slot : (r : Slot) (n : ℕ) (k : Level) (xs : List Sym) → levelsAt k + slotLevels r ≤ n → slotLawful r → Clear (nameless k) (slotAtomGroup r false)
+      → run n (list k (idle empty)) (slotThen r xs) ≡ run n (list k (idle r)) xs
+  run-slot empty n k xs d o c = refl
+  run-slot (comma l t) n k xs d o c = run-list l n k _ d o c ∙ rw (complete-doneList k l)
 
   pub run-list : (l : AddressList) (n : ℕ) (k : Level) (xs : List Sym) → levelsAt k + listLevels l ≤ n → listLawful l → Clear (nameless k) (listAtomGroup l)
       → run n (list k (idle empty)) (listThen l xs) ≡ run n (doneList k l) xs
-  run-list (idle r) n k xs d o c = run-place r n k xs d o c
+  run-list (idle r) n k xs d o c = run-slot r n k xs d o c
   run-list (full r a) n k xs d o c =
-      run-place r n k _ (omega arith) (o .0) (clear-place k r (atomGroup a) c) ∙ run-address a n (inList k r) xs (omega arith) (o .1) (clear-address k r (atomGroup a) c)
+      run-slot r n k _ (omega arith) (o .0) (clear-slot k r (atomGroup a) c) ∙ run-address a n (inList k r) xs (omega arith) (o .1) (clear-address k r (atomGroup a) c)
 
   pub run-address : (a : Address) (n : ℕ) (h : Here) (xs : List Sym) → levelsHere h + addressLevels a ≤ n → addressLawful a → Clear (fresh h) (atomGroup a)
       → run n (begin h) (addressThen a xs) ≡ run n (doneAddress h a) xs

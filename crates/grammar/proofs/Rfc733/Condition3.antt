@@ -11,34 +11,34 @@ use Rattle.grammar.proofs.Any.Reader as any-reader
 use Rattle.grammar.specs.Executable.{Decides733}
 use Rattle.grammar.proofs.Any.Alike as alike
 use Rattle.grammar.proofs.Any.Machine as any-machine
-use Rattle.grammar.specs.Executable.Trees733.{Sym, asRow}
+use Rattle.grammar.specs.Executable.Trees733.{Sym, asForest}
 use Rattle.grammar.proofs.Rfc733.Trees.{listLevels, DerivedTree}
 use Rattle.grammar.specs.Executable.Machine733.{step, read, finish, start, answer}
 use Rattle.grammar.proofs.Rfc733.Steps.{machine}
-use Rattle.grammar.proofs.Rfc733.Derivations.{row-levels, row-derived, tree-derived}
+use Rattle.grammar.proofs.Rfc733.Derivations.{forest-levels, forest-derived, tree-derived}
 
 -- ---- what is right of trees is right of derivations
 
-trees : alike.Alike DerivedTree listLevels DerivedList levels asRow
-trees = record { derived = row-derived; tree = tree-derived; levels = row-levels }
+trees : alike.Alike DerivedTree listLevels DerivedList levels asForest
+trees = record { derived = forest-derived; tree = tree-derived; levels = forest-levels }
 
-pub goes-on-row : (Levels : ℕ → Type 0) (xs : List Sym) → GoesOn DerivedTree listLevels Levels xs → GoesOn DerivedList levels Levels xs
-goes-on-row Levels xs g = alike.goes-to DerivedTree listLevels DerivedList levels asRow trees Levels xs g
+pub goes-on-forest : (Levels : ℕ → Type 0) (xs : List Sym) → GoesOn DerivedTree listLevels Levels xs → GoesOn DerivedList levels Levels xs
+goes-on-forest Levels xs g = alike.goes-to DerivedTree listLevels DerivedList levels asForest trees Levels xs g
 
 pub goes-on-tree : (Levels : ℕ → Type 0) (xs : List Sym) → GoesOn DerivedList levels Levels xs → GoesOn DerivedTree listLevels Levels xs
-goes-on-tree Levels xs g = alike.goes-back DerivedTree listLevels DerivedList levels asRow trees Levels xs g
+goes-on-tree Levels xs g = alike.goes-back DerivedTree listLevels DerivedList levels asForest trees Levels xs g
 
 -- ---- condition 3
 
 -- the answer is right, for every list of symbols and every limit
 pub answer-right : (limit : ℕ) (xs : List Sym) → RightWithin limit xs (answer limit xs)
 answer-right limit xs =
-    alike.right-alike DerivedTree listLevels DerivedList levels asRow trees limit xs (read limit xs) (any-machine.right DerivedTree listLevels step finish start machine limit xs)
+    alike.right-alike DerivedTree listLevels DerivedList levels asForest trees limit xs (read limit xs) (any-machine.right DerivedTree listLevels step finish start machine limit xs)
 
 -- exactly one derivation: two derivations of the same symbols are equal, whatever their levels
 pub one-derivation : {k k′ : Derivation} {xs : List Sym} → DerivedList k xs → DerivedList k′ xs → k ≡ k′
 one-derivation {k} {k′} {xs} d e =
-    alike.one-alike DerivedTree listLevels DerivedList levels asRow trees (any-machine.unique DerivedTree listLevels step finish start machine) k k′ xs d e
+    alike.one-alike DerivedTree listLevels DerivedList levels asForest trees (any-machine.unique DerivedTree listLevels step finish start machine) k k′ xs d e
 
 -- what is proved of this edition
 pub decides : Decides733

@@ -6,11 +6,11 @@ use mathlib.Core.Bool.{false}
 use mathlib.Core.List.{List, [], _∷_}
 use mathlib.Core.Option.{none, some}
 use lib.ListN.{length}
-use Rattle.grammar.specs.Believed.Grammar.{Item, part, yield, levels, begins, Allowed, Fits, done, take}
-use Rattle.grammar.specs.Believed.Rfc733.{sameClass, plain, rulesOf, Notion, list, place, address, phrase, atNodes, node, word, rfc733, Derivation, DerivedList}
-use Rattle.grammar.specs.Executable.Trees733.{put, Class, Atom, At, LessThan, Comma, Semicolon, Colon, Lexeme, Sym, of, Word, atomWord, quotedWord, Phrase, one, more, Nodes, first, next, Place, empty, comma, AddressList, idle, full, Address, mailbox, angle, group, quoted, typed, Bit, bit, wordPiece, phrasePiece, nodePiece, nodesPiece, placePiece, listPiece, addressPiece, asRow}
+use Rattle.grammar.specs.Believed.Grammar.{Item, nonterminal, yield, levels, begins, Allowed, Fits, done, take}
+use Rattle.grammar.specs.Believed.Rfc733.{sameClass, plain, rulesOf, Nonterminal, list, slot, address, phrase, atNodes, node, word, rfc733, Derivation, DerivedList}
+use Rattle.grammar.specs.Executable.Trees733.{put, Class, Atom, At, LessThan, Comma, Semicolon, Colon, Lexeme, Sym, of, Word, atomWord, quotedWord, Phrase, one, more, Nodes, first, next, Slot, empty, comma, AddressList, idle, full, Address, mailbox, angle, group, quoted, typed, Bit, bit, wordPiece, phrasePiece, nodePiece, nodesPiece, slotPiece, listPiece, addressPiece, asForest}
 use Rattle.grammar.proofs.Any.Pieces.{seen, levelsOf, From, by-rule, put-fits, AllCovered, tree-of}
-use Rattle.grammar.proofs.Rfc733.Trees.{wordSymbol, phraseThen, nodesThen, placeThen, listThen, addressThen, placeLevels, listLevels, addressLevels, placeLawful, listLawful, addressLawful, houseRule, DerivedTree}
+use Rattle.grammar.proofs.Rfc733.Trees.{wordSymbol, phraseThen, nodesThen, slotThen, listThen, addressThen, slotLevels, listLevels, addressLevels, slotLawful, listLawful, addressLawful, houseRule, DerivedTree}
 
 -- ---- the same symbols
 
@@ -27,13 +27,13 @@ nodes-yield (first t w) xs = ap (λ l. of At t ∷ l) (word-yield w xs)
 nodes-yield (next m t w) xs = nodes-yield m _ ∙ ap (λ l. nodesThen m (of At t ∷ l)) (word-yield w xs)
 
 mutual
-  pub place-yield : (r : Place) (xs : List Sym) → seen (placePiece r) xs ≡ placeThen r xs
-  place-yield empty xs = refl
-  place-yield (comma l t) xs = list-yield l (of Comma t ∷ xs)
+  pub slot-yield : (r : Slot) (xs : List Sym) → seen (slotPiece r) xs ≡ slotThen r xs
+  slot-yield empty xs = refl
+  slot-yield (comma l t) xs = list-yield l (of Comma t ∷ xs)
 
   pub list-yield : (l : AddressList) (xs : List Sym) → seen (listPiece l) xs ≡ listThen l xs
-  list-yield (idle r) xs = place-yield r xs
-  list-yield (full r a) xs = place-yield r _ ∙ ap (placeThen r) (address-yield a xs)
+  list-yield (idle r) xs = slot-yield r xs
+  list-yield (full r a) xs = slot-yield r _ ∙ ap (slotThen r) (address-yield a xs)
 
   pub address-yield : (a : Address) (xs : List Sym) → seen (addressPiece a) xs ≡ addressThen a xs
   address-yield (mailbox p m) xs = phrase-yield p _ ∙ ap (phraseThen p) (nodes-yield m xs)
@@ -59,13 +59,13 @@ nodes-levels (first t w) = omega (arith, word-levels w)
 nodes-levels (next m t w) = omega (arith, nodes-levels m, word-levels w)
 
 mutual
-  place-levels : (r : Place) → levelsOf (placePiece r) ≡ placeLevels r
-  place-levels empty = refl
-  place-levels (comma l t) = omega (arith, list-levels l)
+  slot-levels : (r : Slot) → levelsOf (slotPiece r) ≡ slotLevels r
+  slot-levels empty = refl
+  slot-levels (comma l t) = omega (arith, list-levels l)
 
   list-levels : (l : AddressList) → levelsOf (listPiece l) ≡ listLevels l
-  list-levels (idle r) = omega (arith, place-levels r)
-  list-levels (full r a) = omega (arith, place-levels r, address-levels a)
+  list-levels (idle r) = omega (arith, slot-levels r)
+  list-levels (full r a) = omega (arith, slot-levels r, address-levels a)
 
   address-levels : (a : Address) → levelsOf (addressPiece a) ≡ addressLevels a
   address-levels (mailbox p m) = omega (arith, phrase-levels p, nodes-levels m)
@@ -78,14 +78,14 @@ mutual
 
 -- ---- every lawful tree is a derivation
 
-abbrev Is : Notion → Bit → Type 0
+abbrev Is : Nonterminal → Bit → Type 0
 Is A p = From rfc733 A p
 
 -- .. by the i-th rule
-by : (A : Notion) (i : ℕ) {p : Derivation} → i < length (rulesOf A) → Fits rfc733 (bit A i p .rule .items) p → Allowed sameClass (bit A i p .rule .never) (yield p) → Is A (bit A i p)
+by : (A : Nonterminal) (i : ℕ) {p : Derivation} → i < length (rulesOf A) → Fits rfc733 (bit A i p .rule .items) p → Allowed sameClass (bit A i p .rule .never) (yield p) → Is A (bit A i p)
 by A i h d o = by-rule rfc733 A i (plain []) h d o
 
-with : {A : Notion} {p : Bit} {items : List (Item Class Notion)} {k : Derivation} → Is A p → Fits rfc733 items k → Fits rfc733 (part A ∷ items) (put p k)
+with : {A : Nonterminal} {p : Bit} {items : List (Item Class Nonterminal)} {k : Derivation} → Is A p → Fits rfc733 items k → Fits rfc733 (nonterminal A ∷ items) (put p k)
 with f d = put-fits rfc733 f d
 
 word-is : (w : Word) → Is word (wordPiece w)
@@ -104,13 +104,13 @@ nodes-is (first t w) = by atNodes 0 (omega arith) (take refl (with (node-is w) d
 nodes-is (next m t w) = by atNodes 1 (omega arith) (with (nodes-is m) (take refl (with (node-is w) done))) tt
 
 mutual
-  place-is : (r : Place) → placeLawful r → Is place (placePiece r)
-  place-is empty o = by place 0 (omega arith) done tt
-  place-is (comma l t) o = by place 1 (omega arith) (with (list-is l o) (take refl done)) tt
+  slot-is : (r : Slot) → slotLawful r → Is slot (slotPiece r)
+  slot-is empty o = by slot 0 (omega arith) done tt
+  slot-is (comma l t) o = by slot 1 (omega arith) (with (list-is l o) (take refl done)) tt
 
   list-is : (l : AddressList) → listLawful l → Is list (listPiece l)
-  list-is (idle r) o = by list 1 (omega arith) (with (place-is r o) done) tt
-  list-is (full r a) o = by list 0 (omega arith) (with (place-is r (o .0)) (with (address-is a (o .1)) done)) tt
+  list-is (idle r) o = by list 1 (omega arith) (with (slot-is r o) done) tt
+  list-is (full r a) o = by list 0 (omega arith) (with (slot-is r (o .0)) (with (address-is a (o .1)) done)) tt
 
   address-is : (a : Address) → addressLawful a → Is address (addressPiece a)
   address-is (mailbox p m) o = by address 0 (omega arith) (with (phrase-is p) (with (nodes-is m) done)) tt
@@ -123,18 +123,18 @@ mutual
 
 -- ---- every derivation is a lawful tree
 
-abbrev Tree : Notion → Type 0
+abbrev Tree : Nonterminal → Type 0
 Tree list = (l : AddressList) × listLawful l
-Tree place = (r : Place) × placeLawful r
+Tree slot = (r : Slot) × slotLawful r
 Tree address = (a : Address) × addressLawful a
 Tree phrase = Phrase
 Tree atNodes = Nodes
 Tree node = Word
 Tree word = Word
 
-abbrev pieceOf : (A : Notion) → Tree A → Bit
+abbrev pieceOf : (A : Nonterminal) → Tree A → Bit
 pieceOf list x = listPiece (x .0)
-pieceOf place x = placePiece (x .0)
+pieceOf slot x = slotPiece (x .0)
 pieceOf address x = addressPiece (x .0)
 pieceOf phrase x = phrasePiece x
 pieceOf atNodes x = nodesPiece x
@@ -145,9 +145,9 @@ pieceOf word x = wordPiece x
 house : (l : AddressList) (u : Lexeme) → begins sameClass (Atom ∷ Colon ∷ []) (seen (listPiece l) (of Semicolon u ∷ [])) ≡ false → houseRule none (listThen l (of Semicolon u ∷ []))
 house l u h = sym (ap (begins sameClass (Atom ∷ Colon ∷ [])) (list-yield l (of Semicolon u ∷ []))) ∙ h
 
-covered : (A : Notion) → AllCovered rfc733 Tree pieceOf A (rulesOf A)
+covered : (A : Nonterminal) → AllCovered rfc733 Tree pieceOf A (rulesOf A)
 covered list = (λ (r, (a, z)) o. ((full (r .0) (a .0), (r .1, a .1)), refl), (λ (r, z) o. ((idle (r .0), r .1), refl), tt))
-covered place = (λ z o. ((empty, tt), refl), (λ (l, (t, z)) o. ((comma (l .0) t, l .1), refl), tt))
+covered slot = (λ z o. ((empty, tt), refl), (λ (l, (t, z)) o. ((comma (l .0) t, l .1), refl), tt))
 covered address = (
   λ (p, (m, z)) o. ((mailbox p m, tt), refl),
   (
@@ -171,14 +171,14 @@ covered word = (λ (t, z) o. (atomWord t, refl), (λ (t, z) o. (quotedWord t, re
 
 -- ---- the two kinds of derivation
 
-pub row-levels : (l : AddressList) → levels (asRow l) ≡ listLevels l
-row-levels l = omega (arith, list-levels l)
+pub forest-levels : (l : AddressList) → levels (asForest l) ≡ listLevels l
+forest-levels l = omega (arith, list-levels l)
 
-pub row-derived : {l : AddressList} {xs : List Sym} → DerivedTree l xs → DerivedList (asRow l) xs
-row-derived {l} {xs} d = record { fits = with (list-is l (d .lawful)) done; yields = list-yield l [] ∙ d .yields }
+pub forest-derived : {l : AddressList} {xs : List Sym} → DerivedTree l xs → DerivedList (asForest l) xs
+forest-derived {l} {xs} d = record { fits = with (list-is l (d .lawful)) done; yields = list-yield l [] ∙ d .yields }
 
 -- .. and every derivation is a tree
-pub tree-derived : {k : Derivation} {xs : List Sym} → DerivedList k xs → (l : AddressList) × (k ≡ asRow l) × DerivedTree l xs
+pub tree-derived : {k : Derivation} {xs : List Sym} → DerivedList k xs → (l : AddressList) × (k ≡ asForest l) × DerivedTree l xs
 tree-derived {k} {xs} d =
     let (x, e, y) = tree-of rfc733 Tree pieceOf covered d in
     (x .0, e, record { yields = sym (list-yield (x .0) []) ∙ y; lawful = x .1 })

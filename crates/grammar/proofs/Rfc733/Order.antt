@@ -12,10 +12,10 @@ use Rattle.grammar.specs.Believed.Rfc733.{Derivation, DerivedList}
 use Rattle.grammar.proofs.Symbols.{leastBytes, InOrder}
 use Rattle.grammar.proofs.Any.Records.{length-records}
 use Rattle.grammar.proofs.Any.Order.{Lies, Ascending, lies-widen, ascending-widen, ascending-append}
-use Rattle.grammar.specs.Executable.Trees733.{At, LessThan, GreaterThan, Comma, Semicolon, Colon, Lexeme, Sym, of, Word, atomWord, quotedWord, Phrase, one, more, Nodes, first, next, Place, empty, comma, AddressList, idle, full, Address, mailbox, angle, group, quoted, typed}
-use Rattle.grammar.proofs.Rfc733.Trees.{wordSymbol, phraseThen, nameThen, nodesThen, placeThen, listThen, addressThen}
+use Rattle.grammar.specs.Executable.Trees733.{At, LessThan, GreaterThan, Comma, Semicolon, Colon, Lexeme, Sym, of, Word, atomWord, quotedWord, Phrase, one, more, Nodes, first, next, Slot, empty, comma, AddressList, idle, full, Address, mailbox, angle, group, quoted, typed}
+use Rattle.grammar.proofs.Rfc733.Trees.{wordSymbol, phraseThen, nameThen, nodesThen, slotThen, listThen, addressThen}
 use Rattle.grammar.proofs.Rfc733.Derivations.{tree-derived}
-use Rattle.grammar.proofs.Rfc733.TreeRecords.{wordLexeme, phraseStart, phraseEnd, nodesEnd, nameStart, nameEnd, addressEnd, addressRecord, placeCount, listCount, addressCount, placeRecords, listRecords, insideRecords, tree-records, tree-count}
+use Rattle.grammar.proofs.Rfc733.TreeRecords.{wordLexeme, phraseStart, phraseEnd, nodesEnd, nameStart, nameEnd, addressEnd, addressRecord, slotCount, listCount, addressCount, slotRecords, listRecords, insideRecords, tree-records, tree-count}
 
 -- ---- the parts of a list in order
 
@@ -73,9 +73,9 @@ marked-lies from to o t u l kind xs a b c e f k g d par =
     record { after-from = a; name-after = omega arith; name-order = b; name-before = omega (arith, k .wide); not-empty = omega (arith, k .wide); before-to = omega arith }
 
 mutual
-  place-taken : (r : Place) (from to : ℕ) (xs : List Sym) → InOrder from to (placeThen r xs) → Taken from to (placeCount r) xs (placeRecords r)
-  place-taken empty from to xs h = record { upTo = from; wide = omega arith; rest = h; ascending = λ d par i. omega arith }
-  place-taken (comma l t) from to xs h =
+  slot-taken : (r : Slot) (from to : ℕ) (xs : List Sym) → InOrder from to (slotThen r xs) → Taken from to (slotCount r) xs (slotRecords r)
+  slot-taken empty from to xs h = record { upTo = from; wide = omega arith; rest = h; ascending = λ d par i. omega arith }
+  slot-taken (comma l t) from to xs h =
       let k = list-taken l from to (of Comma t ∷ xs) h in
       record {
         upTo = t .end;
@@ -85,16 +85,16 @@ mutual
       }
 
   list-taken : (l : AddressList) (from to : ℕ) (xs : List Sym) → InOrder from to (listThen l xs) → Taken from to (listCount l) xs (listRecords l)
-  list-taken (idle r) from to xs h = place-taken r from to xs h
+  list-taken (idle r) from to xs h = slot-taken r from to xs h
   list-taken (full r a) from to xs h =
-      let k = place-taken r from to (addressThen a xs) h in
+      let k = slot-taken r from to (addressThen a xs) h in
       let b = address-taken a (k .upTo) to xs (k .rest) in
       record {
         upTo = addressEnd a;
         wide = omega (arith, k .wide, b .wide);
         rest = b .rest;
         ascending = λ d par i.
-            ascending-append from (k .upTo) (addressEnd a) (placeRecords r d par i) _ (k .ascending d par i) (b .lies d par, b .ascending d par (suc d) (suc (i + placeCount r)));
+            ascending-append from (k .upTo) (addressEnd a) (slotRecords r d par i) _ (k .ascending d par i) (b .lies d par, b .ascending d par (suc d) (suc (i + slotCount r)));
       }
 
   address-taken : (a : Address) (from to : ℕ) (xs : List Sym) → InOrder from to (addressThen a xs) → TakenBy a from to xs

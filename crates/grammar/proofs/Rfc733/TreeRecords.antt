@@ -7,12 +7,12 @@ use mathlib.Core.List.{List, [], _∷_, _++_, append-nil}
 use mathlib.Core.Option.{Option, none, some}
 use Rattle.octets.specs.Believed.Choice.{pick}
 use Rattle.grammar.specs.Believed.Grammar.{nil, leaf, yield}
-use Rattle.grammar.specs.Believed.Language.{positionOf}
+use Rattle.grammar.specs.Believed.Language.{startOf}
 use Rattle.grammar.specs.Believed.Records.{lastEnd, partOf, count, recordsFrom, records}
-use Rattle.grammar.specs.Believed.Rfc733.{Notion, list, place, address, phrase, atNodes, node, word, rulesOf, rfc733, Derivation, kindNumber, typedKind}
+use Rattle.grammar.specs.Believed.Rfc733.{Nonterminal, list, slot, address, phrase, atNodes, node, word, rulesOf, rfc733, Derivation, kindNumber, typedKind}
 use Rattle.records.specs.Believed.AddressRecords.{AddressRecord, recordBy}
 use Rattle.grammar.specs.Believed.Rfc733 as rfc
-use Rattle.grammar.specs.Executable.Trees733.{put, Lexeme, LessThan, GreaterThan, Colon, Semicolon, Comma, At, Sym, of, Word, atomWord, quotedWord, Phrase, one, more, Nodes, first, next, Place, empty, comma, AddressList, idle, full, Address, mailbox, angle, group, quoted, typed, phrasePiece, nodesPiece, placePiece, listPiece, addressPiece, asRow}
+use Rattle.grammar.specs.Executable.Trees733.{put, Lexeme, LessThan, GreaterThan, Colon, Semicolon, Comma, At, Sym, of, Word, atomWord, quotedWord, Phrase, one, more, Nodes, first, next, Slot, empty, comma, AddressList, idle, full, Address, mailbox, angle, group, quoted, typed, phrasePiece, nodesPiece, slotPiece, listPiece, addressPiece, asForest}
 use Rattle.grammar.proofs.Rfc733.Trees.{wordSymbol, phraseThen, nodesThen, listThen, addressThen}
 use Rattle.grammar.proofs.Any.Records.{yield-append, last-append}
 use Rattle.grammar.proofs.Any.Silent.{silentRules, silent-records, silent-count}
@@ -63,13 +63,13 @@ addressRecord (typed t a u b) depth parent = recordBy (kindNumber (typedKind (a 
 -- ---- the records of a list
 
 abbrev mutual
-  pub placeCount : Place → ℕ
-  placeCount empty = 0
-  placeCount (comma l t) = listCount l
+  pub slotCount : Slot → ℕ
+  slotCount empty = 0
+  slotCount (comma l t) = listCount l
 
   pub listCount : AddressList → ℕ
-  listCount (idle r) = placeCount r
-  listCount (full r a) = placeCount r + addressCount a
+  listCount (idle r) = slotCount r
+  listCount (full r a) = slotCount r + addressCount a
 
   pub addressCount : Address → ℕ
   addressCount (mailbox p m) = 1
@@ -80,14 +80,14 @@ abbrev mutual
 
 -- at this depth, with this parent (its number plus 1), from this number on
 abbrev mutual
-  pub placeRecords : Place → ℕ → ℕ → ℕ → List AddressRecord
-  placeRecords empty depth parent i = []
-  placeRecords (comma l t) depth parent i = listRecords l depth parent i
+  pub slotRecords : Slot → ℕ → ℕ → ℕ → List AddressRecord
+  slotRecords empty depth parent i = []
+  slotRecords (comma l t) depth parent i = listRecords l depth parent i
 
   pub listRecords : AddressList → ℕ → ℕ → ℕ → List AddressRecord
-  listRecords (idle r) depth parent i = placeRecords r depth parent i
+  listRecords (idle r) depth parent i = slotRecords r depth parent i
   listRecords (full r a) depth parent i =
-      placeRecords r depth parent i ++ (addressRecord a depth parent ∷ insideRecords a (suc depth) (suc (i + placeCount r)))
+      slotRecords r depth parent i ++ (addressRecord a depth parent ∷ insideRecords a (suc depth) (suc (i + slotCount r)))
 
   -- the records inside an address, `i` being the number of the first of them and so the address's own number plus 1
   pub insideRecords : Address → ℕ → ℕ → List AddressRecord
@@ -102,7 +102,7 @@ addressRecords a depth parent i = addressRecord a depth parent ∷ insideRecords
 
 -- ---- the symbols of a tree: the first and the last of them
 
-start-phrase : (q : ℕ) (p : Phrase) (xs : List Sym) → positionOf q (phraseThen p xs) ≡ phraseStart p
+start-phrase : (q : ℕ) (p : Phrase) (xs : List Sym) → startOf q (phraseThen p xs) ≡ phraseStart p
 start-phrase q (one (atomWord t)) xs = refl
 start-phrase q (one (quotedWord t)) xs = refl
 start-phrase q (more p w) xs = start-phrase q p (wordSymbol w ∷ xs)
@@ -139,36 +139,36 @@ same-record d par a b c f g = cc
 cons-record : {r r′ : AddressRecord} {a a′ : List AddressRecord} → r ≡ r′ → a ≡ a′ → r ∷ a ≡ r′ ∷ a′
 cons-record e f = cc
 
--- a name at the beginning of a row
+-- a name at the beginning of a forest
 module _ (p : Phrase) (k : Derivation) where
-  row-start : positionOf 0 (yield (put (phrasePiece p) k)) ≡ phraseStart p
-  row-start = ap (positionOf 0) (phrase-yield p (yield k)) ∙ start-phrase 0 p _
+  forest-start : startOf 0 (yield (put (phrasePiece p) k)) ≡ phraseStart p
+  forest-start = ap (startOf 0) (phrase-yield p (yield k)) ∙ start-phrase 0 p _
 
-  name-start : (q : ℕ) → positionOf q (partOf 0 (put (phrasePiece p) k)) ≡ phraseStart p
-  name-start q = ap (positionOf q) (phrase-yield p []) ∙ start-phrase q p []
+  name-start : (q : ℕ) → startOf q (partOf 0 (put (phrasePiece p) k)) ≡ phraseStart p
+  name-start q = ap (startOf q) (phrase-yield p []) ∙ start-phrase q p []
 
   name-end : (q : ℕ) → lastEnd q (partOf 0 (put (phrasePiece p) k)) ≡ phraseEnd p
   name-end q = ap (lastEnd q) (phrase-yield p []) ∙ last-phrase q p []
 
 -- the end of an address
-row-end : (q : ℕ) (a : Address) (xs : List Sym) → xs ≡ addressThen a [] → lastEnd q xs ≡ addressEnd a
-row-end q a xs e = ap (lastEnd q) e ∙ last-address q a []
+forest-end : (q : ℕ) (a : Address) (xs : List Sym) → xs ≡ addressThen a [] → lastEnd q xs ≡ addressEnd a
+forest-end q a xs e = ap (lastEnd q) e ∙ last-address q a []
 
 -- ---- the records of a tree are those of its derivation
 
 -- words, phrases and nodes have no record
-abbrev silent : Notion → Bool
+abbrev silent : Nonterminal → Bool
 silent list = false
-silent place = false
+silent slot = false
 silent address = false
 silent phrase = true
 silent atNodes = true
 silent node = true
 silent word = true
 
-all-silent : (A : Notion) → pick (silent A) (silentRules silent (rulesOf A)) true ≡ true
+all-silent : (A : Nonterminal) → pick (silent A) (silentRules silent (rulesOf A)) true ≡ true
 all-silent list = refl
-all-silent place = refl
+all-silent slot = refl
 all-silent address = refl
 all-silent phrase = refl
 all-silent atNodes = refl
@@ -182,13 +182,13 @@ nodes-count : (m : Nodes) (k : Derivation) → count (put (nodesPiece m) k) ≡ 
 nodes-count m k = silent-count silent rfc733 all-silent (nodes-is m) refl k
 
 mutual
-  place-count : (r : Place) (k : Derivation) → count (put (placePiece r) k) ≡ placeCount r + count k
-  place-count empty k = omega arith
-  place-count (comma l t) k = omega (arith, list-count l (leaf (of Comma t) nil))
+  slot-count : (r : Slot) (k : Derivation) → count (put (slotPiece r) k) ≡ slotCount r + count k
+  slot-count empty k = omega arith
+  slot-count (comma l t) k = omega (arith, list-count l (leaf (of Comma t) nil))
 
   list-count : (l : AddressList) (k : Derivation) → count (put (listPiece l) k) ≡ listCount l + count k
-  list-count (idle r) k = omega (arith, place-count r nil)
-  list-count (full r a) k = omega (arith, place-count r (put (addressPiece a) nil), address-count a nil)
+  list-count (idle r) k = omega (arith, slot-count r nil)
+  list-count (full r a) k = omega (arith, slot-count r (put (addressPiece a) nil), address-count a nil)
 
   address-count : (a : Address) (k : Derivation) → count (put (addressPiece a) k) ≡ addressCount a + count k
   address-count (mailbox p m) k = omega (arith, phrase-count p (put (nodesPiece m) nil), nodes-count m nil)
@@ -199,7 +199,7 @@ mutual
   address-count (quoted t) k = omega arith
   address-count (typed t a u b) k = omega (arith, address-count b nil)
 
--- a row of two parts: what comes from the first, and then from the second, which starts at the number `m`
+-- a forest of two parts: what comes from the first, and then from the second, which starts at the number `m`
 both-parts : {a : List AddressRecord} {m : ℕ} (b : ℕ → List AddressRecord) (a′ : List AddressRecord) (n : ℕ) → a ≡ a′ → m ≡ n → a ++ b m ≡ a′ ++ b n
 both-parts b a′ n e f = cc
 
@@ -210,54 +210,54 @@ nodes-records : (m : Nodes) (k : Derivation) (d par i : ℕ) → recordsFrom (pu
 nodes-records m k d par i = silent-records silent rfc733 all-silent (nodes-is m) refl k d par i
 
 mutual
-  place-records : (r : Place) (k : Derivation) (d par i : ℕ) → recordsFrom (put (placePiece r) k) d par i ≡ placeRecords r d par i ++ recordsFrom k d par (i + placeCount r)
-  place-records empty k d par i = refl
-  place-records (comma l t) k d par i =
-      both-parts (recordsFrom k d par) (placeRecords (comma l t) d par i) (i + placeCount (comma l t)) (list-records l (leaf (of Comma t) nil) d par i ∙ append-nil _) (omega (arith, list-count l (leaf (of Comma t) nil)))
+  slot-records : (r : Slot) (k : Derivation) (d par i : ℕ) → recordsFrom (put (slotPiece r) k) d par i ≡ slotRecords r d par i ++ recordsFrom k d par (i + slotCount r)
+  slot-records empty k d par i = refl
+  slot-records (comma l t) k d par i =
+      both-parts (recordsFrom k d par) (slotRecords (comma l t) d par i) (i + slotCount (comma l t)) (list-records l (leaf (of Comma t) nil) d par i ∙ append-nil _) (omega (arith, list-count l (leaf (of Comma t) nil)))
 
   list-records : (l : AddressList) (k : Derivation) (d par i : ℕ) → recordsFrom (put (listPiece l) k) d par i ≡ listRecords l d par i ++ recordsFrom k d par (i + listCount l)
-  list-records (idle r) k d par i = both-parts (recordsFrom k d par) (listRecords (idle r) d par i) (i + listCount (idle r)) (place-records r nil d par i ∙ append-nil _) (omega (arith, place-count r nil))
+  list-records (idle r) k d par i = both-parts (recordsFrom k d par) (listRecords (idle r) d par i) (i + listCount (idle r)) (slot-records r nil d par i ∙ append-nil _) (omega (arith, slot-count r nil))
   list-records (full r a) k d par i =
       both-parts (recordsFrom k d par) (listRecords (full r a) d par i) (i + listCount (full r a))
-      (place-records r (put (addressPiece a) nil) d par i ∙ ap (λ rs. placeRecords r d par i ++ rs) (address-records a nil d par (i + placeCount r) ∙ append-nil _))
-      (omega (arith, place-count r (put (addressPiece a) nil), address-count a nil))
+      (slot-records r (put (addressPiece a) nil) d par i ∙ ap (λ rs. slotRecords r d par i ++ rs) (address-records a nil d par (i + slotCount r) ∙ append-nil _))
+      (omega (arith, slot-count r (put (addressPiece a) nil), address-count a nil))
 
   address-records : (a : Address) (k : Derivation) (d par i : ℕ) → recordsFrom (put (addressPiece a) k) d par i ≡ addressRecords a d par i ++ recordsFrom k d par (i + addressCount a)
   address-records (mailbox p m) k d par i =
       both-parts (recordsFrom k d par) (addressRecords (mailbox p m) d par i) (i + addressCount (mailbox p m))
-      (cons-record (same-record d par refl (row-start p (put (nodesPiece m) nil)) (row-end _ (mailbox p m) _ (address-yield (mailbox p m) [])) (name-start p (put (nodesPiece m) nil) _) (name-end p (put (nodesPiece m) nil) _))
+      (cons-record (same-record d par refl (forest-start p (put (nodesPiece m) nil)) (forest-end _ (mailbox p m) _ (address-yield (mailbox p m) [])) (name-start p (put (nodesPiece m) nil) _) (name-end p (put (nodesPiece m) nil) _))
       (phrase-records p (put (nodesPiece m) nil) (suc d) (suc i) (suc i) ∙ nodes-records m nil (suc d) (suc i) (suc i)))
       (omega (arith, phrase-count p (put (nodesPiece m) nil), nodes-count m nil))
   address-records (angle none t l u) k d par i =
       both-parts (recordsFrom k d par) (addressRecords (angle none t l u) d par i) (i + addressCount (angle none t l u))
-      (cons-record (same-record d par refl refl (row-end 0 (angle none t l u) _ (address-yield (angle none t l u) [])) refl refl)
+      (cons-record (same-record d par refl refl (forest-end 0 (angle none t l u) _ (address-yield (angle none t l u) [])) refl refl)
       (list-records l (leaf (of GreaterThan u) nil) (suc d) (suc i) (suc i) ∙ append-nil _))
       (omega (arith, list-count l (leaf (of GreaterThan u) nil)))
   address-records (angle (some p) t l u) k d par i =
       both-parts (recordsFrom k d par) (addressRecords (angle (some p) t l u) d par i) (i + addressCount (angle (some p) t l u))
-      (cons-record (same-record d par refl (row-start p (leaf (of LessThan t) (put (listPiece l) (leaf (of GreaterThan u) nil)))) (row-end _ (angle (some p) t l u) _ (address-yield (angle (some p) t l u) [])) (name-start p (leaf (of LessThan t) (put (listPiece l) (leaf (of GreaterThan u) nil))) _) (name-end p (leaf (of LessThan t) (put (listPiece l) (leaf (of GreaterThan u) nil))) _))
+      (cons-record (same-record d par refl (forest-start p (leaf (of LessThan t) (put (listPiece l) (leaf (of GreaterThan u) nil)))) (forest-end _ (angle (some p) t l u) _ (address-yield (angle (some p) t l u) [])) (name-start p (leaf (of LessThan t) (put (listPiece l) (leaf (of GreaterThan u) nil))) _) (name-end p (leaf (of LessThan t) (put (listPiece l) (leaf (of GreaterThan u) nil))) _))
       (phrase-records p (leaf (of LessThan t) (put (listPiece l) (leaf (of GreaterThan u) nil))) (suc d) (suc i) (suc i) ∙ list-records l (leaf (of GreaterThan u) nil) (suc d) (suc i) (suc i) ∙ append-nil _))
       (omega (arith, phrase-count p (leaf (of LessThan t) (put (listPiece l) (leaf (of GreaterThan u) nil))), list-count l (leaf (of GreaterThan u) nil)))
   address-records (group none t l u) k d par i =
       both-parts (recordsFrom k d par) (addressRecords (group none t l u) d par i) (i + addressCount (group none t l u))
-      (cons-record (same-record d par refl refl (row-end 0 (group none t l u) _ (address-yield (group none t l u) [])) refl refl)
+      (cons-record (same-record d par refl refl (forest-end 0 (group none t l u) _ (address-yield (group none t l u) [])) refl refl)
       (list-records l (leaf (of Semicolon u) nil) (suc d) (suc i) (suc i) ∙ append-nil _))
       (omega (arith, list-count l (leaf (of Semicolon u) nil)))
   address-records (group (some p) t l u) k d par i =
       both-parts (recordsFrom k d par) (addressRecords (group (some p) t l u) d par i) (i + addressCount (group (some p) t l u))
-      (cons-record (same-record d par refl (row-start p (leaf (of Colon t) (put (listPiece l) (leaf (of Semicolon u) nil)))) (row-end _ (group (some p) t l u) _ (address-yield (group (some p) t l u) [])) (name-start p (leaf (of Colon t) (put (listPiece l) (leaf (of Semicolon u) nil))) _) (name-end p (leaf (of Colon t) (put (listPiece l) (leaf (of Semicolon u) nil))) _))
+      (cons-record (same-record d par refl (forest-start p (leaf (of Colon t) (put (listPiece l) (leaf (of Semicolon u) nil)))) (forest-end _ (group (some p) t l u) _ (address-yield (group (some p) t l u) [])) (name-start p (leaf (of Colon t) (put (listPiece l) (leaf (of Semicolon u) nil))) _) (name-end p (leaf (of Colon t) (put (listPiece l) (leaf (of Semicolon u) nil))) _))
       (phrase-records p (leaf (of Colon t) (put (listPiece l) (leaf (of Semicolon u) nil))) (suc d) (suc i) (suc i) ∙ list-records l (leaf (of Semicolon u) nil) (suc d) (suc i) (suc i) ∙ append-nil _))
       (omega (arith, phrase-count p (leaf (of Colon t) (put (listPiece l) (leaf (of Semicolon u) nil))), list-count l (leaf (of Semicolon u) nil)))
   address-records (quoted t) k d par i = both-parts (recordsFrom k d par) (addressRecords (quoted t) d par i) (i + addressCount (quoted t)) refl (omega arith)
   address-records (typed t a u b) k d par i =
       both-parts (recordsFrom k d par) (addressRecords (typed t a u b) d par i) (i + addressCount (typed t a u b))
-      (cons-record (same-record d par (ap (λ name. kindNumber (typedKind name)) (append-nil (a .meaning))) refl (row-end 0 (typed t a u b) _ (address-yield (typed t a u b) [])) refl refl)
+      (cons-record (same-record d par (ap (λ name. kindNumber (typedKind name)) (append-nil (a .meaning))) refl (forest-end 0 (typed t a u b) _ (address-yield (typed t a u b) [])) refl refl)
       (address-records b nil (suc d) (suc i) (suc i) ∙ append-nil _))
       (omega (arith, address-count b nil))
 
 -- the records of a derivation
-pub tree-records : (l : AddressList) → records (asRow l) ≡ listRecords l 0 0 0
+pub tree-records : (l : AddressList) → records (asForest l) ≡ listRecords l 0 0 0
 tree-records l = list-records l nil 0 0 0 ∙ append-nil _
 
-pub tree-count : (l : AddressList) → count (asRow l) ≡ listCount l
+pub tree-count : (l : AddressList) → count (asForest l) ≡ listCount l
 tree-count l = omega (arith, list-count l nil)

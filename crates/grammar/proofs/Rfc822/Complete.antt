@@ -3,16 +3,16 @@ use Prim.Native.Nat.{ℕ}
 use mathlib.Core.Path.{_≡_, refl, ap, _∙_}
 use mathlib.Core.List.{List, [], _∷_}
 use mathlib.Core.Option.{some}
-use Rattle.grammar.specs.Believed.Grammar.{Row, yield}
+use Rattle.grammar.specs.Believed.Grammar.{Forest, yield}
 use Rattle.grammar.specs.Believed.Language.{accepted}
 use Rattle.grammar.specs.Believed.Rfc733.{sameClass}
-use Rattle.grammar.specs.Believed.Rfc822.{Notion}
+use Rattle.grammar.specs.Believed.Rfc822.{Nonterminal}
 use Rattle.grammar.specs.Executable.Machines.{go, verdictBy, atEnd, Arrow}
 use Rattle.grammar.proofs.Any.Machine.{Machine}
 use Rattle.grammar.proofs.Any.Pieces.{seen}
 use Rattle.grammar.proofs.Any.Arrows as any
 use Rattle.grammar.proofs.Symbols.{same-class}
-use Rattle.grammar.specs.Executable.Trees822.{Class, Atom, At, LessThan, GreaterThan, Comma, Semicolon, Colon, Dot, Lexeme, Sym, of, Word, atomWord, quotedWord, Phrase, one, more, Sub, atomSub, literalSub, Domain, oneSub, moreSub, Local, oneWord, moreWord, Spec, spec, Empties, noEmpty, oneEmpty, Hops, firstHop, nextHop, Route, direct, trailing, Mailbox, bare, angle, routed, Place, empty, comma, Listed, idle, full, Address, box, group, wordPiece, phrasePiece, subPiece, domainPiece, localPiece, specPiece, emptiesPiece, hopsPiece, routePiece, mailboxPiece, boxPlacePiece, boxesPiece, addressPiece, placePiece, listPiece, asRow}
+use Rattle.grammar.specs.Executable.Trees822.{Class, Atom, At, LessThan, GreaterThan, Comma, Semicolon, Colon, Dot, Lexeme, Sym, of, Word, atomWord, quotedWord, Phrase, one, more, Sub, atomSub, literalSub, Domain, oneSub, moreSub, Local, oneWord, moreWord, Spec, spec, Empties, noEmpty, oneEmpty, Hops, firstHop, nextHop, Route, direct, trailing, Mailbox, bare, angle, routed, Slot, empty, comma, Listed, idle, full, Address, box, group, wordPiece, phrasePiece, subPiece, domainPiece, localPiece, specPiece, emptiesPiece, hopsPiece, routePiece, mailboxPiece, boxSlotPiece, boxesPiece, addressPiece, slotPiece, listPiece, asForest}
 use Rattle.grammar.proofs.Rfc822.Derivations.{DerivedList, tree-derived}
 use Rattle.grammar.specs.Executable.Machine822.{Here, inList, inGroup, Open, less, In, bareIn, angleIn, routeIn, firstAt, nextAt, Behind, ofSpec, ofHop, State, place, word, phrase, local, localDot, at, domain, domainDot, opened, hop, route, boxed, closed, words, subs, arrows, step, run, finish, start, read}
 use Rattle.grammar.proofs.Rfc822.Machine.{stateThen, kept, gives}
@@ -50,11 +50,11 @@ doneBox h (bare s) = doneSpec (bareIn h) s
 doneBox h (angle p t s u) = boxed h (angle p t s u)
 doneBox h (routed p t r s u) = boxed h (routed p t r s u)
 
-abbrev doneBoxes : Place Address → Phrase → Lexeme → Listed Mailbox → State
+abbrev doneBoxes : Slot Address → Phrase → Lexeme → Listed Mailbox → State
 doneBoxes r p c (idle s) = place (inGroup r p c s)
 doneBoxes r p c (full s b) = doneBox (inGroup r p c s) b
 
-abbrev doneAddress : Place Address → Address → State
+abbrev doneAddress : Slot Address → Address → State
 doneAddress r (box b) = doneBox (inList r) b
 doneAddress r (group p t l u) = closed r (group p t l u)
 
@@ -92,7 +92,7 @@ less-on n (inList r) (more p w) t xs = refl
 less-on n (inGroup r q c s) (one w) t xs = refl
 less-on n (inGroup r q c s) (more p w) t xs = refl
 
-colon-on : (n : ℕ) (r : Place Address) (p : Phrase) (t : Lexeme) (xs : List Sym) → run n (donePhrase (inList r) p) (of Colon t ∷ xs) ≡ run n (place (inGroup r p t empty)) xs
+colon-on : (n : ℕ) (r : Slot Address) (p : Phrase) (t : Lexeme) (xs : List Sym) → run n (donePhrase (inList r) p) (of Colon t ∷ xs) ≡ run n (place (inGroup r p t empty)) xs
 colon-on n r (one w) t xs = refl
 colon-on n r (more p w) t xs = refl
 
@@ -183,14 +183,14 @@ run-box (routed p t r s u) n h xs =
 
 -- ---- groups
 
-boxes-comma : (n : ℕ) (r : Place Address) (p : Phrase) (c : Lexeme) (l : Listed Mailbox) (t : Lexeme) (xs : List Sym)
+boxes-comma : (n : ℕ) (r : Slot Address) (p : Phrase) (c : Lexeme) (l : Listed Mailbox) (t : Lexeme) (xs : List Sym)
     → run n (doneBoxes r p c l) (of Comma t ∷ xs) ≡ run n (place (inGroup r p c (comma l t))) xs
 boxes-comma n r p c (idle s) t xs = refl
 boxes-comma n r p c (full s (bare (spec l v m))) t xs = refl
 boxes-comma n r p c (full s (angle q v e u)) t xs = refl
 boxes-comma n r p c (full s (routed q v w e u)) t xs = refl
 
-boxes-end : (n : ℕ) (r : Place Address) (p : Phrase) (c : Lexeme) (l : Listed Mailbox) (t : Lexeme) (xs : List Sym)
+boxes-end : (n : ℕ) (r : Slot Address) (p : Phrase) (c : Lexeme) (l : Listed Mailbox) (t : Lexeme) (xs : List Sym)
     → run n (doneBoxes r p c l) (of Semicolon t ∷ xs) ≡ run n (closed r (group p c l t)) xs
 boxes-end n r p c (idle s) t xs = refl
 boxes-end n r p c (full s (bare (spec l v m))) t xs = refl
@@ -198,19 +198,19 @@ boxes-end n r p c (full s (angle q v e u)) t xs = refl
 boxes-end n r p c (full s (routed q v w e u)) t xs = refl
 
 mutual
-  run-boxPlace : (s : Place Mailbox) (n : ℕ) (r : Place Address) (p : Phrase) (c : Lexeme) (xs : List Sym)
-      → run n (place (inGroup r p c empty)) (seen (boxPlacePiece s) xs) ≡ run n (place (inGroup r p c s)) xs
+  run-boxPlace : (s : Slot Mailbox) (n : ℕ) (r : Slot Address) (p : Phrase) (c : Lexeme) (xs : List Sym)
+      → run n (place (inGroup r p c empty)) (seen (boxSlotPiece s) xs) ≡ run n (place (inGroup r p c s)) xs
   run-boxPlace empty n r p c xs = refl
   run-boxPlace (comma l t) n r p c xs = run-boxes l n r p c (of Comma t ∷ xs) ∙ boxes-comma n r p c l t xs
 
-  run-boxes : (l : Listed Mailbox) (n : ℕ) (r : Place Address) (p : Phrase) (c : Lexeme) (xs : List Sym)
+  run-boxes : (l : Listed Mailbox) (n : ℕ) (r : Slot Address) (p : Phrase) (c : Lexeme) (xs : List Sym)
       → run n (place (inGroup r p c empty)) (seen (boxesPiece l) xs) ≡ run n (doneBoxes r p c l) xs
   run-boxes (idle s) n r p c xs = run-boxPlace s n r p c xs
   run-boxes (full s b) n r p c xs = run-boxPlace s n r p c (seen (mailboxPiece b) xs) ∙ run-box b n (inGroup r p c s) xs
 
 -- ---- lists
 
-run-address : (a : Address) (n : ℕ) (r : Place Address) (xs : List Sym) → run n (place (inList r)) (seen (addressPiece a) xs) ≡ run n (doneAddress r a) xs
+run-address : (a : Address) (n : ℕ) (r : Slot Address) (xs : List Sym) → run n (place (inList r)) (seen (addressPiece a) xs) ≡ run n (doneAddress r a) xs
 run-address (box b) n r xs = run-box b n (inList r) xs
 run-address (group p t l u) n r xs = run-phrase p n (inList r) _ ∙ colon-on n r p t (seen (boxesPiece l) (of Semicolon u ∷ xs)) ∙ run-boxes l n r p t (of Semicolon u ∷ xs) ∙ boxes-end n r p t l u xs
 
@@ -222,7 +222,7 @@ list-comma n (full r (box (routed q v w e u))) t xs = refl
 list-comma n (full r (group p c l u)) t xs = refl
 
 mutual
-  run-place : (r : Place Address) (n : ℕ) (xs : List Sym) → run n start (seen (placePiece r) xs) ≡ run n (place (inList r)) xs
+  run-place : (r : Slot Address) (n : ℕ) (xs : List Sym) → run n start (seen (slotPiece r) xs) ≡ run n (place (inList r)) xs
   run-place empty n xs = refl
   run-place (comma l t) n xs = run-list l n (of Comma t ∷ xs) ∙ list-comma n l t xs
 
@@ -230,7 +230,7 @@ mutual
   run-list (idle r) n xs = run-place r n xs
   run-list (full r a) n xs = run-place r n (seen (addressPiece a) xs) ∙ run-address a n r xs
 
-list-ends : (l : Listed Address) → finish (doneList l) ≡ some (asRow l)
+list-ends : (l : Listed Address) → finish (doneList l) ≡ some (asForest l)
 list-ends (idle r) = refl
 list-ends (full r (box (bare (spec l v m)))) = refl
 list-ends (full r (box (angle q v e u))) = refl
@@ -238,10 +238,10 @@ list-ends (full r (box (routed q v w e u))) = refl
 list-ends (full r (group p c l u)) = refl
 
 -- what the rules derive is read, as that very derivation
-pub complete-read : (n : ℕ) (k : Row Class Notion) (xs : List Sym) → DerivedList k xs → read n xs ≡ accepted k
+pub complete-read : (n : ℕ) (k : Forest Class Nonterminal) (xs : List Sym) → DerivedList k xs → read n xs ≡ accepted k
 complete-read n k xs d =
     let (l, e, y) = tree-derived d in
-    let a : read n (yield (asRow l)) ≡ accepted (asRow l) = ap (verdictBy finish) (run-list l n []) ∙ ap atEnd (list-ends l) in
+    let a : read n (yield (asForest l)) ≡ accepted (asForest l) = ap (verdictBy finish) (run-list l n []) ∙ ap atEnd (list-ends l) in
     rw e (rw y at a)
 
 -- ---- every state can be brought to an end
@@ -250,21 +250,21 @@ abbrev nowhere : Lexeme
 nowhere = record { start = 0; end = 0; meaning = [] }
 
 abbrev Ending : ℕ → State → Type 0
-Ending n s = (ws : List Sym) × (k : Row Class Notion) × (verdictBy finish (run n s ws) ≡ accepted k)
+Ending n s = (ws : List Sym) × (k : Forest Class Nonterminal) × (verdictBy finish (run n s ws) ≡ accepted k)
 
 -- one symbol before an ending
 via : (n : ℕ) (s s′ : State) (c : Class) → step n s (of c nowhere) ≡ go s′ → Ending n s′ → Ending n s
 via n s s′ c e f = (of c nowhere ∷ f .0, f .1, rw e (f .2))
 
-ending-closed : (n : ℕ) (r : Place Address) (a : Address) → Ending n (closed r a)
-ending-closed n r a = ([], asRow (full r a), refl)
+ending-closed : (n : ℕ) (r : Slot Address) (a : Address) → Ending n (closed r a)
+ending-closed n r a = ([], asForest (full r a), refl)
 
 ending-box : (n : ℕ) (h : Here) (b : Mailbox) → Ending n (boxed h b)
-ending-box n (inList r) b = ([], asRow (full r (box b)), refl)
+ending-box n (inList r) b = ([], asForest (full r (box b)), refl)
 ending-box n (inGroup r p c s) b = via n (boxed (inGroup r p c s) b) _ Semicolon refl (ending-closed n r _)
 
 ending-spec : (n : ℕ) (c : In) (l : Local) (t : Lexeme) (m : Domain) → Ending n (domain (ofSpec c l t) m)
-ending-spec n (bareIn (inList r)) l t m = ([], asRow (full r (box (bare (spec l t m)))), refl)
+ending-spec n (bareIn (inList r)) l t m = ([], asForest (full r (box (bare (spec l t m)))), refl)
 ending-spec n (bareIn (inGroup r p c s)) l t m = via n (domain (ofSpec (bareIn (inGroup r p c s)) l t) m) _ Semicolon refl (ending-closed n r _)
 ending-spec n (angleIn o) l t m = via n (domain (ofSpec (angleIn o) l t) m) _ GreaterThan refl (ending-box n _ _)
 ending-spec n (routeIn o r) l t m = via n (domain (ofSpec (routeIn o r) l t) m) _ GreaterThan refl (ending-box n _ _)
@@ -290,7 +290,7 @@ ending-phrase n (inList r) p = via n (phrase (inList r) p) _ LessThan refl (endi
 ending-phrase n (inGroup r q c s) p = via n (phrase (inGroup r q c s) p) _ LessThan refl (ending-opened n _)
 
 pub ending : (n : ℕ) (s : State) → Ending n s
-ending n (place (inList r)) = ([], asRow (idle r), refl)
+ending n (place (inList r)) = ([], asForest (idle r), refl)
 ending n (place (inGroup r p c s)) = via n (place (inGroup r p c s)) _ Semicolon refl (ending-closed n r _)
 ending n (word h w) = via n (word h w) _ Atom refl (ending-phrase n h _)
 ending n (phrase h p) = ending-phrase n h p

@@ -4,22 +4,22 @@ use native.Mathlib.Omega.{arith}
 use mathlib.Core.Path.{_≡_, refl}
 use mathlib.Core.List.{List, [], _∷_}
 use lib.ListN.{length}
-use Rattle.grammar.specs.Believed.Grammar.{Item, part, Row, nil, yield, Allowed, Fits, done, take, Derived}
+use Rattle.grammar.specs.Believed.Grammar.{Item, nonterminal, Forest, nil, yield, Allowed, Fits, done, take, Derived}
 use Rattle.grammar.specs.Believed.Rfc733.{sameClass, plain}
-use Rattle.grammar.specs.Believed.Rfc822.{rulesOf, Notion, list, place, address, boxes, boxPlace, mailbox, routeAddr, addrSpec, route, hops, emptyPlaces, localPart, domain, subDomain, phrase, word, rfc822}
-use Rattle.grammar.specs.Executable.Trees822.{put, Class, Sym, Word, atomWord, quotedWord, Phrase, one, more, Sub, Domain, Local, Spec, Empties, Hops, Route, RouteAddr, Mailbox, Place, Listed, Address, Bit, bit, wordPiece, phrasePiece, subPiece, domainPiece, localPiece, specPiece, emptiesPiece, hopsPiece, routePiece, routeAddrPiece, mailboxPiece, boxPlacePiece, boxesPiece, addressPiece, placePiece, listPiece, atomSub, literalSub, oneSub, moreSub, oneWord, moreWord, spec, noEmpty, oneEmpty, firstHop, nextHop, direct, trailing, noRoute, withRoute, bare, angle, routed, empty, comma, idle, full, box, group, asRow}
+use Rattle.grammar.specs.Believed.Rfc822.{rulesOf, Nonterminal, list, slot, address, boxes, boxSlot, mailbox, routeAddr, addrSpec, route, hops, emptySlots, localPart, domain, subDomain, phrase, word, rfc822}
+use Rattle.grammar.specs.Executable.Trees822.{put, Class, Sym, Word, atomWord, quotedWord, Phrase, one, more, Sub, Domain, Local, Spec, Empties, Hops, Route, RouteAddr, Mailbox, Slot, Listed, Address, Bit, bit, wordPiece, phrasePiece, subPiece, domainPiece, localPiece, specPiece, emptiesPiece, hopsPiece, routePiece, routeAddrPiece, mailboxPiece, boxSlotPiece, boxesPiece, addressPiece, slotPiece, listPiece, atomSub, literalSub, oneSub, moreSub, oneWord, moreWord, spec, noEmpty, oneEmpty, firstHop, nextHop, direct, trailing, noRoute, withRoute, bare, angle, routed, empty, comma, idle, full, box, group, asForest}
 use Rattle.grammar.proofs.Any.Pieces.{From, by-rule, put-fits, AllCovered, tree-of}
 
 -- ---- every tree is a derivation
 
-abbrev Is : Notion → Bit → Type 0
+abbrev Is : Nonterminal → Bit → Type 0
 Is A p = From rfc822 A p
 
 -- .. by the i-th rule
-by : (A : Notion) (i : ℕ) {p : Row Class Notion} → i < length (rulesOf A) → Fits rfc822 (bit A i p .rule .items) p → Allowed sameClass (bit A i p .rule .never) (yield p) → Is A (bit A i p)
+by : (A : Nonterminal) (i : ℕ) {p : Forest Class Nonterminal} → i < length (rulesOf A) → Fits rfc822 (bit A i p .rule .items) p → Allowed sameClass (bit A i p .rule .never) (yield p) → Is A (bit A i p)
 by A i h d o = by-rule rfc822 A i (plain []) h d o
 
-with : {A : Notion} {p : Bit} {items : List (Item Class Notion)} {k : Row Class Notion} → Is A p → Fits rfc822 items k → Fits rfc822 (part A ∷ items) (put p k)
+with : {A : Nonterminal} {p : Bit} {items : List (Item Class Nonterminal)} {k : Forest Class Nonterminal} → Is A p → Fits rfc822 items k → Fits rfc822 (nonterminal A ∷ items) (put p k)
 with f d = put-fits rfc822 f d
 
 pub word-is : (w : Word) → Is word (wordPiece w)
@@ -45,9 +45,9 @@ local-is (moreWord l t w) = by localPart 1 (omega arith) (with (local-is l) (tak
 pub spec-is : (s : Spec) → Is addrSpec (specPiece s)
 spec-is (spec l t m) = by addrSpec 0 (omega arith) (with (local-is l) (take refl (with (domain-is m) done))) tt
 
-pub empties-is : (g : Empties) → Is emptyPlaces (emptiesPiece g)
-empties-is noEmpty = by emptyPlaces 0 (omega arith) done tt
-empties-is (oneEmpty g t) = by emptyPlaces 1 (omega arith) (with (empties-is g) (take refl done)) tt
+pub empties-is : (g : Empties) → Is emptySlots (emptiesPiece g)
+empties-is noEmpty = by emptySlots 0 (omega arith) done tt
+empties-is (oneEmpty g t) = by emptySlots 1 (omega arith) (with (empties-is g) (take refl done)) tt
 
 pub hops-is : (h : Hops) → Is hops (hopsPiece h)
 hops-is (firstHop g t m) = by hops 0 (omega arith) (with (empties-is g) (take refl (with (domain-is m) done))) tt
@@ -67,59 +67,59 @@ mailbox-is (angle p t s u) = by mailbox 1 (omega arith) (with (phrase-is p) (wit
 mailbox-is (routed p t r s u) = by mailbox 1 (omega arith) (with (phrase-is p) (with (route-addr-is (withRoute t r s u)) done)) tt
 
 mutual
-  boxPlace-is : (r : Place Mailbox) → Is boxPlace (boxPlacePiece r)
-  boxPlace-is empty = by boxPlace 0 (omega arith) done tt
-  boxPlace-is (comma l t) = by boxPlace 1 (omega arith) (with (boxes-is l) (take refl done)) tt
+  boxSlot-is : (r : Slot Mailbox) → Is boxSlot (boxSlotPiece r)
+  boxSlot-is empty = by boxSlot 0 (omega arith) done tt
+  boxSlot-is (comma l t) = by boxSlot 1 (omega arith) (with (boxes-is l) (take refl done)) tt
 
   boxes-is : (l : Listed Mailbox) → Is boxes (boxesPiece l)
-  boxes-is (idle r) = by boxes 1 (omega arith) (with (boxPlace-is r) done) tt
-  boxes-is (full r b) = by boxes 0 (omega arith) (with (boxPlace-is r) (with (mailbox-is b) done)) tt
+  boxes-is (idle r) = by boxes 1 (omega arith) (with (boxSlot-is r) done) tt
+  boxes-is (full r b) = by boxes 0 (omega arith) (with (boxSlot-is r) (with (mailbox-is b) done)) tt
 
 pub address-is : (a : Address) → Is address (addressPiece a)
 address-is (box b) = by address 0 (omega arith) (with (mailbox-is b) done) tt
 address-is (group p t l u) = by address 1 (omega arith) (with (phrase-is p) (take refl (with (boxes-is l) (take refl done)))) tt
 
 mutual
-  place-is : (r : Place Address) → Is place (placePiece r)
-  place-is empty = by place 0 (omega arith) done tt
-  place-is (comma l t) = by place 1 (omega arith) (with (list-is l) (take refl done)) tt
+  slot-is : (r : Slot Address) → Is slot (slotPiece r)
+  slot-is empty = by slot 0 (omega arith) done tt
+  slot-is (comma l t) = by slot 1 (omega arith) (with (list-is l) (take refl done)) tt
 
   list-is : (l : Listed Address) → Is list (listPiece l)
-  list-is (idle r) = by list 1 (omega arith) (with (place-is r) done) tt
-  list-is (full r a) = by list 0 (omega arith) (with (place-is r) (with (address-is a) done)) tt
+  list-is (idle r) = by list 1 (omega arith) (with (slot-is r) done) tt
+  list-is (full r a) = by list 0 (omega arith) (with (slot-is r) (with (address-is a) done)) tt
 
 -- ---- every derivation is a tree
 
-abbrev Tree : Notion → Type 0
+abbrev Tree : Nonterminal → Type 0
 Tree list = Listed Address
-Tree place = Place Address
+Tree slot = Slot Address
 Tree address = Address
 Tree boxes = Listed Mailbox
-Tree boxPlace = Place Mailbox
+Tree boxSlot = Slot Mailbox
 Tree mailbox = Mailbox
 Tree routeAddr = RouteAddr
 Tree addrSpec = Spec
 Tree route = Route
 Tree hops = Hops
-Tree emptyPlaces = Empties
+Tree emptySlots = Empties
 Tree localPart = Local
 Tree domain = Domain
 Tree subDomain = Sub
 Tree phrase = Phrase
 Tree word = Word
 
-abbrev pieceOf : (A : Notion) → Tree A → Bit
+abbrev pieceOf : (A : Nonterminal) → Tree A → Bit
 pieceOf list x = listPiece x
-pieceOf place x = placePiece x
+pieceOf slot x = slotPiece x
 pieceOf address x = addressPiece x
 pieceOf boxes x = boxesPiece x
-pieceOf boxPlace x = boxPlacePiece x
+pieceOf boxSlot x = boxSlotPiece x
 pieceOf mailbox x = mailboxPiece x
 pieceOf routeAddr x = routeAddrPiece x
 pieceOf addrSpec x = specPiece x
 pieceOf route x = routePiece x
 pieceOf hops x = hopsPiece x
-pieceOf emptyPlaces x = emptiesPiece x
+pieceOf emptySlots x = emptiesPiece x
 pieceOf localPart x = localPiece x
 pieceOf domain x = domainPiece x
 pieceOf subDomain x = subPiece x
@@ -130,18 +130,18 @@ named : (p : Phrase) (r : RouteAddr) → (x : Mailbox) × (bit mailbox 1 (put (p
 named p (noRoute t s u) = (angle p t s u, refl)
 named p (withRoute t r s u) = (routed p t r s u, refl)
 
-covered : (A : Notion) → AllCovered rfc822 Tree pieceOf A (rulesOf A)
+covered : (A : Nonterminal) → AllCovered rfc822 Tree pieceOf A (rulesOf A)
 covered list = (λ (r, (a, z)) o. (full r a, refl), (λ (r, z) o. (idle r, refl), tt))
-covered place = (λ z o. (empty, refl), (λ (l, (t, z)) o. (comma l t, refl), tt))
+covered slot = (λ z o. (empty, refl), (λ (l, (t, z)) o. (comma l t, refl), tt))
 covered address = (λ (b, z) o. (box b, refl), (λ (p, (t, (l, (u, z)))) o. (group p t l u, refl), tt))
 covered boxes = (λ (r, (b, z)) o. (full r b, refl), (λ (r, z) o. (idle r, refl), tt))
-covered boxPlace = (λ z o. (empty, refl), (λ (l, (t, z)) o. (comma l t, refl), tt))
+covered boxSlot = (λ z o. (empty, refl), (λ (l, (t, z)) o. (comma l t, refl), tt))
 covered mailbox = (λ (s, z) o. (bare s, refl), (λ (p, (r, z)) o. named p r, tt))
 covered routeAddr = (λ (t, (s, (u, z))) o. (noRoute t s u, refl), (λ (t, (r, (s, (u, z)))) o. (withRoute t r s u, refl), tt))
 covered addrSpec = (λ (l, (t, (m, z))) o. (spec l t m, refl), tt)
 covered route = (λ (h, (t, z)) o. (direct h t, refl), (λ (h, (u, (g, (t, z)))) o. (trailing h u g t, refl), tt))
 covered hops = (λ (g, (t, (m, z))) o. (firstHop g t m, refl), (λ (h, (u, (g, (t, (m, z))))) o. (nextHop h u g t m, refl), tt))
-covered emptyPlaces = (λ z o. (noEmpty, refl), (λ (g, (t, z)) o. (oneEmpty g t, refl), tt))
+covered emptySlots = (λ z o. (noEmpty, refl), (λ (g, (t, z)) o. (oneEmpty g t, refl), tt))
 covered localPart = (λ (w, z) o. (oneWord w, refl), (λ (l, (t, (w, z))) o. (moreWord l t w, refl), tt))
 covered domain = (λ (s, z) o. (oneSub s, refl), (λ (m, (t, (s, z))) o. (moreSub m t s, refl), tt))
 covered subDomain = (λ (t, z) o. (atomSub t, refl), (λ (t, z) o. (literalSub t, refl), tt))
@@ -150,11 +150,11 @@ covered word = (λ (t, z) o. (atomWord t, refl), (λ (t, z) o. (quotedWord t, re
 
 -- ---- the trees are the derivations
 
-abbrev pub DerivedList : Row Class Notion → List Sym → Type 0
+abbrev pub DerivedList : Forest Class Nonterminal → List Sym → Type 0
 DerivedList k xs = Derived rfc822 list k xs
 
-pub row-derived : (l : Listed Address) {xs : List Sym} → yield (asRow l) ≡ xs → DerivedList (asRow l) xs
-row-derived l e = record { fits = with (list-is l) done; yields = e }
+pub forest-derived : (l : Listed Address) {xs : List Sym} → yield (asForest l) ≡ xs → DerivedList (asForest l) xs
+forest-derived l e = record { fits = with (list-is l) done; yields = e }
 
-pub tree-derived : {k : Row Class Notion} {xs : List Sym} → DerivedList k xs → (l : Listed Address) × (k ≡ asRow l) × (yield (asRow l) ≡ xs)
+pub tree-derived : {k : Forest Class Nonterminal} {xs : List Sym} → DerivedList k xs → (l : Listed Address) × (k ≡ asForest l) × (yield (asForest l) ≡ xs)
 tree-derived d = tree-of rfc822 Tree pieceOf covered d

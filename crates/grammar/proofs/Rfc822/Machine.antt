@@ -1,18 +1,18 @@
 -- The machine of RFC 822: what its states stand for; every arrow keeps it, and what is given at the end is derived. Assumes nothing.
 use mathlib.Core.Path.{refl}
 use mathlib.Core.List.{List, [], _∷_}
-use Rattle.grammar.specs.Executable.Trees822.{At, LessThan, Comma, Colon, Dot, Sym, of, spec, Mailbox, bare, idle, full, box, wordPiece, phrasePiece, domainPiece, localPiece, emptiesPiece, hopsPiece, routePiece, mailboxPiece, boxPlacePiece, addressPiece, placePiece}
+use Rattle.grammar.specs.Executable.Trees822.{At, LessThan, Comma, Colon, Dot, Sym, of, spec, Mailbox, bare, idle, full, box, wordPiece, phrasePiece, domainPiece, localPiece, emptiesPiece, hopsPiece, routePiece, mailboxPiece, boxSlotPiece, addressPiece, slotPiece}
 use Rattle.grammar.proofs.Any.Pieces.{seen}
 use Rattle.grammar.proofs.Any.Arrows.{Keeps}
 use Rattle.grammar.proofs.Any.Sound.{Given}
-use Rattle.grammar.proofs.Rfc822.Derivations.{DerivedList, row-derived}
+use Rattle.grammar.proofs.Rfc822.Derivations.{DerivedList, forest-derived}
 use Rattle.grammar.specs.Executable.Machine822.{Here, Open, In, Hop, Behind, State, arrows, boxEnds, finish, inList, inGroup, less, bareIn, angleIn, routeIn, firstAt, nextAt, ofSpec, ofHop, place, word, phrase, local, localDot, at, domain, domainDot, opened, hop, route, boxed, closed}
 
 -- ---- what has been read, put before `xs`
 
 abbrev pub hereThen : Here → List Sym → List Sym
-hereThen (inList r) xs = seen (placePiece r) xs
-hereThen (inGroup r p t s) xs = seen (placePiece r) (seen (phrasePiece p) (of Colon t ∷ seen (boxPlacePiece s) xs))
+hereThen (inList r) xs = seen (slotPiece r) xs
+hereThen (inGroup r p t s) xs = seen (slotPiece r) (seen (phrasePiece p) (of Colon t ∷ seen (boxSlotPiece s) xs))
 
 abbrev pub openThen : Open → List Sym → List Sym
 openThen (less h p t) xs = hereThen h (seen (phrasePiece p) (of LessThan t ∷ xs))
@@ -43,7 +43,7 @@ stateThen (opened o) xs = openThen o xs
 stateThen (hop o f) xs = openThen o (hopThen f xs)
 stateThen (route o r) xs = openThen o (seen (routePiece r) xs)
 stateThen (boxed h b) xs = hereThen h (seen (mailboxPiece b) xs)
-stateThen (closed r a) xs = seen (placePiece r) (seen (addressPiece a) xs)
+stateThen (closed r a) xs = seen (slotPiece r) (seen (addressPiece a) xs)
 
 -- ---- every arrow keeps it
 
@@ -75,11 +75,11 @@ kept (closed r a) = (λ t xs. refl, tt)
 -- ---- what is given at the end is derived
 
 box-gives : (h : Here) (b : Mailbox) → Given (λ k. DerivedList k (hereThen h (seen (mailboxPiece b) []))) (boxEnds h b)
-box-gives (inList r) b = row-derived (full r (box b)) refl
+box-gives (inList r) b = forest-derived (full r (box b)) refl
 box-gives (inGroup r p c s) b = tt
 
 pub gives : (s : State) → Given (λ k. DerivedList k (stateThen s [])) (finish s)
-gives (place (inList r)) = row-derived (idle r) refl
+gives (place (inList r)) = forest-derived (idle r) refl
 gives (place (inGroup r p c s)) = tt
 gives (word h w) = tt
 gives (phrase h p) = tt
@@ -95,4 +95,4 @@ gives (opened o) = tt
 gives (hop o f) = tt
 gives (route o r) = tt
 gives (boxed h b) = box-gives h b
-gives (closed r a) = row-derived (full r a) refl
+gives (closed r a) = forest-derived (full r a) refl

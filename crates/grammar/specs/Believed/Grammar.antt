@@ -9,10 +9,10 @@ use Rattle.scanner.specs.Believed.Symbols.{Symbol}
 
 -- ---- rules
 
--- an item of a rule: a symbol of a class, or a part of a nonterminal
+-- an item of a rule: a symbol of a class, or what a nonterminal derives
 pub data Item (C N : Type 0) : Type 0 where
   symbol : C → Item C N
-  part : N → Item C N
+  nonterminal : N → Item C N
 
 -- the record that a rule makes: which of its items, counted from 0, is the name, if any is; and its kind, which the name's meaning may tell
 pub record Makes : Type 0 where
@@ -33,27 +33,27 @@ pub record Grammar (C N : Type 0) : Type 0 where
 
 -- ---- derivations
 
--- a row of parts, each of them a symbol, or a rule with the row of its own parts; the last argument is the row that follows
-pub data Row (C N : Type 0) : Type 0 where
-  nil : Row C N
-  leaf : Symbol C → Row C N → Row C N
-  branch : Rule C N → Row C N → Row C N → Row C N
+-- a forest: a sequence of derivation trees, each of them a symbol, or a rule with the forest of its own parts; the last argument is the forest that follows
+pub data Forest (C N : Type 0) : Type 0 where
+  nil : Forest C N
+  leaf : Symbol C → Forest C N → Forest C N
+  branch : Rule C N → Forest C N → Forest C N → Forest C N
 
--- the symbols of a row, and then others
-abbrev pub yieldThen : {C N : Type 0} → Row C N → List (Symbol C) → List (Symbol C)
+-- the symbols of a forest, and then others
+abbrev pub yieldThen : {C N : Type 0} → Forest C N → List (Symbol C) → List (Symbol C)
 yieldThen nil xs = xs
-yieldThen (leaf x row) xs = x ∷ yieldThen row xs
-yieldThen (branch rule parts row) xs = yieldThen parts (yieldThen row xs)
+yieldThen (leaf x forest) xs = x ∷ yieldThen forest xs
+yieldThen (branch rule parts forest) xs = yieldThen parts (yieldThen forest xs)
 
--- the symbols of a row
-abbrev pub yield : {C N : Type 0} → Row C N → List (Symbol C)
-yield row = yieldThen row []
+-- the symbols of a forest
+abbrev pub yield : {C N : Type 0} → Forest C N → List (Symbol C)
+yield forest = yieldThen forest []
 
--- the levels that a row has open at once, at most
-abbrev pub levels : {C N : Type 0} → Row C N → ℕ
+-- the levels that a forest has open at once, at most
+abbrev pub levels : {C N : Type 0} → Forest C N → ℕ
 levels nil = 0
-levels (leaf x row) = levels row
-levels (branch rule parts row) = max (pick (rule .opens) 1 0 + levels parts) (levels row)
+levels (leaf x forest) = levels forest
+levels (branch rule parts forest) = max (pick (rule .opens) 1 0 + levels parts) (levels forest)
 
 -- the symbols begin with symbols of these classes
 abbrev pub begins : {C : Type 0} → (C → C → Bool) → List C → List (Symbol C) → Bool
@@ -66,14 +66,14 @@ abbrev pub Allowed : {C : Type 0} → (C → C → Bool) → Option (List C) →
 Allowed same none xs = Unit {0}
 Allowed same (some cs) xs = begins same cs xs ≡ false
 
--- a row is what these items say: for a class a symbol of that class, for a nonterminal one of its rules with what that rule says
-pub data Fits {C N : Type 0} (G : Grammar C N) : List (Item C N) → Row C N → Type 0 where
+-- a forest is what these items say: for a class a symbol of that class, for a nonterminal one of its rules with what that rule says
+pub data Fits {C N : Type 0} (G : Grammar C N) : List (Item C N) → Forest C N → Type 0 where
   done : Fits G [] nil
-  take : {c : C} {x : Symbol C} {items : List (Item C N)} {row : Row C N} → x .class ≡ c → Fits G items row → Fits G (symbol c ∷ items) (leaf x row)
-  apply : {A : N} {rule : Rule C N} {items : List (Item C N)} {parts row : Row C N} → List·Memᴰ rule (G .rules A)
-      → Fits G (rule .items) parts → Allowed (G .same) (rule .never) (yield parts) → Fits G items row → Fits G (part A ∷ items) (branch rule parts row)
+  take : {c : C} {x : Symbol C} {items : List (Item C N)} {forest : Forest C N} → x .class ≡ c → Fits G items forest → Fits G (symbol c ∷ items) (leaf x forest)
+  apply : {A : N} {rule : Rule C N} {items : List (Item C N)} {parts forest : Forest C N} → List·Memᴰ rule (G .rules A)
+      → Fits G (rule .items) parts → Allowed (G .same) (rule .never) (yield parts) → Fits G items forest → Fits G (nonterminal A ∷ items) (branch rule parts forest)
 
--- a row is a derivation of these symbols from a nonterminal
-pub record Derived {C N : Type 0} (G : Grammar C N) (A : N) (row : Row C N) (xs : List (Symbol C)) : Type 0 where
-  pub fits : Fits G (part A ∷ []) row
-  pub yields : yield row ≡ xs
+-- a forest is a derivation of these symbols from a nonterminal
+pub record Derived {C N : Type 0} (G : Grammar C N) (A : N) (forest : Forest C N) (xs : List (Symbol C)) : Type 0 where
+  pub fits : Fits G (nonterminal A ∷ []) forest
+  pub yields : yield forest ≡ xs

@@ -1,4 +1,4 @@
--- What condition 3 says, over any notion `Derives t xs`, "t is a derivation of the symbols xs", and the levels of a derivation.
+-- What condition 3 says, over any relation `Derives t xs`, "t is a derivation of the symbols xs", and the levels of a derivation.
 -- A list is any finite sequence of symbols that has a derivation.
 use Prim.Native.Nat.{ℕ, _≤_, _<_}
 use mathlib.Core.Path.{_≡_}
@@ -28,14 +28,14 @@ verdictNumber (accepted t) = numbers.accepted
 verdictNumber (refused why rest) = number why
 
 -- the position of the first of these symbols; where there is none, this position
-abbrev pub positionOf : {C : Type 0} → ℕ → List (Symbol C) → ℕ
-positionOf position [] = position
-positionOf position (x ∷ xs) = x .lexeme .start
+abbrev pub startOf : {C : Type 0} → ℕ → List (Symbol C) → ℕ
+startOf position [] = position
+startOf position (x ∷ xs) = x .lexeme .start
 
 -- the position of a verdict on a body with this end
 abbrev pub verdictPosition : {C T : Type 0} → ℕ → Verdict C T → ℕ
 verdictPosition bodyEnd (accepted t) = 0
-verdictPosition bodyEnd (refused why rest) = positionOf bodyEnd rest
+verdictPosition bodyEnd (refused why rest) = startOf bodyEnd rest
 
 -- numbers of levels
 abbrev pub AtMost : ℕ → ℕ → Type 0

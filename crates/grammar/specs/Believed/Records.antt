@@ -4,8 +4,8 @@ use mathlib.Core.List.{List, [], _∷_, _++_}
 use mathlib.Core.Option.{Option, none, some}
 use Rattle.records.specs.Believed.AddressRecords.{AddressRecord}
 use Rattle.scanner.specs.Believed.Symbols.{Symbol}
-use Rattle.grammar.specs.Believed.Grammar.{Makes, Row, nil, leaf, branch, yield}
-use Rattle.grammar.specs.Believed.Language.{positionOf}
+use Rattle.grammar.specs.Believed.Grammar.{Makes, Forest, nil, leaf, branch, yield}
+use Rattle.grammar.specs.Believed.Language.{startOf}
 
 -- ---- of symbols
 
@@ -22,29 +22,29 @@ meaningOf (x ∷ xs) = x .lexeme .meaning ++ meaningOf xs
 -- ---- records
 
 module _ {C N : Type 0} where
-  -- the symbols of the i-th part of a row
-  abbrev pub partOf : ℕ → Row C N → List (Symbol C)
+  -- the symbols of the i-th tree of a forest
+  abbrev pub partOf : ℕ → Forest C N → List (Symbol C)
   partOf i nil = []
-  partOf zero (leaf x row) = x ∷ []
-  partOf zero (branch rule parts row) = yield parts
-  partOf (suc i) (leaf x row) = partOf i row
-  partOf (suc i) (branch rule parts row) = partOf i row
+  partOf zero (leaf x forest) = x ∷ []
+  partOf zero (branch rule parts forest) = yield parts
+  partOf (suc i) (leaf x forest) = partOf i forest
+  partOf (suc i) (branch rule parts forest) = partOf i forest
 
   -- the symbols of the name of an address with these parts
-  abbrev pub nameOf : Option ℕ → Row C N → List (Symbol C)
+  abbrev pub nameOf : Option ℕ → Forest C N → List (Symbol C)
   nameOf none parts = []
   nameOf (some i) parts = partOf i parts
 
-  -- the number of addresses in a row
-  abbrev pub count : Row C N → ℕ
+  -- the number of addresses in a forest
+  abbrev pub count : Forest C N → ℕ
   count nil = 0
-  count (leaf x row) = count row
-  count (branch rule parts row) = elim (rule .makes) [ none ↦ 0 | some makes ↦ 1 ] + count parts + count row
+  count (leaf x forest) = count forest
+  count (branch rule parts forest) = elim (rule .makes) [ none ↦ 0 | some makes ↦ 1 ] + count parts + count forest
 
   -- the record of an address with these parts: from its first to its last symbol; without a name both name positions are its start
-  abbrev pub recordOf : Makes → ℕ → ℕ → Row C N → AddressRecord
+  abbrev pub recordOf : Makes → ℕ → ℕ → Forest C N → AddressRecord
   recordOf makes depth parent parts =
-      let start = positionOf 0 (yield parts) in
+      let start = startOf 0 (yield parts) in
       let name = nameOf (makes .name) parts in
       record {
         kind = makes .kind (meaningOf name);
@@ -52,22 +52,22 @@ module _ {C N : Type 0} where
         parent = parent;
         start = start;
         end = lastEnd start (yield parts);
-        nameStart = positionOf start name;
+        nameStart = startOf start name;
         nameEnd = lastEnd start name;
       }
 
-  -- the records of a row, in order of start, at this depth and with this parent; the first of them has the number `next`.
+  -- the records of a forest, in order of start, at this depth and with this parent; the first of them has the number `next`.
   -- An address has itself as parent of what lies in it
-  abbrev pub recordsFrom : Row C N → ℕ → ℕ → ℕ → List AddressRecord
+  abbrev pub recordsFrom : Forest C N → ℕ → ℕ → ℕ → List AddressRecord
   recordsFrom nil depth parent next = []
-  recordsFrom (leaf x row) depth parent next = recordsFrom row depth parent next
-  recordsFrom (branch rule parts row) depth parent next =
+  recordsFrom (leaf x forest) depth parent next = recordsFrom forest depth parent next
+  recordsFrom (branch rule parts forest) depth parent next =
       elim (rule .makes) [
-        | none ↦ recordsFrom parts depth parent next ++ recordsFrom row depth parent (next + count parts)
+        | none ↦ recordsFrom parts depth parent next ++ recordsFrom forest depth parent (next + count parts)
         | some makes ↦ recordOf makes depth parent parts
-            ∷ (recordsFrom parts (suc depth) (suc next) (suc next) ++ recordsFrom row depth parent (suc next + count parts))
+            ∷ (recordsFrom parts (suc depth) (suc next) (suc next) ++ recordsFrom forest depth parent (suc next + count parts))
       ]
 
   -- the records of a derivation
-  abbrev pub records : Row C N → List AddressRecord
-  records row = recordsFrom row 0 0 0
+  abbrev pub records : Forest C N → List AddressRecord
+  records forest = recordsFrom forest 0 0 0

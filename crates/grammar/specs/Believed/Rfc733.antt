@@ -11,7 +11,7 @@ use Rattle.octets.specs.Believed.Text.{bytes}
 use Rattle.scanner.specs.Believed.Symbols.{Symbol}
 use Rattle.scanner.specs.declared.Class.{Class}
 use Rattle.scanner.specs.declared.Class.the-variants.{Atom, Quoted, At, LessThan, GreaterThan, Comma, Semicolon, Colon, Stray, Dot, Literal}
-use Rattle.grammar.specs.Believed.Grammar.{Item, symbol, part, Rule, Grammar, Row, Derived, levels}
+use Rattle.grammar.specs.Believed.Grammar.{Item, symbol, nonterminal, Rule, Grammar, Forest, Derived, levels}
 use Rattle.grammar.specs.Believed.Language.{Verdict, Right}
 
 -- ---- the classes of symbols
@@ -53,8 +53,8 @@ typedKind atom = pick (sameLetters atom (bytes "Include")) include (pick (sameLe
 
 -- ---- the rules, in document 01's order
 
-pub data Notion : Type 0 where
-  list place address phrase atNodes node word : Notion
+pub data Nonterminal : Type 0 where
+  list slot address phrase atNodes node word : Nonterminal
 
 -- a rule that makes no record
 abbrev pub plain : {N : Type 0} → List (Item Class N) → Rule Class N
@@ -77,42 +77,42 @@ neverBegins classes rule = record { items = rule .items; opens = rule .opens; ne
 abbrev pub always : Kind → List ℕ → Kind
 always kind meaning = kind
 
-abbrev pub rulesOf : Notion → List (Rule Class Notion)
--- any number of addresses, separated by one or more commas, which may also lead, trail or stand alone: a place, with an address or without ..
-rulesOf list = plain (part place ∷ part address ∷ []) ∷ plain (part place ∷ []) ∷ []
--- .. and a place is at the start and after each comma
-rulesOf place = plain [] ∷ plain (part list ∷ symbol Comma ∷ []) ∷ []
+abbrev pub rulesOf : Nonterminal → List (Rule Class Nonterminal)
+-- any number of addresses, separated by one or more commas, which may also lead, trail or stand alone: a slot, with an address or without ..
+rulesOf list = plain (nonterminal slot ∷ nonterminal address ∷ []) ∷ plain (nonterminal slot ∷ []) ∷ []
+-- .. and a slot is at the start and after each comma
+rulesOf slot = plain [] ∷ plain (nonterminal list ∷ symbol Comma ∷ []) ∷ []
 -- mailbox; angle list with a phrase and without; group likewise; one quoted-string alone; typed.
 -- House rule: what begins with ":", an atom and ":" is never a nameless group
 rulesOf address =
-    flat (always mailbox) (some 0) (part phrase ∷ part atNodes ∷ [])
-    ∷ level (always angleList) (some 0) (part phrase ∷ symbol LessThan ∷ part list ∷ symbol GreaterThan ∷ [])
-    ∷ level (always angleList) none (symbol LessThan ∷ part list ∷ symbol GreaterThan ∷ [])
-    ∷ level (always group) (some 0) (part phrase ∷ symbol Colon ∷ part list ∷ symbol Semicolon ∷ [])
-    ∷ neverBegins (Colon ∷ Atom ∷ Colon ∷ []) (level (always group) none (symbol Colon ∷ part list ∷ symbol Semicolon ∷ []))
+    flat (always mailbox) (some 0) (nonterminal phrase ∷ nonterminal atNodes ∷ [])
+    ∷ level (always angleList) (some 0) (nonterminal phrase ∷ symbol LessThan ∷ nonterminal list ∷ symbol GreaterThan ∷ [])
+    ∷ level (always angleList) none (symbol LessThan ∷ nonterminal list ∷ symbol GreaterThan ∷ [])
+    ∷ level (always group) (some 0) (nonterminal phrase ∷ symbol Colon ∷ nonterminal list ∷ symbol Semicolon ∷ [])
+    ∷ neverBegins (Colon ∷ Atom ∷ Colon ∷ []) (level (always group) none (symbol Colon ∷ nonterminal list ∷ symbol Semicolon ∷ []))
     ∷ flat (always quoted) (some 0) (symbol Quoted ∷ [])
-    ∷ level typedKind (some 1) (symbol Colon ∷ symbol Atom ∷ symbol Colon ∷ part address ∷ [])
+    ∷ level typedKind (some 1) (symbol Colon ∷ symbol Atom ∷ symbol Colon ∷ nonterminal address ∷ [])
     ∷ []
 -- one or more words
-rulesOf phrase = plain (part word ∷ []) ∷ plain (part phrase ∷ part word ∷ []) ∷ []
+rulesOf phrase = plain (nonterminal word ∷ []) ∷ plain (nonterminal phrase ∷ nonterminal word ∷ []) ∷ []
 -- one or more of ("at" or "@", node)
-rulesOf atNodes = plain (symbol At ∷ part node ∷ []) ∷ plain (part atNodes ∷ symbol At ∷ part node ∷ []) ∷ []
+rulesOf atNodes = plain (symbol At ∷ nonterminal node ∷ []) ∷ plain (nonterminal atNodes ∷ symbol At ∷ nonterminal node ∷ []) ∷ []
 -- one word
-rulesOf node = plain (part word ∷ []) ∷ []
+rulesOf node = plain (nonterminal word ∷ []) ∷ []
 -- atom or quoted-string
 rulesOf word = plain (symbol Atom ∷ []) ∷ plain (symbol Quoted ∷ []) ∷ []
 
-abbrev pub rfc733 : Grammar Class Notion
+abbrev pub rfc733 : Grammar Class Nonterminal
 rfc733 = record { same = sameClass; rules = rulesOf }
 
 -- ---- condition 3 for RFC 733
 
 abbrev pub Derivation : Type 0
-Derivation = Row Class Notion
+Derivation = Forest Class Nonterminal
 
 -- a derivation of these symbols from `list`
 abbrev pub DerivedList : Derivation → List (Symbol Class) → Type 0
-DerivedList row xs = Derived rfc733 list row xs
+DerivedList forest xs = Derived rfc733 list forest xs
 
 -- a verdict on these symbols is right, with at most `limit` levels
 abbrev pub RightWithin : ℕ → List (Symbol Class) → Verdict Class Derivation → Type 0

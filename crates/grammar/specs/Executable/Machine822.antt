@@ -2,19 +2,19 @@
 use Prim.Native.Nat.{ℕ}
 use mathlib.Core.List.{List, [], _∷_}
 use mathlib.Core.Option.{Option, none, some}
-use Rattle.grammar.specs.Believed.Grammar.{Row}
+use Rattle.grammar.specs.Believed.Grammar.{Forest}
 use Rattle.grammar.specs.Believed.Language.{Verdict}
 use Rattle.grammar.specs.Believed.Rfc733.{sameClass}
-use Rattle.grammar.specs.Believed.Rfc822.{Notion}
+use Rattle.grammar.specs.Believed.Rfc822.{Nonterminal}
 use Rattle.grammar.specs.Executable.Machines.{Step, Result, runBy, verdictBy, Arrow, on, stepBy}
-use Rattle.grammar.specs.Executable.Trees822.{Class, Atom, Quoted, At, LessThan, GreaterThan, Comma, Semicolon, Colon, Dot, Literal, Lexeme, Sym, Word, atomWord, quotedWord, Phrase, one, more, Sub, atomSub, literalSub, Domain, oneSub, moreSub, Local, oneWord, moreWord, Spec, spec, Empties, noEmpty, oneEmpty, Hops, firstHop, nextHop, Route, direct, trailing, Mailbox, bare, angle, routed, Place, empty, comma, Listed, idle, full, Address, box, group, asRow}
+use Rattle.grammar.specs.Executable.Trees822.{Class, Atom, Quoted, At, LessThan, GreaterThan, Comma, Semicolon, Colon, Dot, Literal, Lexeme, Sym, Word, atomWord, quotedWord, Phrase, one, more, Sub, atomSub, literalSub, Domain, oneSub, moreSub, Local, oneWord, moreWord, Spec, spec, Empties, noEmpty, oneEmpty, Hops, firstHop, nextHop, Route, direct, trailing, Mailbox, bare, angle, routed, Slot, empty, comma, Listed, idle, full, Address, box, group, asForest}
 
 -- ---- states
 
 -- where a mailbox stands: at a place of the list, or at a place of a group whose name and ":" are read
 pub data Here : Type 0 where
-  inList : Place Address → Here
-  inGroup : Place Address → Phrase → Lexeme → Place Mailbox → Here
+  inList : Slot Address → Here
+  inGroup : Slot Address → Phrase → Lexeme → Slot Mailbox → Here
 
 -- a phrase and "<"
 pub data Open : Type 0 where
@@ -54,7 +54,7 @@ pub data State : Type 0 where
   route : Open → Route → State
   -- a mailbox that ended with ">"; a group
   boxed : Here → Mailbox → State
-  closed : Place Address → Address → State
+  closed : Slot Address → Address → State
 
 -- ---- arrows
 
@@ -77,7 +77,7 @@ abbrev afterPlace : Listed Address → Arrows
 afterPlace l = on Comma (λ t. place (inList (comma l t))) ∷ []
 
 -- .. of a group
-abbrev inside : Place Address → Phrase → Lexeme → Listed Mailbox → Arrows
+abbrev inside : Slot Address → Phrase → Lexeme → Listed Mailbox → Arrows
 inside r p c l = on Comma (λ t. place (inGroup r p c (comma l t))) ∷ on Semicolon (λ t. closed r (group p c l t)) ∷ []
 
 abbrev afterBox : Here → Mailbox → Arrows
@@ -134,12 +134,12 @@ step n s x = stepBy sameClass arrows n s x
 abbrev pub run : ℕ → State → List Sym → Result Class State
 run n s xs = runBy step n s xs
 
-abbrev pub boxEnds : Here → Mailbox → Option (Row Class Notion)
-boxEnds (inList r) b = some (asRow (full r (box b)))
+abbrev pub boxEnds : Here → Mailbox → Option (Forest Class Nonterminal)
+boxEnds (inList r) b = some (asForest (full r (box b)))
 boxEnds (inGroup r p c s) b = none
 
-abbrev pub finish : State → Option (Row Class Notion)
-finish (place (inList r)) = some (asRow (idle r))
+abbrev pub finish : State → Option (Forest Class Nonterminal)
+finish (place (inList r)) = some (asForest (idle r))
 finish (place (inGroup r p c s)) = none
 finish (word h w) = none
 finish (phrase h p) = none
@@ -155,11 +155,11 @@ finish (opened o) = none
 finish (hop o f) = none
 finish (route o r) = none
 finish (boxed h b) = boxEnds h b
-finish (closed r a) = some (asRow (full r a))
+finish (closed r a) = some (asForest (full r a))
 
 abbrev pub start : State
 start = place (inList empty)
 
 -- the verdict on these symbols; levels play no part
-abbrev pub read : ℕ → List Sym → Verdict Class (Row Class Notion)
+abbrev pub read : ℕ → List Sym → Verdict Class (Forest Class Nonterminal)
 read n xs = verdictBy finish (run n start xs)

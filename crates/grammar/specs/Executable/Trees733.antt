@@ -6,7 +6,7 @@ use mathlib.Core.Option.{Option, none, some}
 use lib.ListN.{getD}
 use Rattle.octets.specs.Believed.Choice.{either}
 use Rattle.grammar.specs.Believed.Grammar.{Rule, nil, leaf}
-use Rattle.grammar.specs.Believed.Rfc733.{sameClass, plain, rulesOf, Notion, list, place, address, phrase, atNodes, node, word, Derivation}
+use Rattle.grammar.specs.Believed.Rfc733.{sameClass, plain, rulesOf, Nonterminal, list, slot, address, phrase, atNodes, node, word, Derivation}
 pub use Rattle.grammar.specs.Executable.Pieces.{Piece, piece, put}
 pub use Rattle.scanner.specs.Believed.Symbols.{Lexeme, Symbol}
 pub use Rattle.scanner.specs.declared.Class.{Class}
@@ -39,15 +39,15 @@ pub data Nodes : Type 0 where
   next : Nodes → Lexeme → Word → Nodes
 
 mutual
-  -- place: at the start, or after a list and a comma
-  pub data Place : Type 0 where
-    empty : Place
-    comma : AddressList → Lexeme → Place
+  -- slot: at the start, or after a list and a comma
+  pub data Slot : Type 0 where
+    empty : Slot
+    comma : AddressList → Lexeme → Slot
 
-  -- list: a place, with an address or without
+  -- list: a slot, with an address or without
   pub data AddressList : Type 0 where
-    idle : Place → AddressList
-    full : Place → Address → AddressList
+    idle : Slot → AddressList
+    full : Slot → Address → AddressList
 
   -- address: the lexemes are those of the marks, and of the quoted-string and the typed atom
   pub data Address : Type 0 where
@@ -57,17 +57,17 @@ mutual
     quoted : Lexeme → Address
     typed : Lexeme → Lexeme → Lexeme → Address → Address
 
--- the i-th rule of a notion
-abbrev pub ruleOf : Notion → ℕ → Rule Class Notion
+-- the i-th rule of a nonterminal
+abbrev pub ruleOf : Nonterminal → ℕ → Rule Class Nonterminal
 ruleOf A i = getD (rulesOf A) i (plain [])
 
--- ---- each tree as a rule and the row of its parts
+-- ---- each tree as a rule and the forest of its parts
 
 abbrev pub Bit : Type 0
-Bit = Piece Class Notion
+Bit = Piece Class Nonterminal
 
--- the i-th rule of a notion, with these parts
-abbrev pub bit : Notion → ℕ → Derivation → Bit
+-- the i-th rule of a nonterminal, with these parts
+abbrev pub bit : Nonterminal → ℕ → Derivation → Bit
 bit A i p = piece (ruleOf A i) p
 
 abbrev then : Class → Lexeme → Derivation → Derivation
@@ -89,13 +89,13 @@ nodesPiece (first t w) = bit atNodes 0 (then At t (put (nodePiece w) nil))
 nodesPiece (next m t w) = bit atNodes 1 (put (nodesPiece m) (then At t (put (nodePiece w) nil)))
 
 abbrev mutual
-  pub placePiece : Place → Bit
-  placePiece empty = bit place 0 nil
-  placePiece (comma l t) = bit place 1 (put (listPiece l) (then Comma t nil))
+  pub slotPiece : Slot → Bit
+  slotPiece empty = bit slot 0 nil
+  slotPiece (comma l t) = bit slot 1 (put (listPiece l) (then Comma t nil))
 
   pub listPiece : AddressList → Bit
-  listPiece (idle r) = bit list 1 (put (placePiece r) nil)
-  listPiece (full r a) = bit list 0 (put (placePiece r) (put (addressPiece a) nil))
+  listPiece (idle r) = bit list 1 (put (slotPiece r) nil)
+  listPiece (full r a) = bit list 0 (put (slotPiece r) (put (addressPiece a) nil))
 
   pub addressPiece : Address → Bit
   addressPiece (mailbox p m) = bit address 0 (put (phrasePiece p) (put (nodesPiece m) nil))
@@ -107,5 +107,5 @@ abbrev mutual
   addressPiece (typed t a u b) = bit address 6 (then Colon t (then Atom a (then Colon u (put (addressPiece b) nil))))
 
 -- a tree as a derivation
-abbrev pub asRow : AddressList → Derivation
-asRow l = put (listPiece l) nil
+abbrev pub asForest : AddressList → Derivation
+asForest l = put (listPiece l) nil

@@ -2,9 +2,9 @@
 use Prim.Native.Nat.{ℕ}
 use mathlib.Core.List.{[]}
 use lib.ListN.{getD}
-use Rattle.grammar.specs.Believed.Grammar.{Row, nil, leaf}
+use Rattle.grammar.specs.Believed.Grammar.{Forest, nil, leaf}
 use Rattle.grammar.specs.Believed.Rfc733.{plain}
-use Rattle.grammar.specs.Believed.Rfc822.{rulesOf, Notion, list, place, address, boxes, boxPlace, mailbox, routeAddr, addrSpec, route, hops, emptyPlaces, localPart, domain, subDomain, phrase, word}
+use Rattle.grammar.specs.Believed.Rfc822.{rulesOf, Nonterminal, list, slot, address, boxes, boxSlot, mailbox, routeAddr, addrSpec, route, hops, emptySlots, localPart, domain, subDomain, phrase, word}
 pub use Rattle.grammar.specs.Executable.Pieces.{Piece, piece, put}
 pub use Rattle.grammar.specs.Executable.Trees733.{Class, Atom, Quoted, At, LessThan, GreaterThan, Comma, Semicolon, Colon, Stray, Dot, Literal, Lexeme, Sym, of, Word, atomWord, quotedWord, Phrase, one, more}
 
@@ -46,28 +46,28 @@ pub data Mailbox : Type 0 where
   routed : Phrase → Lexeme → Route → Spec → Lexeme → Mailbox
 
 mutual
-  pub data Place (E : Type 0) : Type 0 where
-    empty : Place E
-    comma : Listed E → Lexeme → Place E
+  pub data Slot (E : Type 0) : Type 0 where
+    empty : Slot E
+    comma : Listed E → Lexeme → Slot E
 
   pub data Listed (E : Type 0) : Type 0 where
-    idle : Place E → Listed E
-    full : Place E → E → Listed E
+    idle : Slot E → Listed E
+    full : Slot E → E → Listed E
 
 pub data Address : Type 0 where
   box : Mailbox → Address
   group : Phrase → Lexeme → Listed Mailbox → Lexeme → Address
 
--- ---- each tree as a rule and the row of its parts
+-- ---- each tree as a rule and the forest of its parts
 
 abbrev pub Bit : Type 0
-Bit = Piece Class Notion
+Bit = Piece Class Nonterminal
 
--- the i-th rule of a notion, with these parts
-abbrev pub bit : Notion → ℕ → Row Class Notion → Bit
+-- the i-th rule of a nonterminal, with these parts
+abbrev pub bit : Nonterminal → ℕ → Forest Class Nonterminal → Bit
 bit A i p = piece (getD (rulesOf A) i (plain [])) p
 
-abbrev then : Class → Lexeme → Row Class Notion → Row Class Notion
+abbrev then : Class → Lexeme → Forest Class Nonterminal → Forest Class Nonterminal
 then c t k = leaf (of c t) k
 
 abbrev pub wordPiece : Word → Bit
@@ -94,8 +94,8 @@ abbrev pub specPiece : Spec → Bit
 specPiece (spec l t m) = bit addrSpec 0 (put (localPiece l) (then At t (put (domainPiece m) nil)))
 
 abbrev pub emptiesPiece : Empties → Bit
-emptiesPiece noEmpty = bit emptyPlaces 0 nil
-emptiesPiece (oneEmpty g t) = bit emptyPlaces 1 (put (emptiesPiece g) (then Comma t nil))
+emptiesPiece noEmpty = bit emptySlots 0 nil
+emptiesPiece (oneEmpty g t) = bit emptySlots 1 (put (emptiesPiece g) (then Comma t nil))
 
 abbrev pub hopsPiece : Hops → Bit
 hopsPiece (firstHop g t m) = bit hops 0 (put (emptiesPiece g) (then At t (put (domainPiece m) nil)))
@@ -115,27 +115,27 @@ mailboxPiece (angle p t s u) = bit mailbox 1 (put (phrasePiece p) (put (routeAdd
 mailboxPiece (routed p t r s u) = bit mailbox 1 (put (phrasePiece p) (put (routeAddrPiece (withRoute t r s u)) nil))
 
 abbrev mutual
-  pub boxPlacePiece : Place Mailbox → Bit
-  boxPlacePiece empty = bit boxPlace 0 nil
-  boxPlacePiece (comma l t) = bit boxPlace 1 (put (boxesPiece l) (then Comma t nil))
+  pub boxSlotPiece : Slot Mailbox → Bit
+  boxSlotPiece empty = bit boxSlot 0 nil
+  boxSlotPiece (comma l t) = bit boxSlot 1 (put (boxesPiece l) (then Comma t nil))
 
   pub boxesPiece : Listed Mailbox → Bit
-  boxesPiece (idle r) = bit boxes 1 (put (boxPlacePiece r) nil)
-  boxesPiece (full r b) = bit boxes 0 (put (boxPlacePiece r) (put (mailboxPiece b) nil))
+  boxesPiece (idle r) = bit boxes 1 (put (boxSlotPiece r) nil)
+  boxesPiece (full r b) = bit boxes 0 (put (boxSlotPiece r) (put (mailboxPiece b) nil))
 
 abbrev pub addressPiece : Address → Bit
 addressPiece (box b) = bit address 0 (put (mailboxPiece b) nil)
 addressPiece (group p t l u) = bit address 1 (put (phrasePiece p) (then Colon t (put (boxesPiece l) (then Semicolon u nil))))
 
 abbrev mutual
-  pub placePiece : Place Address → Bit
-  placePiece empty = bit place 0 nil
-  placePiece (comma l t) = bit place 1 (put (listPiece l) (then Comma t nil))
+  pub slotPiece : Slot Address → Bit
+  slotPiece empty = bit slot 0 nil
+  slotPiece (comma l t) = bit slot 1 (put (listPiece l) (then Comma t nil))
 
   pub listPiece : Listed Address → Bit
-  listPiece (idle r) = bit list 1 (put (placePiece r) nil)
-  listPiece (full r a) = bit list 0 (put (placePiece r) (put (addressPiece a) nil))
+  listPiece (idle r) = bit list 1 (put (slotPiece r) nil)
+  listPiece (full r a) = bit list 0 (put (slotPiece r) (put (addressPiece a) nil))
 
 -- a tree as a derivation
-abbrev pub asRow : Listed Address → Row Class Notion
-asRow l = put (listPiece l) nil
+abbrev pub asForest : Listed Address → Forest Class Nonterminal
+asForest l = put (listPiece l) nil

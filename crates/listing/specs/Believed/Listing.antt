@@ -15,7 +15,7 @@ use Rattle.header.specs.Believed.Names.{knownOf, holdsAddresses}
 use Rattle.header.specs.declared.names.Known.{Known}
 use Rattle.header.specs.declared.names.Known.the-variants as known
 use Rattle.scanner.specs.declared.Class.{Class}
-use Rattle.grammar.specs.Believed.Grammar.{Row}
+use Rattle.grammar.specs.Believed.Grammar.{Forest}
 use Rattle.grammar.specs.Believed.Records.{count, records}
 use Rattle.addresses.specs.Believed.Outcome.{Outcome, refusal}
 use Rattle.editions.specs.Believed.Outcome.{readOf}
@@ -32,7 +32,7 @@ each text (a ∷ more) rest = text a (each text more rest)
 -- ---- bodies
 
 -- what is printed of a list: a line for each of its records, or 11 where a table has no room for them
-abbrev pub listed : {N : Type 0} → List ℕ → Row Class N → Outcome
+abbrev pub listed : {N : Type 0} → List ℕ → Forest Class N → Outcome
 listed rest k =
     pick (ltb tableRecords (count k)) (record { answer = NoRoom (count k); table = rest })
     (record { answer = Accepted (count k); table = each addressLine (records k) rest })

@@ -59,17 +59,17 @@ addressOf makes parts members =
     let kind = makes .kind (meaningOf name) in
     address kind (wordsOf name) (nodesOf kind parts) members
 
--- addresses, and then those of a row; what is part of an address lies in it
+-- addresses, and then those of a forest; what is part of an address lies in it
 abbrev pub addressesAfter : Addresses → Derivation → Addresses
 addressesAfter before nil = before
-addressesAfter before (leaf x row) = addressesAfter before row
-addressesAfter before (branch rule parts row) =
+addressesAfter before (leaf x forest) = addressesAfter before forest
+addressesAfter before (branch rule parts forest) =
     addressesAfter
     (elim (rule .makes) [
       | none ↦ addressesAfter before parts
       | some makes ↦ andAddress before (addressOf makes parts (addressesAfter noAddress parts))
     ])
-    row
+    forest
 
 -- the meaning of a derivation
 abbrev pub meaning : Derivation → Addresses

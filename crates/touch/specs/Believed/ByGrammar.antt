@@ -10,7 +10,7 @@ use Rattle.scanner.specs.Believed.Symbols.{Symbol}
 use Rattle.scanner.specs.Believed.Scanning.{scan}
 use Rattle.scanner.specs.Believed.Answers.{faultOf}
 use Rattle.scanner.specs.declared.Class.{Class}
-use Rattle.grammar.specs.Believed.Language.{Refusal, refused, number, positionOf}
+use Rattle.grammar.specs.Believed.Language.{Refusal, refused, number, startOf}
 use Rattle.grammar.specs.Believed.Rfc733.{Derivation, RightVerdict}
 use Rattle.addresses.specs.Believed.Editions.{bodySymbols}
 use Rattle.addresses.specs.Believed.Condition3.{IsList}
@@ -27,7 +27,7 @@ pub record NamedThere (symbols : List (Symbol Class)) (end : ℕ) (r : Touched) 
   pub right : RightVerdict symbols (refused why rest)
   pub splits : symbols ≡ before ++ rest
   pub named : Thing → Bool
-  pub tells : told r ≡ record { number = number why; position = positionOf end rest; count = 0; category = 0; names = sumOf named }
+  pub tells : told r ≡ record { number = number why; position = startOf end rest; count = 0; category = 0; names = sumOf named }
   pub exactly : Exactly levelLimit before named
 
 -- what is said of the symbols of a body

@@ -21,7 +21,7 @@ module _ (message : List ℕ) (start end place : ℕ) (path : List ℕ) where
   -- a verdict on the body: a list, or the refusal with what could have stood there
   abbrev pub decided : Verdict Class Derivation → Outcome
   decided (language.accepted k) = ofList message start end place path k
-  decided (refused why rest) = unchanged path (Expected (number why) (language.positionOf end rest) (expectedIn message start end))
+  decided (refused why rest) = unchanged path (Expected (number why) (language.startOf end rest) (expectedIn message start end))
 
   -- the outcome for any message, positions, touched place and path
   abbrev pub touched : Outcome

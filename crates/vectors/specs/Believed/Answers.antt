@@ -7,7 +7,8 @@ use lib.IntN.{ℤ, pos, negsuc}
 use lib.ListN.{length, take, drop}
 use Rattle.octets.specs.Believed.Answers.{numberOf, positionOf, countOf}
 use Rattle.octets.specs.Believed.Choice.{pick, both}
-use Rattle.octets.specs.Believed.Numbers.{fieldRecordSize, noListGoesOn}
+use Rattle.records.specs.Believed.FieldRecords.{fieldRecordSize}
+use Rattle.octets.specs.Believed.Numbers.{noListGoesOn}
 use Rattle.octets.specs.Believed.Octets.{lineFeedByte, spaceByte}
 use Rattle.octets.specs.Believed.Stored.{numberAt}
 use Rattle.octets.specs.Believed.Text.{bytes}
@@ -20,7 +21,7 @@ use Rattle.scanner.specs.declared.Next.{Next}
 use Rattle.scanner.specs.declared.Next.the-variants.{Found, Ended, Fault}
 use Rattle.header.specs.declared.names.Known.{Known}
 use Rattle.header.specs.declared.names.Known.the-variants as known
-use Rattle.grammar.specs.Believed.Records.{AddressRecord, recordIn}
+use Rattle.records.specs.Believed.AddressRecords.{AddressRecord, recordIn}
 use Rattle.addresses.specs.Believed.Outcome.{Outcome}
 use Rattle.listing.specs.Believed.Lines.{spaced}
 

@@ -6,7 +6,8 @@ use lib.Dec.{eqb}
 use lib.ListN.{length, take, replicate}
 use Rattle.octets.specs.Believed.Choice.{pick}
 use Rattle.octets.specs.Believed.Letters.{sameBytes}
-use Rattle.octets.specs.Believed.Numbers.{fieldRecordSize, addressRecordSize}
+use Rattle.records.specs.Believed.FieldRecords.{fieldRecordSize}
+use Rattle.records.specs.Believed.AddressRecords.{addressRecordSize}
 use Rattle.octets.specs.Believed.Octets.{lineFeedByte}
 use Rattle.octets.specs.Believed.Stored.{numberAt}
 use Rattle.scanner.specs.Believed.Answers.{bodyScanned}
