@@ -8,7 +8,7 @@ use lib.ListN.{length, take}
 use Rattle.octets.specs.Believed.Numbers.{messageLimit, levelLimit}
 use Rattle.octets.specs.declared.answers.Answer.the-variants.{Accepted, Refused}
 use Rattle.scanner.specs.Believed.Symbols.{Symbol}
-use Rattle.scanner.specs.Believed.Scanning.{scanBy, scan}
+use Rattle.scanner.specs.Believed.Scanning.{scan}
 use Rattle.scanner.specs.Believed.Answers.{faultOf, bodyScanned}
 use Rattle.scanner.specs.declared.Class.{Class}
 use Rattle.scanner.proofs.BodyChecks.{in-order, unless-refused, CleanBy, refused-body, clean-body, body-case-by, when-refused-by, Clean, body-case, when-refused}

@@ -12,7 +12,6 @@ use Rattle.scanner.specs.declared.Next.the-variants.{Found, Ended, Fault}
 use Rattle.scanner.specs.Ties.Steps.{Faultless}
 use Rattle.scanner.proofs.BodyChecks.{no-fault}
 use Rattle.scanner.proofs.Unfolding.{SymbolAt, found, found-end, found-fault, faultless-on}
-use Rattle.grammar.specs.Executable.Trees733.{Class}
 use Rattle.addresses.specs.Ties.Steps.{symbolsFrom, symbolsAhead, Ahead}
 use Rattle.addresses.proofs.ClassCases.{no-symbol}
 

@@ -9,7 +9,6 @@ use lib.Seq.{sets}
 use Rattle.octets.specs.Believed.Choice.{pick}
 use Rattle.octets.specs.Ties.Writing.{Wrote}
 use Rattle.grammar.specs.Believed.Rfc733.{sameClass}
-use Rattle.grammar.proofs.Symbols.{each-of}
 use Rattle.grammar.proofs.Rfc733.Readers.{endsAddress}
 use Rattle.scanner.specs.Believed.Scanning.{scanBy, symbol}
 use Rattle.scanner.specs.Believed.Answers.{nextOf}

@@ -19,7 +19,6 @@ use Rattle.scanner.specs.Ties.Meanings.{meaningAt}
 use Rattle.scanner.proofs.Unfolding.{SymbolAt}
 use Rattle.grammar.specs.Believed.Grammar.{begins}
 use Rattle.grammar.specs.Believed.Rfc733.{sameClass, kindNumber, typedKind, include}
-use Rattle.grammar.proofs.Symbols.{same-class}
 use Rattle.plain.specs.declared.places.Place.{Place}
 use Rattle.plain.proofs.WalkSteps.{NoneComes}
 use Rattle.addresses.proofs.ClassCases.{tag, by-class-not}

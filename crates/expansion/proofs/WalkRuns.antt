@@ -7,7 +7,6 @@ use mathlib.Core.List.{List, [], _∷_}
 use mathlib.Core.Option.{Option, none, some}
 use lib.ListN.{length}
 use Rattle.octets.specs.Believed.Choice.{pick}
-use Rattle.grammar.proofs.Symbols.{each-of}
 use Rattle.octets.specs.Believed.Classes.{classTable}
 use Rattle.octets.specs.Believed.Numbers.{messageLimit, levelLimit, openingLimit, storeRecordSize, leadsNowhere}
 use Rattle.octets.proofs.Writes.{wrote-both}

@@ -1,5 +1,4 @@
 -- A line is written part by part. Assumes nothing.
-use mathlib.Core.Path.{_≡_}
 use mathlib.Core.List.{List, _∷_, _++_}
 use Prim.Native.Nat.{ℕ}
 use Rattle.octets.specs.Believed.Octets.{lineFeedByte}

@@ -1,9 +1,9 @@
 -- What is printed of a message, from the table of its fields. Assumes nothing.
 use mathlib.Core.Path.{_≡_, sym, ap, _∙_}
 use mathlib.Core.List.{List, []}
-use Prim.Native.Nat.{ℕ, _+_, _*_, _<_}
+use Prim.Native.Nat.{ℕ, _+_, _*_}
 use native.Mathlib.Omega.{arith}
-use lib.ListN.{length, getD, drop}
+use lib.ListN.{length, drop}
 use lib.Seq.{sets}
 use Rattle.octets.specs.Believed.Numbers.{tableRecords}
 use Rattle.octets.specs.Ties.Writing.{WroteBy, inWindow}

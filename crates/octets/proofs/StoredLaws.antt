@@ -1,14 +1,13 @@
 -- A number that is stored is read back, over any width. Assumes nothing.
-use mathlib.Core.Path.{_≡_, refl, sym, ap, _∙_}
-use mathlib.Core.List.{List, [], _∷_, _++_, append-assoc}
+use mathlib.Core.Path.{_≡_, refl, _∙_}
+use mathlib.Core.List.{List, [], _∷_, _++_}
 use Prim.Native.Nat.{ℕ, zero, suc, _+_, _*_, _-_, _/_, _%_, _^_, _≤_, _<_}
-use native.Mathlib.Nat.{add-zero, div-add-mod', div-lt-iff-lt-mul, pow-suc}
+use native.Mathlib.Nat.{div-add-mod', div-lt-iff-lt-mul, pow-suc}
 use native.Mathlib.Numerals.{add-one}
 use native.Mathlib.Omega.{arith}
-use mathlib.Core.Logic.{_↔_}
 use lib.Dec.{lit<}
-use lib.ListN.{length, getD, take, drop, set, length-append, List·getD-eq-default}
-use lib.Seq.{sets, length-sets, drop-cons, sets-eq, take-at, drop-at, take-append-le, length-take-le}
+use lib.ListN.{length, take, drop, set, length-append, List·getD-eq-default}
+use lib.Seq.{sets, length-sets, drop-cons}
 use Rattle.octets.proofs.Parts.{part-sets}
 use Rattle.octets.specs.Believed.Stored.{bytesOf, bytesAt, numberFrom, numberAt}
 

@@ -2,11 +2,11 @@
 -- them. Assumes nothing.
 use mathlib.Core.Path.{_≡_, refl, sym, ap, ap₂, _∙_}
 use mathlib.Core.List.{List, [], _∷_, _++_, append-assoc}
-use Prim.Native.Nat.{ℕ, zero, suc, _+_, _*_, _^_, _≤_, _<_}
+use Prim.Native.Nat.{ℕ, zero, suc, _+_, _^_, _≤_, _<_}
 use native.Mathlib.Omega.{arith}
-use lib.ListN.{length, getD, length-append, List·getD-append}
+use lib.ListN.{length, length-append, List·getD-append}
 use lib.Seq.{sets, getD-append-add}
-use Rattle.octets.specs.Believed.Stored.{bytesOf, bytesAt, numberFrom, numberAt}
+use Rattle.octets.specs.Believed.Stored.{bytesAt, numberFrom}
 use Rattle.octets.proofs.Parts.{sets-append}
 use Rattle.octets.proofs.StoredLaws.{length-bytesOf, number-bytesOf, number-out}
 use Rattle.records.specs.Believed.Layout.{Part, byte, number, widthOf, partBytes, sizeOf, bytesBy, numbersFrom}

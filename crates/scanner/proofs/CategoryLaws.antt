@@ -12,11 +12,11 @@ use types.Run.{OneOf, miss}
 use denote.Enum.Declared.{tagOf}
 use Rattle.octets.specs.Believed.Classes.{classTable}
 use Rattle.octets.specs.Believed.Text.{part}
-use Rattle.octets.specs.declared.answers.Answer.the-variants.{Accepted, Refused}
+use Rattle.octets.specs.declared.answers.Answer.the-variants.{Refused}
 use Rattle.octets.proofs.ChoiceLaws.{both-false}
 use Rattle.scanner.specs.Believed.Characters.{charactersAt}
-use Rattle.scanner.specs.Believed.Scanning.{Scanned, ended, faultAt, State, outside, inComment, move, scanBy, scan}
-use Rattle.scanner.specs.Believed.Answers.{unlessFault, faultOf, bodyScanned}
+use Rattle.scanner.specs.Believed.Scanning.{ended, State, outside, inComment, move, scanBy, scan}
+use Rattle.scanner.specs.Believed.Answers.{bodyScanned}
 use Rattle.scanner.specs.Believed.Categories.{ofSymbol, takenIn, behind, between, categoryOf, ofRefused, categoryAt}
 use Rattle.scanner.specs.Ties.Steps.{FirstCharacter}
 use Rattle.scanner.specs.Ties.Gaps.{stateOf, GapCategoryIs, PassedIs}

@@ -1,12 +1,11 @@
 -- The first character of a text at or after a position. Assumes nothing.
-use mathlib.Core.Path.{_≡_, refl, sym, ap, _∙_}
+use mathlib.Core.Path.{_≡_, refl, ap, _∙_}
 use mathlib.Core.Logic.{_⊎_, inl, inr, ⊎-elim}
 use mathlib.Core.Bool.{Bool, true, false}
 use mathlib.Core.List.{List, [], _∷_}
 use Prim.Native.Nat.{ℕ, suc, _+_, _≤_, _<_}
 use native.Mathlib.Nat.{add-zero}
 use native.Mathlib.Decide.{decLt}
-use native.Mathlib.Numerals.{towards-suc}
 use native.Mathlib.Omega.{arith}
 use borrow.Author.Tests.{eq-eqb, ne-eqb, eqb-true}
 use lib.Dec.{eqb}
@@ -17,7 +16,7 @@ use Rattle.octets.specs.Believed.Octets.{returnByte}
 use Rattle.octets.specs.Believed.Text.{crlfAt}
 use Rattle.octets.proofs.ChoiceLaws.{both-false, both-parts, either-parts}
 use Rattle.octets.proofs.Parts.{from-here}
-use Rattle.scanner.specs.Believed.Kinds.{kindOf, kindOfClass}
+use Rattle.scanner.specs.Believed.Kinds.{kindOf}
 use Rattle.scanner.specs.Believed.Characters.{character, foldAt, none, charactersFrom, charactersAt}
 use Rattle.scanner.specs.Ties.Steps.{FirstCharacter}
 use Rattle.scanner.specs.declared.Kind.{Kind}

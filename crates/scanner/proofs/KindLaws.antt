@@ -1,14 +1,12 @@
 -- The kind of a byte from its class number. Assumes nothing.
-use mathlib.Core.Path.{_≡_, refl, sym, _∙_}
-use mathlib.Core.Logic.{_⊎_, inl, inr, ⊎-elim}
+use mathlib.Core.Path.{_≡_, _∙_}
 use mathlib.Core.List.{List}
 use Prim.Native.Nat.{ℕ}
 use borrow.Author.Tests.{eq-eqb, ne-eqb}
 use lib.ListN.{getD}
-use Rattle.octets.specs.Believed.Classes.{classOf, classTable}
 use Rattle.scanner.specs.Believed.Kinds.{kindOfClass, kindOf}
 use Rattle.scanner.specs.declared.Kind.{Kind}
-use Rattle.scanner.specs.declared.Kind.the-variants.{Return, White}
+use Rattle.scanner.specs.declared.Kind.the-variants.{Return}
 
 pub return-kind : (classes : List ℕ) (b : ℕ) → b ≡ 13 → kindOf classes b ≡ Return
 unfolding kindOf

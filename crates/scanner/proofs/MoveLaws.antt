@@ -9,14 +9,13 @@ use lib.ListN.{length, getD, take, drop, length-drop}
 use lib.Seq.{take-suc, getD-drop}
 use types.Run.{OneOf, miss}
 use denote.Enum.Declared.{tagOf}
-use Rattle.octets.specs.Believed.Numbers.{byteAbove127, strayControl}
+use Rattle.octets.specs.Believed.Numbers.{strayControl}
 use Rattle.octets.specs.Believed.Text.{part}
 use Rattle.octets.proofs.Parts.{part-none}
-use Rattle.scanner.specs.Believed.Symbols.{Symbol}
-use Rattle.scanner.specs.Believed.Characters.{Character, character, charactersAt}
-use Rattle.scanner.specs.Believed.Scanning.{Scanned, next, faultAt, State, outside, inAtom, inQuoted, takingInQuoted, inLiteral, takingInLiteral, inComment, takingInComment, Move, go, halt, symbol, atom, single, takenData, move, moveInAtom, closed, atEnd, then, scanFrom, scanBy}
+use Rattle.scanner.specs.Believed.Characters.{charactersAt}
+use Rattle.scanner.specs.Believed.Scanning.{Scanned, next, faultAt, State, outside, inAtom, inQuoted, takingInQuoted, inLiteral, takingInLiteral, inComment, takingInComment, Move, go, halt, symbol, atom, single, takenData, move, closed, atEnd, then, scanFrom, scanBy}
 use Rattle.scanner.specs.Believed.Scanning as scanning
-use Rattle.scanner.specs.Ties.Steps.{FirstCharacter, AtomEnds}
+use Rattle.scanner.specs.Ties.Steps.{FirstCharacter}
 use Rattle.scanner.specs.declared.Class.{Class}
 use Rattle.scanner.specs.declared.Class.the-variants.{Stray}
 use Rattle.scanner.specs.declared.Kind.{Kind}

@@ -2,13 +2,13 @@
 use mathlib.Core.Path.{_≡_, refl, sym, ap, _∙_}
 use mathlib.Core.Bool.{Bool, true, false}
 use mathlib.Core.List.{List, [], _∷_, _++_, append-nil, append-assoc}
-use Prim.Native.Nat.{ℕ, suc, _+_, _≤_, _<_}
+use Prim.Native.Nat.{ℕ, _+_, _≤_, _<_}
 use native.Mathlib.Decide.{decLt}
 use native.Mathlib.Numerals.{add-one}
 use native.Mathlib.Omega.{arith}
 use borrow.Author.Tests.{lt-ltb, le-ltb}
 use lib.ListN.{length, take, set, length-set}
-use lib.Seq.{set-out, take-suc-set, take-all, take-length, take-append-le, length-take-le}
+use lib.Seq.{set-out, take-suc-set, take-all, take-append-le, length-take-le}
 use Rattle.octets.specs.Believed.Choice.{pick}
 use Rattle.vectors.specs.Believed.Putting.{next, putting}
 use Rattle.vectors.specs.Believed.Reading.{copied}

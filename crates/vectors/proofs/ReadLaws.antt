@@ -2,11 +2,11 @@
 use mathlib.Core.Path.{_≡_, refl, sym, ap, _∙_}
 use mathlib.Core.Bool.{Bool, true, false}
 use mathlib.Core.List.{List, [], _∷_, _++_, append-nil, append-assoc}
-use Prim.Native.Nat.{ℕ, zero, suc, _+_, _*_, _-_, _%_, _≤_, _<_}
+use Prim.Native.Nat.{ℕ, suc, _+_, _*_, _-_, _%_, _≤_, _<_}
 use native.Mathlib.Numerals.{add-one}
 use native.Mathlib.Omega.{arith}
 use borrow.Author.Tests.{lt-ltb, le-ltb, lt-leb, le-leb, leb-true, eq-eqb, ne-eqb}
-use lib.Dec.{leb, ltb, eqb}
+use lib.Dec.{leb}
 use lib.ListN.{length, getD, take, drop, drop-of-length-le, length-drop}
 use lib.Seq.{take-suc, take-all, length-take-le}
 use Rattle.octets.specs.Believed.Choice.{pick}
@@ -15,7 +15,7 @@ use Rattle.octets.proofs.ChoiceLaws.{both-parts}
 use Rattle.octets.proofs.Parts.{from-here}
 use Rattle.vectors.specs.Believed.Putting.{Text, text as textOf, putting}
 use Rattle.vectors.proofs.PutLaws.{used-fits, front}
-use Rattle.vectors.specs.Believed.Reading.{before, behind, has, digitsFrom, asked, copied, times, meant, piece, stays, decoded, braced}
+use Rattle.vectors.specs.Believed.Reading.{before, behind, digitsFrom, asked, copied, times, meant, piece, stays, decoded, braced}
 
 -- ---- parts
 

@@ -1,13 +1,12 @@
 -- What is run gives the text of its definition: each entry point by what its contract says. Assumes nothing.
-use mathlib.Core.Path.{_≡_, refl, sym, ap, _∙_}
-use mathlib.Core.Bool.{Bool, true, false}
+use mathlib.Core.Path.{_≡_, sym, _∙_}
+use mathlib.Core.Bool.{Bool, false}
 use mathlib.Core.List.{List, [], _∷_, _++_}
-use Prim.Native.Nat.{ℕ, _+_, _*_, _%_, _≤_, _<_}
+use Prim.Native.Nat.{ℕ, _+_, _*_, _%_}
 use native.Mathlib.Omega.{arith}
 use borrow.Author.Tests.{eq-eqb, ne-eqb}
-use lib.Dec.{eqb}
 use lib.IntN.{ℤ}
-use lib.ListN.{length, take, drop, replicate}
+use lib.ListN.{length, take, replicate}
 use lib.Seq.{length-take-le}
 use Rattle.octets.specs.Believed.Answers.{Answered}
 use Rattle.octets.specs.Believed.Choice.{pick}
@@ -28,13 +27,12 @@ use Rattle.dates.specs.declared.DateAnswer.{DateAnswer}
 use Rattle.touch.specs.Believed.Answers as touch
 use Rattle.touch.specs.Believed.Touched.{touched}
 use Rattle.touch.specs.declared.Touched.{Touched}
-use Rattle.vectors.specs.Believed.Putting.{Text, text as textOf, putting}
+use Rattle.vectors.specs.Believed.Putting.{text as textOf, putting}
 use Rattle.vectors.specs.Believed.Reading.{before, behind, startOf, endOf, editionOf, placeOf, roomOf, decoded}
-use Rattle.vectors.specs.Believed.Answers.{line, answerLine, valueLine, written, counted, keptNote, given, givenBy, refusesAt, symbols, untouchedByte, untouchedNumber}
+use Rattle.vectors.specs.Believed.Answers.{line, answerLine, valueLine, written, counted, keptNote, given, givenBy, refusesAt, symbols, untouchedByte}
 use Rattle.vectors.specs.Believed.Vectors.{readText, dateText, scanText, touchText, openText, compareText, unfitText, vectorText, vectorWith, message as messageOf, partsText, answerOf, keptLists}
 use Rattle.vectors.specs.Ties.Puts.{Puts}
 use Rattle.vectors.proofs.PutLaws.{puts-as, puts-both}
-use Rattle.vectors.proofs.ReadLaws.{CutAt, tail-part}
 
 -- an answer, and the lent part afterwards
 pub given-parts : (size : ℕ) (r : Answer) (table : List ℕ) {many : ℕ} {o p q s : List ℕ} {n a b c : ℕ} → many ≡ written r

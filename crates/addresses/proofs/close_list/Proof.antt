@@ -1,9 +1,7 @@
 -- `addresses::close_list` meets its contract. Assumes nothing.
-use mathlib.Core.Path.{_≡_, refl, sym, ap, _∙_}
-use mathlib.Core.List.{[], _∷_}
-use native.Mathlib.Omega.{arith}
+use mathlib.Core.Path.{sym, ap, _∙_}
 use borrow.Author.Tests.{not-true, not-false}
-use Rattle.addresses.proofs.NextLaws.{NextIs, next-is}
+use Rattle.addresses.proofs.NextLaws.{next-is}
 use Rattle.addresses.proofs.EnclosedLaws.{unclosed-stops, behind-stops, enclosed-read, not-found, class-found}
 use borrow.Author.Needs.{needs}
 use Rattle.addresses.proofs.close_list.Statement.{statement}

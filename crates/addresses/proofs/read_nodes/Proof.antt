@@ -1,13 +1,12 @@
 -- `addresses::read_nodes` meets its contract: the nodes have run up to the position reached. Assumes nothing.
 use borrow.Author.Needs.{needs}
-use mathlib.Core.Path.{_≡_, refl, sym, ap, _∙_}
-use mathlib.Core.List.{List, [], _∷_}
+use mathlib.Core.Path.{sym, _∙_}
+use mathlib.Core.List.{[], _∷_}
 use native.Mathlib.Omega.{arith}
-use Prim.Native.Nat.{ℕ, _-_, _≤_}
+use Prim.Native.Nat.{_-_}
 use lib.ListN.{length}
 use borrow.Author.Tests.{not-true, not-false}
 use Rattle.grammar.proofs.Rfc733.Readers.{endsAddress}
-use Rattle.addresses.specs.Ties.Steps.{symbolsAhead}
 use Rattle.addresses.proofs.ClassCases.{by-class, by-class-not}
 use Rattle.addresses.proofs.NextLaws.{NextIs, next-is, none-left}
 use Rattle.addresses.proofs.NodesLaws.{NodesSoFar, NodeRead, followsNode, nodes-start, node-read, nodes-again, nodes-end, stops-no-node, stops-node-wanted, stops-behind-node}

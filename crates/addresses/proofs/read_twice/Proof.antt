@@ -1,7 +1,4 @@
 -- `addresses::read_twice` meets its contract: the first run settles the answer, and only the second writes. Assumes nothing.
-use mathlib.Core.Path.{_≡_, sym, ap, _∙_}
-use mathlib.Core.List.{List, _++_}
-use Prim.Native.Nat.{ℕ}
 use Rattle.octets.proofs.Parts.{no-front}
 use Rattle.addresses.proofs.AnyEdition.{twice-refused, twice-no-room, twice-written}
 use borrow.Author.Needs.{needs}

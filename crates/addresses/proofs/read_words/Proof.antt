@@ -1,9 +1,8 @@
 -- `addresses::read_words` meets its contract: the phrase has run up to the position reached. Assumes nothing.
 use borrow.Author.Needs.{needs}
-use mathlib.Core.Path.{_≡_, refl, sym, ap, _∙_}
-use mathlib.Core.List.{List, [], _∷_}
+use mathlib.Core.Path.{sym, _∙_}
 use native.Mathlib.Omega.{arith}
-use Prim.Native.Nat.{ℕ, _-_, _≤_}
+use Prim.Native.Nat.{_-_}
 use lib.ListN.{length}
 use Rattle.addresses.proofs.NextLaws.{NextIs, next-is, none-left}
 use Rattle.addresses.proofs.PhraseLaws.{WordsSoFar, words-start, words-more, words-done}

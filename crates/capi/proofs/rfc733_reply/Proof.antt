@@ -1,6 +1,6 @@
 -- `capi::rfc733_reply` meets its contract. Assumes nothing.
 use mathlib.Core.Path.{_≡_, _∙_, sym}
-use mathlib.Core.Bool.{Bool, true, false}
+use mathlib.Core.Bool.{true, false}
 use Rattle.reply.specs.Believed.Reply.{leftForFrom}
 use borrow.Author.Needs.{needs}
 use Rattle.capi.proofs.rfc733_reply.Statement.{statement}

@@ -14,7 +14,6 @@ use Rattle.scanner.specs.declared.Class.{Class}
 use Rattle.scanner.specs.declared.Class.the-variants.{Atom, At, LessThan, GreaterThan, Comma, Colon}
 use Rattle.grammar.specs.Believed.Grammar.{levels, begins}
 use Rattle.grammar.specs.Believed.Rfc733.{sameClass, kindNumber, typedKind, include}
-use Rattle.grammar.specs.Executable.Trees733.{oneOf}
 use Rattle.grammar.proofs.Rfc733.Readers.{endsAddress, endsList}
 use Rattle.plain.specs.Ties.Walking.{symbolText, after, afterAtom, afterComma, colonNext, walkText}
 use Rattle.plain.specs.declared.places.Place.{Place}

@@ -8,7 +8,7 @@ use lib.ListN.{length}
 use Rattle.octets.specs.Believed.Letters.{lower, same}
 use Rattle.octets.specs.Believed.Numbers.{levelLimit}
 use Rattle.octets.specs.Believed.Text.{bytes}
-use Rattle.records.specs.Believed.AddressRecords.{AddressRecord, recordBy, tableBytes}
+use Rattle.records.specs.Believed.AddressRecords.{AddressRecord}
 use Rattle.grammar.specs.Believed.Grammar.{levels}
 use Rattle.grammar.specs.Believed.Language.{Verdict, accepted, refused, verdictNumber, verdictPosition}
 use Rattle.grammar.specs.Believed.Records.{records}

@@ -6,7 +6,7 @@ use borrow.Author.Needs.{needs}
 use lib.ListN.{length}
 use Rattle.octets.proofs.Writes.{Left, left-all, left-after, left-none}
 use Rattle.scanner.specs.Ties.Meanings.{dataAt}
-use Rattle.scanner.proofs.Meanings.{DatumFirst, DatumIs, datum-is}
+use Rattle.scanner.proofs.Meanings.{DatumFirst, datum-is}
 use Rattle.plain.specs.Believed.PlainText.{dataText}
 use Rattle.plain.proofs.put_data.Statement.{statement}
 use Rattle.plain.proofs.put_data.Tie as tie

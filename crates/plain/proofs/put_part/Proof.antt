@@ -1,11 +1,9 @@
 -- `plain::put_part` meets its contract. Assumes nothing.
 use mathlib.Core.Path.{_≡_, refl}
-use mathlib.Core.List.{_++_}
-use Prim.Native.Nat.{ℕ, _+_, _-_}
+use Prim.Native.Nat.{_-_}
 use borrow.Author.Needs.{needs}
 use lib.ListN.{length}
 use Rattle.octets.specs.Believed.Text.{part}
-use Rattle.octets.specs.Ties.Writing.{Wrote}
 use Rattle.octets.proofs.Parts.{part-length}
 use Rattle.octets.proofs.Writes.{wrote-text}
 use Rattle.plain.proofs.put_part.Statement.{statement}

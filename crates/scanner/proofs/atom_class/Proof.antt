@@ -1,5 +1,5 @@
 -- `scanner::atom_class` meets its contract. Assumes nothing.
-use mathlib.Core.Path.{_≡_, sym, ap, _∙_}
+use mathlib.Core.Path.{sym, ap, _∙_}
 use Rattle.octets.specs.Believed.Choice.{pick}
 use Rattle.scanner.specs.declared.Class.the-variants.{At, Atom}
 use borrow.Author.Needs.{needs}

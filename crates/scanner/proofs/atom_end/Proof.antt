@@ -1,15 +1,13 @@
 -- `scanner::atom_end` meets its contract: the atom has run up to the position reached. Assumes nothing.
 use borrow.Author.Needs.{needs}
 use mathlib.Core.Path.{_≡_, refl, _∙_}
-use mathlib.Core.List.{List}
 use native.Mathlib.Omega.{arith}
-use Prim.Native.Nat.{ℕ, _-_, _≤_}
+use Prim.Native.Nat.{_-_, _≤_}
 use lib.ListN.{length}
 use Rattle.octets.specs.Believed.Text.{part}
 use Rattle.scanner.specs.Believed.Characters.{charactersAt}
 use Rattle.scanner.specs.Believed.Scanning.{inAtom, scanFrom}
-use Rattle.scanner.specs.Ties.Steps.{FirstCharacter, StepIs}
-use Rattle.scanner.specs.declared.Kind.the-variants.{Plain}
+use Rattle.scanner.specs.Ties.Steps.{FirstCharacter}
 use Rattle.scanner.proofs.MoveLaws.{atom-on, atom-ends, atom-last}
 use Rattle.scanner.proofs.atom_end.Statement.{statement}
 use Rattle.scanner.proofs.atom_end.Tie as tie

@@ -1,5 +1,5 @@
 -- `scanner::character` meets its contract. Assumes nothing.
-use mathlib.Core.Path.{_≡_, sym, _∙_}
+use mathlib.Core.Path.{sym, _∙_}
 use Rattle.scanner.proofs.CharacterLaws.{no-character, return-kind, no-return, fold-first, plain-first}
 use borrow.Author.Needs.{needs}
 use Rattle.scanner.proofs.character.Statement.{statement}

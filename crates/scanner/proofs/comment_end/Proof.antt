@@ -1,13 +1,13 @@
 -- `scanner::comment_end` meets its contract: `depth` comments lie around the one that is open at the position reached. Assumes nothing.
 use borrow.Author.Needs.{needs}
-use mathlib.Core.Path.{_≡_, refl, sym, ap, _∙_}
-use mathlib.Core.List.{List, [], _∷_}
+use mathlib.Core.Path.{refl, _∙_}
+use mathlib.Core.List.{[]}
 use native.Mathlib.Omega.{arith}
-use Prim.Native.Nat.{ℕ, suc, _+_, _-_, _≤_}
-use lib.ListN.{length, getD}
+use Prim.Native.Nat.{_-_, _≤_}
+use lib.ListN.{length}
 use Rattle.octets.specs.Believed.Numbers.{byteAbove127, strayControl}
 use Rattle.scanner.specs.Believed.Scanning.{takingInComment, go, halt}
-use Rattle.scanner.specs.Ties.Steps.{FirstCharacter, StepIs}
+use Rattle.scanner.specs.Ties.Steps.{FirstCharacter}
 use Rattle.scanner.proofs.MoveLaws.{at-end, Commenting, comment-moves, comment-on, comment-opens, comment-closes, comment-over, comment-taking, comment-taken}
 use Rattle.scanner.proofs.comment_end.Statement.{statement}
 use Rattle.scanner.proofs.comment_end.Tie as tie

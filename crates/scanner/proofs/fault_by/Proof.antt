@@ -1,12 +1,11 @@
 -- `scanner::fault_by` meets its contract: up to the position reached there is no fault. Assumes nothing.
 use borrow.Author.Needs.{needs}
 use mathlib.Core.Path.{_≡_, refl, sym, ap, _∙_}
-use mathlib.Core.List.{List, [], _∷_}
 use native.Mathlib.Omega.{arith}
-use Prim.Native.Nat.{ℕ, suc, _+_, _-_, _≤_}
-use lib.ListN.{length, getD}
+use Prim.Native.Nat.{_-_}
+use lib.ListN.{length}
 use Rattle.scanner.specs.Believed.Scanning.{scanBy}
-use Rattle.scanner.specs.Believed.Answers.{unlessFault, faultOf, nextOf}
+use Rattle.scanner.specs.Believed.Answers.{unlessFault, faultOf}
 use Rattle.scanner.proofs.Unfolding.{SymbolAt, found, found-end, found-fault, fault-on}
 use Rattle.scanner.proofs.fault_by.Statement.{statement}
 use Rattle.scanner.proofs.fault_by.Tie as tie

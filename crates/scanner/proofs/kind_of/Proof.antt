@@ -1,10 +1,8 @@
 -- `scanner::kind_of` meets its contract: each arm of the match is one row of `kindOfClass`. Assumes nothing.
 use borrow.Author.Needs.{needs}
 use borrow.Author.Tests.{ne-eqb}
-use mathlib.Core.Path.{_≡_, sym}
+use mathlib.Core.Path.{sym}
 use Prim.Native.Nat.{ℕ}
-use Rattle.scanner.specs.Believed.Kinds.{kindOfClass, kindOf}
-use Rattle.scanner.specs.declared.Kind.{Kind}
 use Rattle.scanner.proofs.KindLaws.{return-kind, class-kind}
 use Rattle.scanner.proofs.kind_of.Statement.{statement}
 use Rattle.scanner.proofs.kind_of.Tie as tie

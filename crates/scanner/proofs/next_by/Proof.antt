@@ -1,18 +1,14 @@
 -- `scanner::next_by` meets its contract: scanning outside has come to the position reached without a symbol. Assumes nothing.
 use borrow.Author.Needs.{needs}
 use mathlib.Core.Path.{_≡_, refl, sym, ap, _∙_}
-use mathlib.Core.List.{List, [], _∷_}
+use mathlib.Core.List.{[]}
 use native.Mathlib.Omega.{arith}
-use Prim.Native.Nat.{ℕ, suc, _+_, _-_, _≤_}
-use lib.ListN.{length, getD}
-use Rattle.octets.specs.Believed.Numbers.{byteAbove127, strayControl}
-use Rattle.octets.specs.Believed.Text.{part}
-use Rattle.scanner.specs.Believed.Scanning.{outside, inQuoted, inLiteral, inComment, atom, atomClass, single, go, halt, scanBy}
+use Prim.Native.Nat.{_-_}
+use lib.ListN.{length}
+use Rattle.octets.specs.Believed.Numbers.{byteAbove127}
+use Rattle.scanner.specs.Believed.Scanning.{outside, inQuoted, inLiteral, inComment, go, halt, scanBy}
 use Rattle.scanner.specs.Believed.Answers.{nextOf}
-use Rattle.scanner.specs.Ties.Steps.{FirstCharacter, StepIs, AtomEnds, CommentIs, CommentEnds}
-use Rattle.scanner.specs.declared.Class.{Class}
-use Rattle.scanner.specs.declared.Class.the-variants.{Stray}
-use Rattle.scanner.specs.declared.Next.the-variants.{Found}
+use Rattle.scanner.specs.Ties.Steps.{FirstCharacter, CommentEnds}
 use Rattle.scanner.proofs.MoveLaws.{at-end, moves, atom-begins, mark-next, stray-next, control-next}
 use Rattle.scanner.proofs.next_by.Statement.{statement}
 use Rattle.scanner.proofs.next_by.Tie as tie

@@ -1,5 +1,5 @@
 -- `scanner::next_datum` meets its contract. Assumes nothing.
-use mathlib.Core.Path.{_≡_, sym, _∙_}
+use mathlib.Core.Path.{sym, _∙_}
 use native.Mathlib.Omega.{arith}
 use Rattle.scanner.specs.Ties.Steps.{FirstCharacter}
 use Rattle.scanner.specs.Ties.Meanings.{inside, taking}

@@ -1,19 +1,17 @@
 -- `scanner::quoted_end` meets its contract: the quoted-string is open up to the position reached. Assumes nothing.
 use borrow.Author.Needs.{needs}
-use mathlib.Core.Path.{_≡_, refl, sym, ap, _∙_}
-use mathlib.Core.List.{List, [], _∷_}
+use mathlib.Core.Path.{refl, sym, ap, _∙_}
+use mathlib.Core.List.{[]}
 use native.Mathlib.Omega.{arith}
-use Prim.Native.Nat.{ℕ, suc, _+_, _-_, _≤_}
-use lib.ListN.{length, getD}
+use Prim.Native.Nat.{_-_, _≤_}
+use lib.ListN.{length}
 use Rattle.octets.specs.Believed.Numbers.{byteAbove127, strayControl}
-use Rattle.scanner.specs.Believed.Characters.{charactersAt}
-use Rattle.scanner.specs.Believed.Scanning.{outside, inQuoted, takingInQuoted, symbol, go, halt, scanFrom}
+use Rattle.scanner.specs.Believed.Scanning.{takingInQuoted, go, halt}
 use Rattle.scanner.specs.Believed.Answers.{nextOf}
-use Rattle.scanner.specs.Ties.Steps.{FirstCharacter, StepIs}
+use Rattle.scanner.specs.Ties.Steps.{FirstCharacter}
 use Rattle.scanner.specs.declared.Class.the-variants.{Quoted}
 use Rattle.scanner.specs.declared.Next.the-variants.{Found}
-use Rattle.scanner.specs.declared.Kind.the-variants.{Quote, Return, Above, Backslash}
-use Rattle.scanner.proofs.MoveLaws.{at-end, moves, Quoting, quoted-moves, quoted-on, quoted-taking, quoted-taken}
+use Rattle.scanner.proofs.MoveLaws.{at-end, Quoting, quoted-moves, quoted-on, quoted-taking, quoted-taken}
 use Rattle.scanner.proofs.quoted_end.Statement.{statement}
 use Rattle.scanner.proofs.quoted_end.Tie as tie
 

@@ -2,7 +2,6 @@
 use mathlib.Core.Path.{_≡_}
 use Prim.Native.Nat.{ℕ, _≤_}
 use mathlib.Core.Bool.{Bool}
-use mathlib.Core.List.{List}
 use Rattle.scanner.specs.Believed.Scanning.{State, outside, inComment, takingInComment, move}
 use Rattle.scanner.specs.Believed.Categories.{takenIn, behind}
 use Rattle.scanner.specs.declared.Kind.{Kind}

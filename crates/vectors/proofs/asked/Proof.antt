@@ -1,6 +1,6 @@
 -- `vectors::asked` meets its contract. Assumes nothing.
 use native.Mathlib.Omega.{arith}
-use mathlib.Core.Path.{_≡_, refl, sym, ap, _∙_}
+use mathlib.Core.Path.{_∙_}
 use Rattle.vectors.proofs.ReadLaws.{tail-part, asked-behind, not-asked}
 use borrow.Author.Needs.{needs}
 use Rattle.vectors.proofs.asked.Statement.{statement}

@@ -1,13 +1,11 @@
 -- `vectors::decode` meets its contract: what the bytes up to i stand for is put. Assumes nothing.
-use mathlib.Core.Path.{_≡_, refl, sym, ap, _∙_}
-use mathlib.Core.List.{List, [], _∷_, _++_}
+use mathlib.Core.Path.{_≡_, refl, ap, _∙_}
 use Prim.Native.Nat.{_+_, _-_, _≤_}
 use native.Mathlib.Omega.{arith}
 use mathlib.Core.Bool.{false}
 use lib.ListN.{length, getD, drop}
 use Rattle.vectors.specs.Believed.Putting.{putting}
 use Rattle.vectors.specs.Believed.Reading.{stays, decoded}
-use Rattle.vectors.proofs.PutLaws.{used-fits, front}
 use Rattle.vectors.proofs.ReadLaws.{tail-part, decoded-next, decoded-end, decode-done}
 use borrow.Author.Needs.{needs}
 use Rattle.vectors.proofs.decode.Statement.{statement}

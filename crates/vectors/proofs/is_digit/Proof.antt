@@ -1,7 +1,6 @@
 -- `vectors::is_digit` meets its contract. Assumes nothing.
 use native.Mathlib.Omega.{arith}
 use Rattle.vectors.proofs.ReadLaws.{digit-below, digit-above}
-use borrow.Author.Needs.{needs}
 use Rattle.vectors.proofs.is_digit.Statement.{statement}
 use Rattle.vectors.proofs.is_digit.Tie as tie
 

@@ -1,5 +1,4 @@
 -- `vectors::is_inside` meets its contract. Assumes nothing.
-use borrow.Author.Needs.{needs}
 use Rattle.vectors.proofs.is_inside.Statement.{statement}
 use Rattle.vectors.proofs.is_inside.Tie as tie
 

@@ -1,6 +1,6 @@
 -- `vectors::keep_lists` meets its contract. Assumes nothing.
 use native.Mathlib.Omega.{arith}
-use mathlib.Core.Path.{_≡_, refl, sym, ap, _∙_}
+use mathlib.Core.Path.{_∙_}
 use Rattle.vectors.proofs.ReadLaws.{tail-part}
 use Rattle.vectors.proofs.VectorLaws.{keep-not, keep-new}
 use borrow.Author.Needs.{needs}

@@ -1,6 +1,5 @@
 -- `vectors::meant` meets its contract. Assumes nothing.
 use Rattle.vectors.proofs.ReadLaws.{meant-return, meant-feed, meant-zero, meant-self}
-use borrow.Author.Needs.{needs}
 use Rattle.vectors.proofs.meant.Statement.{statement}
 use Rattle.vectors.proofs.meant.Tie as tie
 

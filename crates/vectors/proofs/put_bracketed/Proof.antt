@@ -1,8 +1,4 @@
 -- `vectors::put_bracketed` meets its contract. Assumes nothing.
-use mathlib.Core.List.{List, [], _∷_, _++_}
-use Rattle.octets.specs.Believed.Text.{bytes}
-use Rattle.vectors.specs.Believed.Answers.{bracketed}
-use Rattle.vectors.proofs.PutLaws.{puts-both}
 use Rattle.vectors.proofs.AnswerLaws.{puts-bracketed}
 use borrow.Author.Needs.{needs}
 use Rattle.vectors.proofs.put_bracketed.Statement.{statement}

@@ -1,5 +1,5 @@
 -- `vectors::put_chosen` meets its contract. Assumes nothing.
-use mathlib.Core.List.{List, [], _∷_, _++_}
+use mathlib.Core.List.{[], _∷_}
 use lib.ListN.{length}
 use Rattle.vectors.specs.Believed.Answers.{line, frontText}
 use Rattle.vectors.specs.Believed.Vectors.{chosenText}

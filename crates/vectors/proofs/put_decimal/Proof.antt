@@ -1,7 +1,6 @@
 -- `vectors::put_decimal` meets its contract. Assumes nothing.
-use mathlib.Core.Path.{_≡_, refl, sym, ap, _∙_}
-use mathlib.Core.List.{List, [], _∷_, _++_}
-use native.Mathlib.Omega.{arith}
+use mathlib.Core.Path.{ap, _∙_}
+use mathlib.Core.List.{_++_}
 use Rattle.vectors.proofs.PutLaws.{puts-as}
 use Rattle.listing.proofs.DigitLaws.{few-digits, digits-are}
 use borrow.Author.Needs.{needs}

@@ -1,6 +1,6 @@
 -- `vectors::put_front` meets its contract. Assumes nothing.
 use native.Mathlib.Omega.{arith}
-use mathlib.Core.Path.{_≡_, refl, sym, ap, _∙_}
+use mathlib.Core.Path.{sym}
 use lib.Seq.{length-take-le}
 use Rattle.vectors.proofs.PutLaws.{puts-nothing}
 use Rattle.vectors.proofs.AnswerLaws.{front-none, front-whole, front-part}

@@ -1,5 +1,5 @@
 -- `vectors::put_kept` meets its contract. Assumes nothing.
-use mathlib.Core.Path.{_≡_, refl, sym, ap, _∙_}
+use mathlib.Core.Path.{sym, _∙_}
 use Rattle.vectors.proofs.PutLaws.{puts-nothing}
 use Rattle.vectors.proofs.AnswerLaws.{note-none, note-one}
 use borrow.Author.Needs.{needs}

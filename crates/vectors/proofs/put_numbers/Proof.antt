@@ -1,11 +1,11 @@
 -- `vectors::put_numbers` meets its contract: the numbers up to i are put, and those from i on are left. Assumes nothing.
-use mathlib.Core.Path.{_≡_, refl, sym, ap, _∙_}
-use mathlib.Core.List.{List, [], _∷_, _++_}
+use mathlib.Core.Path.{_≡_, refl, _∙_}
+use mathlib.Core.List.{_∷_}
 use Prim.Native.Nat.{_-_, _≤_}
 use native.Mathlib.Omega.{arith}
 use lib.ListN.{length, drop}
 use Rattle.octets.specs.Believed.Octets.{spaceByte}
-use Rattle.listing.specs.Believed.Lines.{decimal, spaced}
+use Rattle.listing.specs.Believed.Lines.{spaced}
 use Rattle.vectors.proofs.PutLaws.{puts-both, Left, left-all, left-after, left-none}
 use Rattle.vectors.proofs.AnswerLaws.{spaced-next, spaced-end}
 use borrow.Author.Needs.{needs}

@@ -1,5 +1,5 @@
 -- `vectors::put_parts` meets its contract. Assumes nothing.
-use mathlib.Core.Path.{_≡_, refl, sym, ap, _∙_}
+use mathlib.Core.Path.{sym, _∙_}
 use native.Mathlib.Omega.{arith}
 use lib.Seq.{length-take-le}
 use Rattle.vectors.proofs.VectorLaws.{message-is, parts-text}

@@ -1,6 +1,5 @@
 -- `vectors::put_piece` meets its contract. Assumes nothing.
-use native.Mathlib.Omega.{arith}
-use mathlib.Core.Path.{_≡_, refl, sym, ap, _∙_}
+use mathlib.Core.Path.{sym}
 use lib.Seq.{length-take-le}
 use Rattle.vectors.proofs.PutLaws.{puts-nothing, puts-as}
 use Rattle.vectors.proofs.ReadLaws.{piece-inside, piece-braced, piece-byte}

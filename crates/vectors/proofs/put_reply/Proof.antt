@@ -1,5 +1,5 @@
 -- `vectors::put_reply` meets its contract. Assumes nothing.
-use mathlib.Core.Path.{_≡_, refl, sym, ap, _∙_}
+use mathlib.Core.Path.{ap, _∙_}
 use denote.Ref.{now}
 use Rattle.reply.specs.Believed.Reply.{leftForFrom}
 use Rattle.vectors.specs.Believed.Vectors.{chosenText}

@@ -1,6 +1,6 @@
 -- `vectors::put_touch` meets its contract. Assumes nothing.
 use native.Mathlib.Omega.{arith}
-use mathlib.Core.Path.{_≡_, refl, sym, ap, _∙_}
+use mathlib.Core.Path.{sym, ap, _∙_}
 use Prim.Native.Nat.{_%_}
 use lib.ListN.{length, replicate}
 use lib.Seq.{length-take-le}

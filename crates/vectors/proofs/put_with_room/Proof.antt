@@ -1,7 +1,7 @@
 -- `vectors::put_with_room` meets its contract. Assumes nothing.
-use mathlib.Core.Path.{_≡_, refl, sym, ap, _∙_}
+use mathlib.Core.Path.{sym}
 use Rattle.vectors.proofs.VectorLaws.{room-length, with-room}
-use mathlib.Core.Path.{_≡_, refl, sym, ap, _∙_}
+use mathlib.Core.Path.{sym}
 use borrow.Author.Needs.{needs}
 use Rattle.vectors.proofs.put_with_room.Statement.{statement}
 use Rattle.vectors.proofs.put_with_room.Tie as tie

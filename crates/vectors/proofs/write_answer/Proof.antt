@@ -1,5 +1,5 @@
 -- `vectors::write_answer` meets its contract. Assumes nothing.
-use mathlib.Core.Path.{_≡_, refl, sym, ap, _∙_}
+use mathlib.Core.Path.{sym, _∙_}
 use Rattle.vectors.proofs.VectorLaws.{all-put}
 use Rattle.vectors.proofs.ReadLaws.{tail-part}
 use native.Mathlib.Omega.{arith}

@@ -4,7 +4,7 @@ use mathlib.Core.Bool.{Bool, true}
 use mathlib.Core.List.{List, [], _∷_, _++_}
 use lib.Dec.{eqb, leb}
 use lib.IntN.{ℤ, pos, negsuc}
-use lib.ListN.{length, take, drop}
+use lib.ListN.{take, drop}
 use Rattle.octets.specs.Believed.Answers.{numberOf, positionOf, countOf}
 use Rattle.octets.specs.Believed.Choice.{pick, both}
 use Rattle.records.specs.Believed.FieldRecords.{fieldRecordSize}
