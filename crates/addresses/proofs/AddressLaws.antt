@@ -88,7 +88,7 @@ module _ (classes text : List ℕ) where
   not-lone h (one (quotedWord t)) e = absurd (true≢false e)
   not-lone h (more p w) e = refl
 
-  -- a phrase with nothing behind it that goes on, and no lone quoted-string, or with something that fits no rule
+  -- a phrase with nothing after it that goes on, and no lone quoted-string, or with something that fits no rule
   behind-phrase : (n : ℕ) (h : Here) (p : Phrase) (class : Class) (t : Lexeme) (ys : List Sym) → followsPhrase classes text class ≡ false → (loneQuoted p ≡ false) ⊎ (endsAddress class ≡ false)
       → judge (run n (phrase h p) (of class t ∷ ys)) ≡ refused unfit (of class t ∷ ys)
   behind-phrase n h p class t ys f o =

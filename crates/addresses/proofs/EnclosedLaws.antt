@@ -61,7 +61,7 @@ run-close : (e : Enclosure) (n : ℕ) (h : Here) (o : Option Phrase) (t : Lexeme
 run-close Angle n h o t l u ys = rw (complete-doneList (inAngle h o t) l)
 run-close Group n h o t l u ys = rw (complete-doneList (inGroup h o t) l)
 
--- any other mark that may stand behind a list
+-- any other mark that may stand after a list
 run-other : (e : Enclosure) (n : ℕ) (h : Here) (o : Option Phrase) (t : Lexeme) (l : AddressList) (class : Class) (u : Lexeme) (ys : List Sym) → ListEnds (of class u ∷ ys) → sameClass (closing e) class ≡ false
     → judge (run n (doneList (levelIn e h o t) l) (of class u ∷ ys)) ≡ refused unfit (of class u ∷ ys)
 run-other e n h o t l class u ys v f =
@@ -79,7 +79,7 @@ run-unclosed : (e : Enclosure) (n : ℕ) (h : Here) (o : Option Phrase) (t : Lex
 run-unclosed Angle n h o t l = rw (complete-doneList (inAngle h o t) l)
 run-unclosed Group n h o t l = rw (complete-doneList (inGroup h o t) l)
 
--- behind the closing mark
+-- after the closing mark
 run-behind : (e : Enclosure) (n : ℕ) (h : Here) (o : Option Phrase) (t : Lexeme) (l : AddressList) (u : Lexeme) (class : Class) (v : Lexeme) (ys : List Sym) → endsAddress class ≡ false
     → judge (run n (doneAddress h (enclosed e o t l u)) (of class v ∷ ys)) ≡ refused unfit (of class v ∷ ys)
 run-behind Angle n h o t l u class v ys f = ap judge (closed-unfit h n (angle o t l u) class v ys f)
@@ -99,7 +99,7 @@ count-of : (e : Enclosure) (o : Option Phrase) (t : Lexeme) (l : AddressList) (u
 count-of Angle o t l u = refl
 count-of Group o t l u = refl
 
--- ---- a record that is written behind those which lie in its address
+-- ---- a record that is written after those which lie in its address
 
 stored-in : (table between after : List ℕ) (i levels : ℕ) (r : AddressRecord) (rs : ℕ → ℕ → List AddressRecord) → (levels ≡ 0 → ⊥) → levels ≤ levelLimit
     → between ≡ sets table ((i + 1) * addressRecordSize) (tableBytes (rs (levelLimit - (levels - 1)) (i + 1))) → after ≡ sets between (i * addressRecordSize) (recordBytes r)
@@ -175,7 +175,7 @@ module _ (classes text : List ℕ) where
     abbrev closed-by : Lexeme
     closed-by = lexemeAt classes text class i j
 
-    -- the machine comes behind the closing mark
+    -- the machine comes after the closing mark
     comes-behind : (h : Here) → Clear (fresh h) (atomColon xs)
         → run (levelsHere h + frame .levels) (begin h) xs ≡ run (levelsHere h + frame .levels) (doneAddress h (enclosed e (o .name) (lexemeAt classes text (opening e) a b) (l .tree) closed-by)) (symbolsFrom classes text j)
     comes-behind h c =
@@ -183,7 +183,7 @@ module _ (classes text : List ℕ) where
         ∙ ap (λ (k : Class). run (levelsHere h + frame .levels) (doneList (levelIn e h (o .name) (lexemeAt classes text (opening e) a b)) (l .tree)) (of k closed-by ∷ symbolsFrom classes text j)) (sym (same-class (closing e) class q))
         ∙ run-close e (levelsHere h + frame .levels) h (o .name) (lexemeAt classes text (opening e) a b) (l .tree) closed-by (symbolsFrom classes text j)
 
-    -- something behind it that does not end the address
+    -- something after it that does not end the address
     pub behind-stops : (behind : Next) → NextIs classes text j behind → endsAddressNext behind ≡ false → (start : ℕ) (after : List ℕ) → AddressIs classes text xs frame start table after (refusedNext (length text) behind)
     behind-stops (Found other s t) x f start after =
         record {
@@ -242,7 +242,7 @@ module _ (classes text : List ℕ) where
         }
 
     module _ (n : frame .levels ≡ 0 → ⊥) where
-      -- the machine comes behind the second colon
+      -- the machine comes after the second colon
       comes-typed : (h : Here) → run (levelsHere h + frame .levels) (begin h) (symbolsAhead classes text (Found Colon start end))
           ≡ run (levelsHere (inTyped h first-colon the-atom (t .follows .colon)) + inner classes text frame .levels) (want h first-colon the-atom (t .follows .colon)) (symbolsFrom classes text behind)
       comes-typed h =

@@ -31,7 +31,7 @@ abbrev ClearAt : Level → AddressList → List Sym → Type 0
 ClearAt k (idle r) ys = Clear (fresh (inList k r)) (atomColon ys)
 ClearAt k (full r a) ys = Unit {0}
 
--- behind an address only what ends it stands
+-- after an address only what ends it stands
 abbrev Behind : AddressList → List Sym → Type 0
 Behind (idle r) ys = Unit {0}
 Behind (full r a) ys = AddressEnds ys

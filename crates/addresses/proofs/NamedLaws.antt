@@ -20,7 +20,7 @@ use Rattle.addresses.specs.declared.Enclosure.the-variants.{Angle, Group
 use Rattle.addresses.proofs.ClassCases.{tag, by-class, is-false}
 use Rattle.addresses.proofs.PhraseLaws.{wordOf, word-symbol, word-lexeme, word-lone}
 
--- a symbol behind a phrase that is no word and none of the marks of an address
+-- a symbol after a phrase that is no word and none of the marks of an address
 pub no-mark-found : (classes text : List ℕ) (class : Class) → OneOf (0 ∷ 1 ∷ 4 ∷ 5 ∷ 6 ∷ 8 ∷ 9 ∷ 10 ∷ []) (tag class) → isWord class ≡ false → followsPhrase classes text class ≡ false
 no-mark-found classes text class o e =
     let b = by-class (0 ∷ 1 ∷ 4 ∷ 5 ∷ 6 ∷ 8 ∷ 9 ∷ 10 ∷ []) (λ c. either (isWord c) (not (followsPhrase classes text c))) tt class o in
@@ -59,7 +59,7 @@ module _ (classes text : List ℕ) where
   named-opening e {p = p} {b = b} n =
       record { name = some p; yields = n .yields; start-is = sym (n .start-is); end-is = sym (n .end-is); house = house-named e p (symbolsFrom classes text b) }
 
-  -- the mark that stands behind a phrase
+  -- the mark that stands after a phrase
   pub named-before : {xs : List Sym} {span : Span} {p : Phrase} {r s : Next} → Named classes text xs span p r → r ≡ s → Named classes text xs span p s
   named-before {p = p} n e = record { yields = n .yields ∙ ap (λ (a : Next). phraseThen p (symbolsAhead classes text a)) e; start-is = n .start-is; end-is = n .end-is }
 

@@ -21,7 +21,7 @@ use Rattle.scanner.specs.Ties.Steps.{Faultless}
 use Rattle.addresses.proofs.NextLaws.{NextIs}
 use Rattle.addresses.proofs.PhraseLaws.{wordOf, word-symbol, word-lexeme}
 
--- nodes behind which another "at" stands, or the first "at"
+-- nodes after which another "at" stands, or the first "at"
 pub data OpenNodes : Type 0 where
   first-open : Lexeme → OpenNodes
   next-open : Nodes → Lexeme → OpenNodes
@@ -62,7 +62,7 @@ node-wanted : (n : ℕ) (h : Here) (p : Phrase) (o : OpenNodes) → judge (run n
 node-wanted n h p (first-open t) = refl
 node-wanted n h p (next-open m t) = refl
 
--- behind a node: "at", or what ends an address
+-- after a node: "at", or what ends an address
 abbrev pub followsNode : Class → Bool
 followsNode c = oneOf (At ∷ GreaterThan ∷ Comma ∷ Semicolon ∷ []) c
 
@@ -75,7 +75,7 @@ abbrev again : Nodes → Lexeme → OpenNodes
 again m t = next-open m t
 
 module _ (classes text : List ℕ) where
-  -- the nodes so far: the machine has come to p, behind an "at"
+  -- the nodes so far: the machine has come to p, after an "at"
   pub record NodesSoFar (start at p : ℕ) : Type 0 where
     pub open-nodes : OpenNodes
     pub yields : symbolAt classes text At start at ∷ symbolsFrom classes text at ≡ openThen open-nodes (symbolsFrom classes text p)

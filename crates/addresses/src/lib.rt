@@ -46,26 +46,26 @@ struct Frame {
     number: usize,
 }
 
-// What reading gives: the symbol behind, the end of the last symbol read and the next free record number; or a refusal.
+// What reading gives: the symbol after, the end of the last symbol read and the next free record number; or a refusal.
 enum Reading {
     Read(Next, usize, usize),
     Refused(u8, usize),
 }
 
-// The words of a phrase: the symbol behind them, the end of the last, and whether they are one quoted-string.
+// The words of a phrase: the symbol after them, the end of the last, and whether they are one quoted-string.
 struct Words {
     ahead: Next,
     end: usize,
     lone: bool,
 }
 
-// The nodes of a mailbox: the symbol behind and the end of the last node; or a refusal.
+// The nodes of a mailbox: the symbol after and the end of the last node; or a refusal.
 enum NodesRead {
     Behind(Next, usize),
     Stopped(u8, usize),
 }
 
-// An atom and ":" that follow a ":": the atom's span and the position behind the second ":".
+// An atom and ":" that follow a ":": the atom's span and the position after the second ":".
 enum TypedAtom {
     Typed(usize, usize, usize),
     Nameless,
@@ -108,7 +108,7 @@ fn is_quoted(class: Class) -> bool
     }
 }
 
-// Whether what comes next may stand behind an address.
+// Whether what comes next may stand after an address.
 fn ends_address(ahead: Next) -> bool
     ensures { λ r. ⌜ r ≡ endsAddressNext ahead ⌝ }
 {
@@ -160,7 +160,7 @@ fn read_words(classes: &[u8; 256], text: &[u8], end: usize, lone: bool) -> Words
     }
 }
 
-// The nodes behind the "at" that stands from start to at, to the end of the address.
+// The nodes after the "at" that stands from start to at, to the end of the address.
 fn read_nodes(classes: &[u8; 256], text: &[u8], start: usize, at: usize) -> NodesRead
     requires { ⌜ Standing (now classes) (now text) start at ⌝ }
     ensures { λ r. ⌜ NodesIs (now (classes .entry)) (now (text .entry)) start at r ⌝ }
@@ -208,7 +208,7 @@ fn typed_atom(classes: &[u8; 256], text: &[u8], at: usize) -> TypedAtom
     TypedAtom::Typed(start, end, behind)
 }
 
-// A mailbox, behind its phrase and the "at" that stands from start to end.
+// A mailbox, after its phrase and the "at" that stands from start to end.
 fn read_mailbox(
     classes: &[u8; 256],
     text: &[u8],
@@ -279,7 +279,7 @@ fn enclosure_kind(enclosure: Enclosure) -> u8
     }
 }
 
-// The end of an enclosed list, whose addresses are read: its closing mark, and what may stand behind it.
+// The end of an enclosed list, whose addresses are read: its closing mark, and what may stand after it.
 fn close_list(
     classes: &[u8; 256],
     text: &[u8],
@@ -314,7 +314,7 @@ fn close_list(
     Reading::Read(behind, end, free)
 }
 
-// A list from a position on, up to what may stand behind it.
+// A list from a position on, up to what may stand after it.
 fn read_list(classes: &[u8; 256], text: &[u8], table: &mut [u8], at: usize, frame: Frame) -> Reading
     requires { ⌜ Entered (now classes) (now text) at frame ⌝ }
     ensures { λ r. ⌜ ListIs (now (classes .entry)) (now (text .entry)) at frame (now (table .entry)) (now (table .exit)) r ⌝ }
@@ -425,7 +425,7 @@ fn read_named(
     }
 }
 
-// An angle list or a group, behind its name, if it has one; its opening mark stands from start to end.
+// An angle list or a group, after its name, if it has one; its opening mark stands from start to end.
 fn read_enclosed(
     classes: &[u8; 256],
     text: &[u8],
@@ -493,7 +493,7 @@ fn read_colon(
     }
 }
 
-// A typed address, behind its atom and second ":".
+// A typed address, after its atom and second ":".
 fn read_typed(
     classes: &[u8; 256],
     text: &[u8],

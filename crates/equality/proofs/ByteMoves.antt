@@ -117,7 +117,7 @@ comment-by isBackslash = takes (λ d s p. refl)
 comment-by isQuote = stays (λ d s p. refl)
 comment-by isAbove = faulty byteAbove127 (λ d s p. refl)
 
--- behind a backslash
+-- after a backslash
 pub data Behind (k : _) : Type 0 where
   taken : ((state : State) (p : ℕ) → take k state p ≡ go [] state) → Behind k
   faulty : (n : ℕ) → ((state : State) (p : ℕ) → take k state p ≡ halt [] n p) → Behind k

@@ -35,7 +35,7 @@ unfolding scanFrom charactersFrom
 ends-here {base} {s} fold p p′ (comment e q r h) = faulty commentNotClosed s refl
 ends-here {base} {s} fold p p′ (taking e q r h) = faulty commentNotClosed s refl
 
--- a byte that is a character, whatever of the bytes behind it is left
+-- a byte that is a character, whatever of the bytes after it is left
 module _ (fold : InFold) (b : ℕ) (cs : List ℕ) (p p′ : ℕ) (folded : Bool) (is : (inside behind : List ℕ) (i : ℕ) → cs ≡ inside ++ behind → charactersFrom fold (b ∷ inside) i ≡ character b i folded ∷ charactersFrom characters.none inside (i + 1)) where
   whole : charactersFrom fold (b ∷ cs) p′ ≡ character b p′ folded ∷ charactersFrom characters.none cs (p′ + 1)
   whole = is cs [] p′ (sym (append-nil cs))
@@ -65,7 +65,7 @@ fewer b [] behind e = no-fold (b ∷ []) 0 (omega arith)
 fewer b (c ∷ []) behind e = no-fold (b ∷ c ∷ []) 0 (omega arith)
 fewer b (c ∷ d ∷ inside) behind e = e
 
--- behind the CR of a fold, and behind its LF
+-- after the CR of a fold, and after its LF
 ends-fold : (b : ℕ) (cs : List ℕ) (p p′ : ℕ) {alone here : State} → foldAt (b ∷ cs) 0 ≡ true → Ends lineFeed cs (p + 1) (p′ + 1) alone here → Ends characters.none (b ∷ cs) p p′ alone here
 unfolding charactersFrom
 ends-fold b cs p p′ h (faulty n q e) = faulty n q (rw (fold-here b cs p′ h) e)
@@ -95,7 +95,7 @@ module _ {base s : ℕ} where
 
 -- ---- from a "(" on that opens a comment
 
--- the bytes behind it close the comment, or scanning ends with a fault and no symbol behind it
+-- the bytes after it close the comment, or scanning ends with a fault and no symbol after it
 pub data Opens (state : State) (tail : List ℕ) (p : ℕ) : Type 0 where
   is-closed : BeginsWithComment (openByte ∷ tail) → Opens state tail p
   not-closed : (n q : ℕ) → scanFrom classTable (charactersFrom characters.none (openByte ∷ tail) p) state ≡ followedBy (endedBy state) (faultAt n q) → Opens state tail p
@@ -123,7 +123,7 @@ unfolding unlessFault
 fault-followed [] r = refl
 fault-followed (x ∷ xs) r = fault-followed xs r
 
--- the fault behind characters that lead to a state
+-- the fault after characters that lead to a state
 fault-behind : (xs ys : List Character) (state state′ : State) → stateAfter xs state ≡ some state′ → faultOf (scanFrom classTable (xs ++ ys) state) ≡ faultOf (scanFrom classTable ys state′)
 unfolding scanFrom
 fault-behind [] ys state state′ e = let f : state ≡ state′ = cc in ap (λ t. faultOf (scanFrom classTable ys t)) f

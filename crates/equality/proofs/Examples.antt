@@ -17,7 +17,7 @@ use Rattle.equality.specs.Believed.Comments.{isComment, commentMayFollow
 data Row : Type 0 where
   -- bytes that are one comment, and bytes that are not
   comment noComment : List ℕ → Row
-  -- a text whose body starts at a position, behind which a comment may stand, and one behind which none may
+  -- a text whose body starts at a position, after which a comment may stand, and one after which none may
   place noPlace : List ℕ → ℕ → Row
   -- two that are the same word, and two that are not
   sameWord otherWord : Word → Word → Row
@@ -45,7 +45,7 @@ rows =
     ∷ comment (bytes "(a(b)\")")
     -- a backslash takes the next byte
     ∷ comment (bytes "(\\)\\()")
-    -- a fold; CRLF behind a backslash is no fold, and the backslash takes the CR
+    -- a fold; CRLF after a backslash is no fold, and the backslash takes the CR
     ∷ comment (folded (bytes "(") (bytes " )"))
     ∷ comment (folded (bytes "(\\") (bytes ")"))
     -- no byte, no "(", no ")"
@@ -58,12 +58,12 @@ rows =
     ∷ noComment (bytes "(a) ")
     -- a stray CR
     ∷ noComment (folded (bytes "(") (bytes ")"))
-    -- outside, in an atom, in a comment, behind a quoted-string
+    -- outside, in an atom, in a comment, after a quoted-string
     ∷ place [] 0
     ∷ place (bytes "To: a at") 3
     ∷ place (bytes "a (b(\\\\") 0
     ∷ place (bytes "\"(\"") 0
-    -- in a quoted-string, behind a backslash there, behind one in a comment, behind a fault
+    -- in a quoted-string, after a backslash there, after one in a comment, after a fault
     ∷ noPlace (bytes "\"a") 0
     ∷ noPlace (bytes "\"a\\") 0
     ∷ noPlace (bytes "(a\\") 0

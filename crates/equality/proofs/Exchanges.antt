@@ -51,7 +51,7 @@ opened (b ∷ inside) c = let (o, l) = both-parts (eqb b openByte) _ c in record
 -- ---- a text with a comment in it
 
 module _ (pre post : List ℕ) (from : ℕ) where
-  -- the characters before the comment, its own, and those behind it
+  -- the characters before the comment, its own, and those after it
   comment-characters : (bytes : List ℕ) (c : Opened bytes)
       → charactersFrom characters.none (pre ++ (bytes ++ post)) from
       ≡ charactersFrom characters.none pre from ++ (charactersFrom characters.none (openByte ∷ c .inside) (from + length pre) ++ charactersFrom characters.none post (from + length pre + length bytes))

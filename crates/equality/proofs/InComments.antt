@@ -15,7 +15,7 @@ use Rattle.equality.proofs.ByteMoves as byte
 pub never : {A : Type 0} → false ≡ true → A
 never e = absurd (let o : _≡_ {A = ℕ} 0 1 = cc in omega arith)
 
--- what is left to close behind a move
+-- what is left to close after a move
 abbrev pub closesBy : List Character → Move → Bool
 closesBy rest m = closedBy (stateOf m) rest (λ state. closes rest state)
 

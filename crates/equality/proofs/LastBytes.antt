@@ -1,4 +1,4 @@
--- The last byte of a comment ends no line: so no fold begins in a comment and ends behind it. Assumes nothing.
+-- The last byte of a comment ends no line: so no fold begins in a comment and ends after it. Assumes nothing.
 use Prim.Native.Nat.{ℕ, _+_}
 use mathlib.Core.Path.{_≡_, refl, sym, ap, _∙_}
 use mathlib.Core.Bool.{Bool, true, false}
@@ -14,7 +14,7 @@ use Rattle.equality.specs.Believed.Comments.{isEmpty, closes}
 use Rattle.equality.proofs.InComments.{never, closesBy, Within, comment, taking, closes-within, Does, faults, leaves, goes-on, does}
 use Rattle.equality.proofs.Splits.{fold-here, lastByte, NoLineEnd, fold-enough}
 
--- ---- behind a character of a comment
+-- ---- after a character of a comment
 
 -- the comment is over, and so are the characters; or it goes on
 data Next (rest : List Character) : Type 0 where

@@ -1,4 +1,4 @@
--- Scanning through a comment: from wherever it may stand, what is behind it is scanned from the same state, whatever the comment. Assumes nothing.
+-- Scanning through a comment: from wherever it may stand, what is after it is scanned from the same state, whatever the comment. Assumes nothing.
 use Prim.Native.Nat.{ℕ, suc, _+_}
 use native.Mathlib.Omega.{arith}
 use mathlib.Core.Path.{_≡_, refl, sym, ap, _∙_}
@@ -30,7 +30,7 @@ module _ {base s : ℕ} (behind : List Character) where
   through-by {xs} {ys} a (leaves e f) h l = ap (λ m. then m (λ state. scanFrom classTable (ys ++ behind) state)) f ∙ empty-alike behind (closed base s) a (ap (closesBy xs) (sym e) ∙ l)
   through-by {xs} {ys} a (goes-on alone here w e f) h l = ap (λ m. then m (λ state. scanFrom classTable (ys ++ behind) state)) f ∙ h alone here w (sym (closes-within w xs) ∙ ap (closesBy xs) (sym e) ∙ l)
 
-  -- what closes a comment alone leads here to behind the ")" of the innermost comment around it
+  -- what closes a comment alone leads here to after the ")" of the innermost comment around it
   through : {xs ys : List Character} → AlikeCharacters xs ys → (alone here : State) → Within base s alone here → closes xs alone ≡ true → scanFrom classTable (ys ++ behind) here ≡ scanFrom classTable behind (closed base s)
   unfolding scanFrom
   through none-left alone here w l = never l
@@ -49,7 +49,7 @@ endedBy (takingInLiteral start) = []
 endedBy (inComment depth start) = []
 endedBy (takingInComment depth start) = []
 
--- the state behind a comment
+-- the state after a comment
 abbrev pub behindComment : State → State
 behindComment outside = outside
 behindComment (inAtom start end t) = outside

@@ -27,7 +27,7 @@ behind many text = replicate many 60 ++ text
 -- word 1, "at" 2, "<" 4, ">" 8, "@" 16, "," 32, ";" 64, ":" 128, the end 256
 abbrev rows : List Row
 rows =
-    -- behind a node nothing but "at", a comma or the end
+    -- after a node nothing but "at", a comma or the end
     row (bytes "a at b c") (2 + 16 + 32 + 256)
     -- a typed address wants an address
     ∷ row (bytes ":A:;;") (1 + 4 + 128)
@@ -36,10 +36,10 @@ rows =
     ∷ row (bytes "x") (1 + 2 + 4 + 16 + 128)
     -- at 64 levels the colon of a typed address opens nothing, and "<" would open level 65
     ∷ row (behind 63 (bytes ":A;")) (1 + 2 + 16 + 128)
-    -- .. and behind a quoted-string the colon would open it
+    -- .. and after a quoted-string the colon would open it
     ∷ row (behind 63 (bytes ":\"A\":")) (1 + 2 + 16 + 32 + 64)
     ∷ row (behind 65 []) (1 + 8 + 32)
-    -- behind "at" nothing but a word
+    -- after "at" nothing but a word
     ∷ row (bytes "a at at") 1
     -- where a list begins
     ∷ row (bytes ")") (1 + 4 + 32 + 128 + 256)

@@ -1,4 +1,4 @@
--- As many records as addresses, and the records of one address more, stored behind those of a place. Assumes nothing.
+-- As many records as addresses, and the records of one address more, stored after those of a place. Assumes nothing.
 use mathlib.Core.Path.{_≡_, refl, sym, ap, _∙_}
 use mathlib.Core.List.{List}
 use Prim.Native.Nat.{ℕ, suc, _+_, _*_}
@@ -30,7 +30,7 @@ mutual
 
 -- ---- one record after the other
 
--- the records of one address more, behind those of a place
+-- the records of one address more, after those of a place
 pub stored-behind : (table : List ℕ) (first : ℕ) (r : Slot) (a : Address) (depth parent : ℕ)
     → sets (sets table (first * addressRecordSize) (tableBytes (slotRecords r depth parent first))) ((first + slotCount r) * addressRecordSize) (tableBytes (addressRecords a depth parent (first + slotCount r)))
     ≡ sets table (first * addressRecordSize) (tableBytes (listRecords (full r a) depth parent first))

@@ -30,7 +30,7 @@ pub record Row : Type 0 where
   pub message : List String
   pub printed : List String
 
--- texts, each with these bytes behind it
+-- texts, each with these bytes after it
 abbrev pub ended : List ℕ → List String → List ℕ
 ended end [] = []
 ended end (line ∷ lines) = bytes line ++ (end ++ ended end lines)

@@ -1,4 +1,4 @@
--- The texts of the records of a table, one behind the other. Assumes nothing.
+-- The texts of the records of a table, one after the other. Assumes nothing.
 use mathlib.Core.Path.{_≡_, refl, ap}
 use mathlib.Core.List.{List, [], _∷_}
 use Prim.Native.Nat.{ℕ, suc, _+_, _-_, _≤_, _<_}
@@ -12,7 +12,7 @@ module _ {A : Type 0} (text : A → List ℕ → List ℕ) (thing : ℕ → A) (
   pub each-all : each text (tabulate thing many 0) rest ≡ each text (tabulate thing (many - 0) 0) rest
   each-all = let e : many - 0 ≡ many = omega arith in rw e
 
-  -- the next, and those behind it
+  -- the next, and those after it
   pub each-next : i < many → each text (tabulate thing (many - i) i) rest ≡ text (thing i) (each text (tabulate thing (many - (i + 1)) (i + 1)) rest)
   unfolding each tabulate
   each-next h = let e : many - i ≡ suc (many - (i + 1)) = omega arith in rw e

@@ -90,7 +90,7 @@ fn put_signed(x: i64, from: usize, out: &mut [u8], n: usize) -> usize
     put_decimal(x as u64, from, out, n)
 }
 
-// A number behind one SPACE.
+// A number after one SPACE.
 fn put_number(x: usize, from: usize, out: &mut [u8], n: usize) -> usize
     requires { ⌜ n + 21 ≤ countLimit ⌝ }
     ensures { λ r. ⌜ WroteBy (inWindow from) (numberText x) (now (out .entry)) n (now (out .exit)) r × (r ≤ n + 21) ⌝ }

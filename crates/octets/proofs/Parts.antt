@@ -15,7 +15,7 @@ module _ {A : Type 0} where
   no-front [] rest e = refl
   no-front (x ∷ front) rest e = absurd (omega arith)
 
-  -- from a place on: the element there, and those behind it
+  -- from a place on: the element there, and those after it
   pub from-here : (l : List A) (i : ℕ) (d : A) → i < length l → drop i l ≡ getD l i d ∷ drop (i + 1) l
   from-here l i d h = rw add-one (drop-cons l i d h)
 
@@ -24,7 +24,7 @@ module _ {A : Type 0} where
   sets-out [] table i h = refl
   sets-out (v ∷ vs) table i h = rw (set-out table i v h) (sets-out vs table (suc i) (omega arith))
 
-  -- two runs, one behind the other, are one
+  -- two runs, one after the other, are one
   pub sets-append : (vs ws table : List A) (i : ℕ) → sets table i (vs ++ ws) ≡ sets (sets table i vs) (i + length vs) ws
   sets-append [] ws table i = rw (add-zero i)
   sets-append (v ∷ vs) ws table i =
@@ -37,7 +37,7 @@ module _ {A : Type 0} where
   set-sets (w ∷ vs) table i j v h =
       rw (set-comm table i j v w (λ e. absurd (omega arith))) (set-sets vs (set table j w) i (suc j) v (omega arith))
 
-  -- of two runs, one behind the other, either may be stored first
+  -- of two runs, one after the other, either may be stored first
   pub sets-behind-first : (vs ws table : List A) (i : ℕ) → sets (sets table (i + length vs) ws) i vs ≡ sets table i (vs ++ ws)
   sets-behind-first [] ws table i = rw (add-zero i)
   sets-behind-first (v ∷ vs) ws table i =
@@ -49,7 +49,7 @@ module _ {A : Type 0} where
   take-sets [] table i n h = refl
   take-sets (v ∷ vs) table i n h = take-sets vs (set table i v) (suc i) n (omega arith) ∙ take-set-le n table i v h
 
-  -- what stands behind it stays
+  -- what stands after it stays
   pub drop-sets : (vs table : List A) (i n : ℕ) → i + length vs ≤ n → drop n (sets table i vs) ≡ drop n table
   drop-sets [] table i n h = refl
   drop-sets (v ∷ vs) table i n h = drop-sets vs (set table i v) (suc i) n (omega arith) ∙ drop-set-lt n table i v (omega arith)

@@ -25,7 +25,7 @@ module _ {store : List ℕ → ℕ → List ℕ → List ℕ} where
   wrote-as {o = o} {n = n} e w =
       record { same = λ rest. ap (store o n) (sym (e rest)) ∙ w .same rest; count = λ rest. ap (λ t. n + length t) (sym (e rest)) ∙ w .count rest }
 
-  -- one text behind another
+  -- one text after another
   pub wrote-both : {f g : List ℕ → List ℕ} {o p q : List ℕ} {n m k : ℕ} → WroteBy store f o n p m → WroteBy store g p m q k → WroteBy store (λ rest. f (g rest)) o n q k
   wrote-both {f} {g} a b = record { same = λ rest. a .same (g rest) ∙ b .same rest; count = λ rest. a .count (g rest) ∙ b .count rest }
 
@@ -53,7 +53,7 @@ module _ (from : ℕ) (out : List ℕ) (n b : ℕ) where
   unfolding inWindow
   byte-within h = rw (le-leb from n h)
 
-  -- a byte, and what stands behind it
+  -- a byte, and what stands after it
   window-byte : (rest : List ℕ) → inWindow from out n (b ∷ rest) ≡ inWindow from (inWindow from out n (b ∷ [])) (n + 1) rest
   unfolding inWindow
   window-byte rest =

@@ -70,7 +70,7 @@ dataKeys = 0 ∷ 1 ∷ 3 ∷ 4 ∷ 5 ∷ 8 ∷ 10 ∷ 11 ∷ []
 abbrev pub takenKeys : List ℕ
 takenKeys = 0 ∷ 1 ∷ 2 ∷ 3 ∷ 4 ∷ 5 ∷ 6 ∷ 7 ∷ 8 ∷ 10 ∷ 11 ∷ []
 
--- a byte of this kind is data as the plain text writes it: as it is, or behind a backslash
+-- a byte of this kind is data as the plain text writes it: as it is, or after a backslash
 abbrev pub fits : ℕ → ℕ → Bool
 fits b n = pick (needsBackslash b) (hasKey takenKeys n) (hasKey dataKeys n)
 

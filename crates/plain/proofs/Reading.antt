@@ -239,7 +239,7 @@ greater-ends : {r : List ℕ} → Ends (62 ∷ r)
 unfolding kindOf classTable classOf
 greater-ends = by-byte isGreater tt refl
 
--- behind words an atom must end
+-- after words an atom must end
 abbrev EndsWords : Words → List ℕ → Type 0
 EndsWords noWord r = Unit {0}
 EndsWords (andWord before w) r = Ends r
@@ -270,7 +270,7 @@ phrase-words : (ws : Words) → WritablePhrase ws → WritableWords ws
 phrase-words noWord f = absurd f
 phrase-words (andWord before w) f = f
 
--- behind a phrase a node follows
+-- after a phrase a node follows
 ends-nodes : (name nodes : Words) (r : List ℕ) → WritablePhrase nodes → EndsWords name (nodesText nodes r)
 ends-nodes name noWord r f = absurd f
 ends-nodes name (andWord noWord w) r f = ends-words name space
@@ -289,7 +289,7 @@ reads-gap (andWord words w) noAddress R = R
 reads-gap noWord (andAddress before last) R = pick-gap (firstAtomGroup (andAddress before last)) R
 reads-gap (andWord words w) (andAddress before last) R = reads-space R
 
--- behind addresses an atom must end
+-- after addresses an atom must end
 abbrev EndsList : WritableList → List ℕ → Type 0
 EndsList empty r = Unit {0}
 EndsList (also l a) r = Ends r

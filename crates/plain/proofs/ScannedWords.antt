@@ -305,7 +305,7 @@ nodes-fine (trees.next m t w) xs g =
     let (f′, h′) = word-fine w xs (h .1) in
     ((f, f′), (f, f′), h′)
 
--- a writable list with the meaning of a tree, and the symbols behind the tree
+-- a writable list with the meaning of a tree, and the symbols after the tree
 record FineList (m : Addresses) (xs : List Sym) : Type 0 where
   list : WritableList
   is : listOf list ≡ m

@@ -95,7 +95,7 @@ less-by later x h (no-symbol e) = rw e (omega (arith, x .starts, x .within))
 less-by later x h (a-symbol y) = rw (y .same) (omega (arith, x .starts, x .within, y .from, y .starts, y .within, h))
 less-by later x h (a-fault e) = rw e (omega (arith, x .starts, x .within))
 
--- it falls, behind a symbol or further on
+-- it falls, after a symbol or further on
 pub behind-falls : {classes text : List ℕ} {at : ℕ} {class : Class} {first end : ℕ} {coming next′ : Next} (later : ℕ) → SymbolAt classes text at class first end → end ≤ later → coming ≡ Found class first end
     → next′ ≡ nextOf (scanBy classes text later) → behind (length text) next′ < behind (length text) coming
 behind-falls {classes} {text} later x h e k = rw (e, k) (less-by later x h (unfolded classes text later))
@@ -104,7 +104,7 @@ pub behind-less : {classes text : List ℕ} {at : ℕ} {class : Class} {first en
     → later ≡ nextOf (scanBy classes text end) → behind (length text) later < behind (length text) coming
 behind-less {end = end} x e k = behind-falls end x (omega arith) e k
 
--- ---- a gap, and what stands behind it
+-- ---- a gap, and what stands after it
 
 pub wrote-gap : {gap gap′ : Gap} {g : List ℕ → List ℕ} {o p q : List ℕ} {n m k : ℕ} → gap ≡ gap′ → Wrote (gapText gap) o n p m → Wrote g p m q k → Wrote (λ rest. gapText gap′ (g rest)) o n q k
 wrote-gap {gap} {gap′} {g} e a b = wrote-both {f = gapText gap′} {g = g} (rw e at a) b

@@ -33,7 +33,7 @@ pub walk-node : (w : trees.Word) (xs : List Sym) → walkText Node (wordSymbol w
 walk-node (atomWord t) xs = refl
 walk-node (quotedWord t) xs = refl
 
--- behind a phrase stands SPACE
+-- after a phrase stands SPACE
 pub space-behind : (p : Phrase) (r : List ℕ) → spaceBehind (phraseMeaning p) r ≡ 32 ∷ r
 space-behind (one w) r = refl
 space-behind (more p w) r = refl
@@ -66,7 +66,7 @@ pub walk-nodes : (m : Nodes) (xs : List Sym) → walkText Word (nodesThen m xs) 
 walk-nodes (first t w) xs = ap (λ r. bytes " at" ++ r) (walk-node w xs)
 walk-nodes (next m t w) xs = walk-nodes m (of At t ∷ wordSymbol w ∷ xs) ∙ ap (λ r. nodesText (nodesMeaning m) (bytes " at" ++ r)) (walk-node w xs)
 
--- ---- places behind trees
+-- ---- places after trees
 
 abbrev pub behind : trees.Address → Place
 behind (mailbox p m) = Word
@@ -84,7 +84,7 @@ abbrev mutual
   behindList place (idle r) = behindPlace place r
   behindList place (full r a) = behind a
 
--- how a list begins: at the start or behind "<"; behind the ":" of a nameless group; behind that of a named one
+-- how a list begins: at the start or after "<"; after the ":" of a nameless group; after that of a named one
 pub data Begin : Type 0 where
   plainly barely namely : Begin
 
@@ -164,7 +164,7 @@ walk-colon Node t xs h = absurd h
 walk-colon Closed t xs h = absurd h
 walk-colon Parted t xs h = refl
 
--- behind a nameless ":" no atom and ":" stand
+-- after a nameless ":" no atom and ":" stand
 abbrev pub Clear : Begin → Bool → Type 0
 Clear plainly x = Unit {0}
 Clear barely x = x ≡ false

@@ -72,7 +72,7 @@ fn needs_backslash(b: u8) -> bool
     b == b'\n'
 }
 
-// One byte of data, behind a backslash where it needs one.
+// One byte of data, after a backslash where it needs one.
 fn put_datum(out: &mut [u8], n: usize, b: u8) -> usize
     requires { ⌜ n + 2 ≤ countLimit ⌝ }
     ensures { λ r. ⌜ Wrote (λ rest. backslashText (needsBackslash b) (b ∷ rest)) (now (out .entry)) n (now (out .exit)) r × (r ≤ n + 2) ⌝ }

@@ -4,23 +4,23 @@ ghost use Rattle.plain.specs.Ties.Walking.{gapBefore, gapBeforeColon, af
 use scanner::Class;
 
 pub enum Place {
-    // At the start of a list, or behind "<", and commas.
+    // At the start of a list, or after "<", and commas.
     Start,
-    // Behind a ":" that opens an address, ..
+    // After a ":" that opens an address, ..
     Bare,
     // .. and commas.
     BareComma,
-    // Behind the ":" of a group with a name or the second one of a typed address, and commas.
+    // After the ":" of a group with a name or the second one of a typed address, and commas.
     Named,
-    // Behind the atom of a typed address.
+    // After the atom of a typed address.
     Typing,
-    // Behind a word.
+    // After a word.
     Word,
-    // Behind "at".
+    // After "at".
     Node,
-    // Behind ">" or ";".
+    // After ">" or ";".
     Closed,
-    // Behind an address and commas.
+    // After an address and commas.
     Parted,
 }
 
@@ -75,7 +75,7 @@ pub(crate) fn gap_before_colon(place: Place) -> Gap
     }
 }
 
-// The place behind an atom.
+// The place after an atom.
 pub fn after_atom(place: Place, colon: bool) -> Place
     ensures { λ r. ⌜ r ≡ afterAtom place colon ⌝ }
 {
@@ -97,7 +97,7 @@ pub fn after_atom(place: Place, colon: bool) -> Place
     }
 }
 
-// The place behind ":".
+// The place after ":".
 pub(crate) fn after_colon(place: Place) -> Place
     ensures { λ r. ⌜ r ≡ afterColon place ⌝ }
 {
@@ -114,7 +114,7 @@ pub(crate) fn after_colon(place: Place) -> Place
     }
 }
 
-// The place behind a comma.
+// The place after a comma.
 pub fn after_comma(place: Place) -> Place
     ensures { λ r. ⌜ r ≡ afterComma place ⌝ }
 {
@@ -131,7 +131,7 @@ pub fn after_comma(place: Place) -> Place
     }
 }
 
-// The place behind a symbol.
+// The place after a symbol.
 pub fn after(class: Class, place: Place, colon: bool) -> Place
     ensures { λ r. ⌜ r ≡ placeAfter class place colon ⌝ }
 {

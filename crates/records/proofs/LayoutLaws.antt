@@ -44,7 +44,7 @@ stored-by parts xs before at after s = let z : at + 0 ≡ at = omega arith in rw
 
 -- ---- read back
 
--- of two runs, one behind the other, the bytes of the first, and those of the second
+-- of two runs, one after the other, the bytes of the first, and those of the second
 pub bytes-first : (width : ℕ) (run rest : List ℕ) (k : ℕ) → k + width ≤ length run → bytesAt width (run ++ rest) k ≡ bytesAt width run k
 bytes-first zero run rest k h = refl
 bytes-first (suc width) run rest k h =
@@ -56,7 +56,7 @@ bytes-second (suc width) run rest k =
     let e : length run + k + 1 ≡ length run + (k + 1) = omega arith in
     ap₂ (λ b bytes. b ∷ bytes) (getD-append-add run rest k 0) (rw e (bytes-second width run rest (k + 1)))
 
--- the bytes of a run, all of them, behind others
+-- the bytes of a run, all of them, after others
 bytes-all : (front run rest : List ℕ) → bytesAt (length run) (front ++ (run ++ rest)) (length front) ≡ run
 bytes-all front [] rest = refl
 bytes-all front (b ∷ run) rest =

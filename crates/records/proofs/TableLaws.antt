@@ -1,4 +1,4 @@
--- Records stored in a table one behind the other, over any layout. Assumes nothing.
+-- Records stored in a table one after the other, over any layout. Assumes nothing.
 use mathlib.Core.Path.{_≡_, refl, sym, ap, _∙_}
 use mathlib.Core.List.{List, [], _∷_, _++_, append-assoc, append-nil}
 use Prim.Native.Nat.{ℕ, suc, _+_, _*_}
@@ -23,14 +23,14 @@ module _ {A : Type 0} (layout : Layout A) where
   table-append [] ss = refl
   table-append (r ∷ rs) ss = ap (λ t. bytesIn layout r ++ t) (table-append rs ss) ∙ sym (append-assoc (bytesIn layout r) (tableIn layout rs) (tableIn layout ss))
 
-  -- records behind others
+  -- records after others
   pub stored-behind : (table : List ℕ) (n : ℕ) (rs ss : List A)
       → sets (sets table (n * sizeIn layout) (tableIn layout rs)) ((n + length rs) * sizeIn layout) (tableIn layout ss) ≡ sets table (n * sizeIn layout) (tableIn layout (rs ++ ss))
   stored-behind table n rs ss =
       let q : (n + length rs) * sizeIn layout ≡ n * sizeIn layout + length (tableIn layout rs) = omega (arith, add-mul n (length rs) (sizeIn layout), length-table rs) in
       rw (q, table-append rs ss) (sym (sets-append (tableIn layout rs) (tableIn layout ss) table (n * sizeIn layout)))
 
-  -- a record, and then those behind it
+  -- a record, and then those after it
   pub stored-first : (table : List ℕ) (n : ℕ) (r : A) (rs : List A)
       → sets table (n * sizeIn layout) (tableIn layout (r ∷ rs)) ≡ sets (sets table (n * sizeIn layout) (bytesIn layout r)) (suc n * sizeIn layout) (tableIn layout rs)
   stored-first table n r rs =
@@ -44,7 +44,7 @@ module _ {A : Type 0} (layout : Layout A) where
       let q : suc n * sizeIn layout ≡ n * sizeIn layout + length (bytesIn layout r) = omega (arith, suc-mul n (sizeIn layout), length-bytes r) in
       f ∙ rw (e, q) (sets-behind-first (bytesIn layout r) (tableIn layout rs) table (n * sizeIn layout))
 
-  -- a record behind all others
+  -- a record after all others
   pub stored-last : (table : List ℕ) (rs : List A) (r : A) → sets (sets table 0 (tableIn layout rs)) (length rs * sizeIn layout) (bytesIn layout r) ≡ sets table 0 (tableIn layout (rs ++ (r ∷ [])))
   stored-last table rs r =
       let n : length rs * sizeIn layout ≡ 0 + length (tableIn layout rs) = omega (arith, length-table rs) in

@@ -64,7 +64,7 @@ fold-in-comment = whole (bytes "(" ++ (crlf ++ bytes "\t) a")) (Comment ∷ Comm
 fold-in-quoted : Row
 fold-in-quoted = whole (bytes "\"" ++ (crlf ++ bytes " \" a")) (Word ∷ Word ∷ Word ∷ Word ∷ Word ∷ White ∷ Word ∷ Nothing ∷ [])
 
--- comments right behind an atom, one in another, with what backslashes take, and at the end
+-- comments right after an atom, one in another, with what backslashes take, and at the end
 comments : Row
 comments = whole (bytes "a(b(\\)))c () ") (Word ∷ Comment ∷ Comment ∷ Comment ∷ Comment ∷ Comment ∷ Comment ∷ Comment ∷ Word ∷ White ∷ Comment ∷ Comment ∷ White ∷ Nothing ∷ [])
 
@@ -76,7 +76,7 @@ no-symbol = whole (bytes " (,) ") (White ∷ Comment ∷ Comment ∷ Comment ∷
 stray : Row
 stray = whole (bytes "a )") (Word ∷ White ∷ Nothing ∷ Nothing ∷ [])
 
--- a fault, before or behind the place
+-- a fault, before or after the place
 faulty : Row
 faulty = whole (bytes "a \"b") (replicate 5 Nothing)
 

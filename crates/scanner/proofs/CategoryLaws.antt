@@ -25,8 +25,8 @@ use Rattle.scanner.specs.declared.Gap.the-variants.{Outside, Comment, Ta
 use Rattle.scanner.specs.declared.Passed.the-variants.{To, Over}
 use Rattle.scanner.specs.declared.Class.{Class}
 use Rattle.scanner.specs.declared.Class.the-variants.{Atom, Quoted, At, LessThan, GreaterThan, Comma, Semicolon, Colon, Stray, Dot, Literal}
-use Rattle.scanner.specs.declared.Kind.{Kind}
-use Rattle.scanner.specs.declared.Kind.the-variants.{White, Control, Return, Plain, Open, Close, Quote, Backslash, Mark, Above, OpenBracket, CloseBracket}
+use Rattle.scanner.specs.declared.ByteKind.{ByteKind}
+use Rattle.scanner.specs.declared.ByteKind.the-variants.{White, Control, Return, Plain, Open, Close, Quote, Backslash, Mark, Above, OpenBracket, CloseBracket}
 use Rattle.scanner.specs.declared.Category.{Category}
 use Rattle.scanner.specs.declared.Category.the-variants as category
 use Rattle.scanner.proofs.Class.{the-type}
@@ -81,10 +81,10 @@ by-place classes text Literal start end = refl
 -- ---- between symbols
 
 -- a byte that begins a symbol or is a fault
-abbrev pub NoGap : Kind → Type 0
+abbrev pub NoGap : ByteKind → Type 0
 NoGap kind = OneOf (1 ∷ 2 ∷ 3 ∷ 5 ∷ 6 ∷ 7 ∷ 8 ∷ 9 ∷ 10 ∷ 11 ∷ []) (tag kind)
 
-leads-nowhere : (kind : Kind) (b p : ℕ) (folded : Bool) (rest : State → Category) → NoGap kind → (takenIn outside kind ≡ category.Nothing) × (behind (move outside kind b p folded) rest ≡ category.Nothing)
+leads-nowhere : (kind : ByteKind) (b p : ℕ) (folded : Bool) (rest : State → Category) → NoGap kind → (takenIn outside kind ≡ category.Nothing) × (behind (move outside kind b p folded) rest ≡ category.Nothing)
 leads-nowhere White b p folded rest o = absurd (miss (1 ∷ 2 ∷ 3 ∷ 5 ∷ 6 ∷ 7 ∷ 8 ∷ 9 ∷ 10 ∷ 11 ∷ []) 0 tt o)
 leads-nowhere Control b p folded rest o = (refl, refl)
 leads-nowhere Return b p folded rest o = (refl, refl)
@@ -100,14 +100,14 @@ leads-nowhere CloseBracket b p folded rest o = (refl, refl)
 
 -- ---- one character on
 
--- to a place behind it, its move leads on ..
-pub moves-on : {classes text : List ℕ} {at : ℕ} {kind : Kind} {p q : ℕ} → (x : FirstCharacter classes text at kind p q) (state : State) (place : ℕ) → q ≤ place
+-- to a place after it, its move leads on ..
+pub moves-on : {classes text : List ℕ} {at : ℕ} {kind : ByteKind} {p q : ℕ} → (x : FirstCharacter classes text at kind p q) (state : State) (place : ℕ) → q ≤ place
     → between classes place (charactersAt text at) state ≡ behind (move state kind (getD text p 0) p (x .folded)) (λ state′. between classes place (charactersAt text q) state′)
 unfolding between
 moves-on {p = p} x state place h = rw (x .characters, between, lt-ltb p place (omega (arith, x .behind)), ← (x .kind-is))
 
 -- .. and at a place up to it, it tells itself
-pub tells : {classes text : List ℕ} {at : ℕ} {kind : Kind} {p q : ℕ} → FirstCharacter classes text at kind p q → (state : State) (place : ℕ) → place < q
+pub tells : {classes text : List ℕ} {at : ℕ} {kind : ByteKind} {p q : ℕ} → FirstCharacter classes text at kind p q → (state : State) (place : ℕ) → place < q
     → between classes place (charactersAt text at) state ≡ takenIn state kind
 unfolding between
 tells {p = p} x state place h = rw (x .characters, between, le-ltb p place (omega (arith, x .behind)), ← (x .kind-is))
@@ -119,7 +119,7 @@ over classes text at place state e = rw e
 
 -- ---- a walk between symbols
 
--- from outside at a position scanning has come to another, still between symbols, and the place lies behind it
+-- from outside at a position scanning has come to another, still between symbols, and the place lies after it
 pub record Walked (classes text : List ℕ) (place at p : ℕ) (gap : Gap) : Type 0 where
   pub outermost : ℕ
   pub same : between classes place (charactersAt text at) outside ≡ between classes place (charactersAt text p) (stateOf gap outermost)
@@ -131,13 +131,13 @@ module _ {classes text : List ℕ} {place at p : ℕ} {gap : Gap} (w : Walked cl
   pub walk-over : charactersAt text p ≡ [] → category.Nothing ≡ between classes place (charactersAt text at) outside
   walk-over e = sym (w .same ∙ over classes text p place (stateOf gap (w .outermost)) e)
 
-  pub walk-tells : {kind : Kind} {here q : ℕ} {r : Category} → FirstCharacter classes text p kind here q → place < q → GapCategoryIs gap kind r → r ≡ between classes place (charactersAt text at) outside
+  pub walk-tells : {kind : ByteKind} {here q : ℕ} {r : Category} → FirstCharacter classes text p kind here q → place < q → GapCategoryIs gap kind r → r ≡ between classes place (charactersAt text at) outside
   walk-tells x h e = e (w .outermost) ∙ sym (w .same ∙ tells x (stateOf gap (w .outermost)) place h)
 
-  pub walk-ends : {kind : Kind} {here q : ℕ} → FirstCharacter classes text p kind here q → q ≤ place → PassedIs gap kind Over → category.Nothing ≡ between classes place (charactersAt text at) outside
+  pub walk-ends : {kind : ByteKind} {here q : ℕ} → FirstCharacter classes text p kind here q → q ≤ place → PassedIs gap kind Over → category.Nothing ≡ between classes place (charactersAt text at) outside
   walk-ends {here = here} x h e = sym (w .same ∙ moves-on x (stateOf gap (w .outermost)) place h ∙ e (w .outermost) (getD text here 0) here (x .folded) _)
 
-  pub walk-on : {kind : Kind} {here q : ℕ} {next : Gap} → FirstCharacter classes text p kind here q → q ≤ place → PassedIs gap kind (To next) → Walked classes text place at q next
+  pub walk-on : {kind : ByteKind} {here q : ℕ} {next : Gap} → FirstCharacter classes text p kind here q → q ≤ place → PassedIs gap kind (To next) → Walked classes text place at q next
   walk-on {here = here} x h e =
       let l = e (w .outermost) (getD text here 0) here (x .folded) in
       record { outermost = l .outermost; same = w .same ∙ moves-on x (stateOf gap (w .outermost)) place h ∙ l .same _ }
@@ -151,7 +151,7 @@ white-passed start b p folded = record { outermost = start; same = λ rest. refl
 pub open-passed : PassedIs Outside Open (To (Comment 0))
 open-passed start b p folded = record { outermost = p; same = λ rest. refl }
 
-pub none-passed : (kind : Kind) → NoGap kind → PassedIs Outside kind Over
+pub none-passed : (kind : ByteKind) → NoGap kind → PassedIs Outside kind Over
 none-passed kind o start b p folded rest = leads-nowhere kind b p folded rest o .1
 
 -- in a comment
@@ -167,17 +167,17 @@ closes-one depth n start b p folded = record { outermost = start; same = λ rest
 pub takes-next : (depth : ℕ) → PassedIs (Comment depth) Backslash (To (Taking depth))
 takes-next depth start b p folded = record { outermost = start; same = λ rest. refl }
 
-pub text-passed : (depth : ℕ) (kind : Kind) → Text kind → PassedIs (Comment depth) kind (To (Comment depth))
+pub text-passed : (depth : ℕ) (kind : ByteKind) → Text kind → PassedIs (Comment depth) kind (To (Comment depth))
 text-passed depth kind o start b p folded = record { outermost = start; same = λ rest. rw (comment-text kind depth start b p folded o) }
 
-pub taken-passed : (depth : ℕ) (kind : Kind) → Taken kind → PassedIs (Taking depth) kind (To (Comment depth))
+pub taken-passed : (depth : ℕ) (kind : ByteKind) → Taken kind → PassedIs (Taking depth) kind (To (Comment depth))
 taken-passed depth kind o start b p folded = record { outermost = start; same = λ rest. rw (taken kind (inComment depth start) p o) }
 
 pub above-passed : (depth : ℕ) → PassedIs (Taking depth) Above Over
 above-passed depth start b p folded rest = refl
 
 -- a CR or a byte above 127 is a fault there
-pub fault-passed : (depth : ℕ) (kind : Kind) → OneOf (2 ∷ 9 ∷ []) (tag kind) → PassedIs (Comment depth) kind Over
+pub fault-passed : (depth : ℕ) (kind : ByteKind) → OneOf (2 ∷ 9 ∷ []) (tag kind) → PassedIs (Comment depth) kind Over
 fault-passed depth White o start b p folded rest = absurd (miss (2 ∷ 9 ∷ []) 0 tt o)
 fault-passed depth Control o start b p folded rest = absurd (miss (2 ∷ 9 ∷ []) 1 tt o)
 fault-passed depth Return o start b p folded rest = refl
@@ -192,11 +192,11 @@ fault-passed depth OpenBracket o start b p folded rest = absurd (miss (2 ∷ 9 �
 fault-passed depth CloseBracket o start b p folded rest = absurd (miss (2 ∷ 9 ∷ []) 11 tt o)
 
 -- what it is outside, where it is no white space and opens no comment
-pub none-told : (kind : Kind) → NoGap kind → GapCategoryIs Outside kind category.Nothing
+pub none-told : (kind : ByteKind) → NoGap kind → GapCategoryIs Outside kind category.Nothing
 none-told kind o start = sym (leads-nowhere kind 0 0 false (λ state. category.Nothing) o .0)
 
 -- .. and in a comment
-pub comment-told : (gap : Gap) (kind : Kind) → OneOf (1 ∷ 2 ∷ []) (tagOf gap-declared.the-type gap) → GapCategoryIs gap kind category.Comment
+pub comment-told : (gap : Gap) (kind : ByteKind) → OneOf (1 ∷ 2 ∷ []) (tagOf gap-declared.the-type gap) → GapCategoryIs gap kind category.Comment
 comment-told Outside kind o start = absurd (miss (1 ∷ 2 ∷ []) 0 tt o)
 comment-told (Comment depth) kind o start = refl
 comment-told (Taking depth) kind o start = refl
@@ -208,7 +208,7 @@ pub category-over : (classes text : List ℕ) (at place : ℕ) → scanBy classe
 unfolding categoryOf
 category-over classes text at place e = rw e
 
--- before the next symbol, in it, and behind it
+-- before the next symbol, in it, and after it
 module _ {classes text : List ℕ} {at : ℕ} {class : Class} {start end : ℕ} (x : SymbolAt classes text at class start end) (place : ℕ) where
   pub category-before : place < start → categoryOf classes text place at (scanBy classes text at) ≡ between classes place (charactersAt text at) outside
   unfolding categoryOf
@@ -228,7 +228,7 @@ module _ (message : List ℕ) (start end place : ℕ) where
   pub category-refused : {number p : ℕ} → Refused number p ≡ bodyScanned message start end → categoryAt message start end place ≡ category.Nothing
   category-refused e = when-refused message start end ofRefused _ e
 
-  -- a place before the body, behind it, and in it
+  -- a place before the body, after it, and in it
   pub category-ahead : Clean message start end → place < start → categoryAt message start end place ≡ category.Nothing
   category-ahead x h = when-clean message start end ofRefused _ x ∙ rw (lt-leb start place h)
 

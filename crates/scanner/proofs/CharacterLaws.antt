@@ -19,8 +19,8 @@ use Rattle.octets.proofs.Parts.{from-here}
 use Rattle.scanner.specs.Believed.Kinds.{kindOf}
 use Rattle.scanner.specs.Believed.Characters.{character, foldAt, none, charactersFrom, charactersAt}
 use Rattle.scanner.specs.Ties.Steps.{FirstCharacter}
-use Rattle.scanner.specs.declared.Kind.{Kind}
-use Rattle.scanner.specs.declared.Kind.the-variants.{White, Return}
+use Rattle.scanner.specs.declared.ByteKind.{ByteKind}
+use Rattle.scanner.specs.declared.ByteKind.the-variants.{White, Return}
 
 -- past the end there is none
 pub no-character : (text : List ℕ) (at : ℕ) → length text ≤ at → charactersAt text at ≡ []
@@ -47,7 +47,7 @@ fold-here : (a b c : ℕ) (rest : List ℕ) (p : ℕ) → foldAt (a ∷ b ∷ c 
 unfolding charactersFrom
 fold-here a b c rest p h = rw (h, charactersFrom)
 
--- behind its CRLF stands SPACE or HTAB
+-- after its CRLF stands SPACE or HTAB
 fold-white : (text : List ℕ) (i : ℕ) → foldAt text i ≡ true → (getD text (i + 2) 0 ≡ 32) ⊎ (getD text (i + 2) 0 ≡ 9)
 fold-white text i e =
     let two = both-parts (crlfAt text i) _ e in
@@ -96,7 +96,7 @@ line-end text i e = rw e
 
 module _ (classes text : List ℕ) (at : ℕ) where
   -- a byte that starts no fold
-  pub plain-first : {kind : Kind} → at < length text → foldAt text at ≡ false → kind ≡ kindOf classes (getD text at 0) → FirstCharacter classes text at kind at (at + 1)
+  pub plain-first : {kind : ByteKind} → at < length text → foldAt text at ≡ false → kind ≡ kindOf classes (getD text at 0) → FirstCharacter classes text at kind at (at + 1)
   plain-first h e k =
       record { folded = false; characters = plain-at text at h e; kind-is = k; from = omega arith; behind = refl; within = omega arith; tight = λ n. refl }
 
@@ -108,7 +108,7 @@ module _ (classes text : List ℕ) (at : ℕ) where
   -- there is a first character, or the text has ended
   pub data View : Type 0 where
     over : charactersAt text at ≡ [] → View
-    one : {kind : Kind} {p q : ℕ} → FirstCharacter classes text at kind p q → View
+    one : {kind : ByteKind} {p q : ℕ} → FirstCharacter classes text at kind p q → View
 
   by-fold : (fold : Bool) → at < length text → foldAt text at ≡ fold → View
   by-fold true h e = one (fold-first e)

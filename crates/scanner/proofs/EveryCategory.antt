@@ -23,8 +23,8 @@ use Rattle.scanner.specs.declared.Class.{Class}
 use Rattle.scanner.specs.declared.Class.the-variants.{Atom, Quoted, At, LessThan, GreaterThan, Comma, Semicolon, Colon, Stray, Dot, Literal}
 use Rattle.scanner.specs.declared.Gap.{Gap}
 use Rattle.scanner.specs.declared.Gap.the-variants.{Outside, Comment, Taking}
-use Rattle.scanner.specs.declared.Kind.{Kind}
-use Rattle.scanner.specs.declared.Kind.the-variants.{White, Control, Return, Plain, Open, Close, Quote, Backslash, Mark, Above, OpenBracket, CloseBracket}
+use Rattle.scanner.specs.declared.ByteKind.{ByteKind}
+use Rattle.scanner.specs.declared.ByteKind.the-variants.{White, Control, Return, Plain, Open, Close, Quote, Backslash, Mark, Above, OpenBracket, CloseBracket}
 use Rattle.scanner.specs.declared.Category.{Category}
 use Rattle.scanner.specs.declared.Category.the-variants as category
 use Rattle.scanner.proofs.CharacterLaws.{View, over, one, view, none-left}
@@ -75,7 +75,7 @@ closes : (depth start : ℕ) → Stays (go [] (closed depth start))
 closes zero start = stays Outside start refl
 closes (suc depth) start = stays (Comment depth) start refl
 
-in-comment : (kind : Kind) (depth start p : ℕ) → Stays (moveInComment kind depth start p)
+in-comment : (kind : ByteKind) (depth start p : ℕ) → Stays (moveInComment kind depth start p)
 in-comment White depth start p = stays (Comment depth) start refl
 in-comment Control depth start p = stays (Comment depth) start refl
 in-comment Return depth start p = halts _ p refl
@@ -89,7 +89,7 @@ in-comment Above depth start p = halts _ p refl
 in-comment OpenBracket depth start p = stays (Comment depth) start refl
 in-comment CloseBracket depth start p = stays (Comment depth) start refl
 
-taking : (kind : Kind) (depth start p : ℕ) → Stays (scanning.take kind (inComment depth start) p)
+taking : (kind : ByteKind) (depth start p : ℕ) → Stays (scanning.take kind (inComment depth start) p)
 taking White depth start p = stays (Comment depth) start refl
 taking Control depth start p = stays (Comment depth) start refl
 taking Return depth start p = stays (Comment depth) start refl
@@ -112,21 +112,21 @@ module _ (classes text : List ℕ) (place : ℕ) where
   ToldFrom at state = Told (between classes place (charactersAt text at) state)
 
   -- outside, such a character is white space or opens a comment
-  outside-stays : {at p : ℕ} {kind : Kind} (b : ℕ) (folded : Bool) → OutsideIs classes text at kind p → at ≤ place → None at outside → Told (takenIn outside kind) × Stays (move outside kind b p folded)
+  outside-stays : {at p : ℕ} {kind : ByteKind} (b : ℕ) (folded : Bool) → OutsideIs classes text at kind p → at ≤ place → None at outside → Told (takenIn outside kind) × Stays (move outside kind b p folded)
   outside-stays {p = p} b folded white-space h n = (tt, stays Outside 0 refl)
   outside-stays {p = p} b folded opens-comment h n = (tt, stays (Comment 0) p refl)
   outside-stays b folded (begins e s) h n = let l = rw (s .same) at n in absurd (omega arith)
   outside-stays b folded (faulty e) h n = absurd (rw e at n)
 
   -- .. and in a comment it is comment
-  each-stays : (gap : Gap) (start : ℕ) {at p q : ℕ} {kind : Kind} (x : FirstCharacter classes text at kind p q) → at ≤ place → None at (stateOf gap start)
+  each-stays : (gap : Gap) (start : ℕ) {at p q : ℕ} {kind : ByteKind} (x : FirstCharacter classes text at kind p q) → at ≤ place → None at (stateOf gap start)
       → Told (takenIn (stateOf gap start) kind) × Stays (move (stateOf gap start) kind (getD text p 0) p (x .folded))
   each-stays Outside start x h n = outside-stays _ (x .folded) (outside-is classes text x) h n
   each-stays (Comment depth) start {p = p} {kind = kind} x h n = (tt, in-comment kind depth start p)
   each-stays (Taking depth) start {p = p} {kind = kind} x h n = (tt, taking kind depth start p)
 
   -- one character on
-  goes-on : {at p q : ℕ} {kind : Kind} (state : State) (x : FirstCharacter classes text at kind p q) → q ≤ place → None at state → Stays (move state kind (getD text p 0) p (x .folded))
+  goes-on : {at p q : ℕ} {kind : ByteKind} (state : State) (x : FirstCharacter classes text at kind p q) → q ≤ place → None at state → Stays (move state kind (getD text p 0) p (x .folded))
       → ((gap : Gap) (start : ℕ) → None q (stateOf gap start) → ToldFrom q (stateOf gap start)) → ToldFrom at state
   goes-on state x h n (stays gap start e) f = rw (moves-on x state place h, e, stays-on) (f gap start (rw (moves x state _ e) at n))
   goes-on state x h n (halts number r e) f = absurd (rw (moves x state _ e) at n)

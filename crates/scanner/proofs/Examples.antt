@@ -45,7 +45,7 @@ folded-atoms = row (bytes "ab" ++ (crlf ++ bytes " cd")) (next (symbol Atom 0 2 
 folded-quoted : Row
 folded-quoted = row (bytes "\"a" ++ (crlf ++ bytes " b\"")) (next (symbol Quoted 0 7 (bytes "a b")) ended)
 
--- right behind a backslash too: the backslash takes the SPACE
+-- right after a backslash too: the backslash takes the SPACE
 folded-taken : Row
 folded-taken = row (bytes "\"a\\" ++ (crlf ++ bytes " \"")) (next (symbol Quoted 0 7 (bytes "a ")) ended)
 

@@ -12,9 +12,9 @@ use Rattle.scanner.specs.Believed.Scanning.{outside, inAtom, moveOutside
 use Rattle.scanner.specs.Believed.Answers.{unlessFault, faultOf}
 use Rattle.scanner.specs.Ties.Steps.{FirstCharacter}
 use Rattle.scanner.specs.declared.Class.the-variants.{Stray}
-use Rattle.scanner.specs.declared.Kind.{Kind}
-use Rattle.scanner.specs.declared.Kind.the-variants.{White, Control, Return, Plain, Open, Close, Quote, Backslash, Mark, Above, OpenBracket, CloseBracket}
-use Rattle.scanner.proofs.Kind.{the-type}
+use Rattle.scanner.specs.declared.ByteKind.{ByteKind}
+use Rattle.scanner.specs.declared.ByteKind.the-variants.{White, Control, Return, Plain, Open, Close, Quote, Backslash, Mark, Above, OpenBracket, CloseBracket}
+use Rattle.scanner.proofs.ByteKind.{the-type}
 use Rattle.scanner.proofs.CharacterLaws.{return-kind, no-return, plain-first}
 use Rattle.scanner.proofs.MoveLaws.{moves}
 
@@ -22,7 +22,7 @@ use Rattle.scanner.proofs.MoveLaws.{moves}
 abbrev AsOutside : List ℕ → List Character → Type 0
 AsOutside classes rest = (start end : ℕ) (t : List ℕ) → faultOf (scanFrom classes rest (inAtom start end t)) ≡ faultOf (scanFrom classes rest outside)
 
-by-kind : (classes : List ℕ) (rest : List Character) → AsOutside classes rest → (kind : Kind) (start end : ℕ) (t : List ℕ) (b p : ℕ)
+by-kind : (classes : List ℕ) (rest : List Character) → AsOutside classes rest → (kind : ByteKind) (start end : ℕ) (t : List ℕ) (b p : ℕ)
     → faultOf (then (moveInAtom kind start end t b p) (λ state. scanFrom classes rest state)) ≡ faultOf (then (moveOutside kind b p) (λ state. scanFrom classes rest state))
 unfolding unlessFault
 by-kind classes rest h White start end t b p = refl
@@ -45,7 +45,7 @@ atom-faults classes (character b p folded ∷ rest) start end t = by-kind classe
 
 -- a byte that is no fault and opens nothing
 module _ {classes text : List ℕ} {at p q : ℕ} where
-  pub harmless : (kind : Kind) → FirstCharacter classes text at kind p q → OneOf (0 ∷ 3 ∷ 5 ∷ 7 ∷ 8 ∷ []) (tagOf the-type kind) → faultOf (scanBy classes text at) ≡ faultOf (scanBy classes text q)
+  pub harmless : (kind : ByteKind) → FirstCharacter classes text at kind p q → OneOf (0 ∷ 3 ∷ 5 ∷ 7 ∷ 8 ∷ []) (tagOf the-type kind) → faultOf (scanBy classes text at) ≡ faultOf (scanBy classes text q)
   unfolding unlessFault
   harmless White x o = ap faultOf (moves x outside (go [] outside) refl)
   harmless Control x o = absurd (miss (0 ∷ 3 ∷ 5 ∷ 7 ∷ 8 ∷ []) 1 tt o)
@@ -61,7 +61,7 @@ module _ {classes text : List ℕ} {at p q : ℕ} where
   harmless CloseBracket x o = absurd (miss (0 ∷ 3 ∷ 5 ∷ 7 ∷ 8 ∷ []) 11 tt o)
 
 -- .. told by its kind alone
-pub harmless-byte : (classes text : List ℕ) (p : ℕ) (kind : Kind) → p < length text → kind ≡ kindOf classes (getD text p 0) → OneOf (0 ∷ 3 ∷ 5 ∷ 7 ∷ 8 ∷ []) (tagOf the-type kind)
+pub harmless-byte : (classes text : List ℕ) (p : ℕ) (kind : ByteKind) → p < length text → kind ≡ kindOf classes (getD text p 0) → OneOf (0 ∷ 3 ∷ 5 ∷ 7 ∷ 8 ∷ []) (tagOf the-type kind)
     → faultOf (scanBy classes text p) ≡ faultOf (scanBy classes text (p + 1))
 harmless-byte classes text p kind h k o = harmless kind (plain-first classes text p h (no-return text p no-cr) k) o
   where

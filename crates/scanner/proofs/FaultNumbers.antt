@@ -12,8 +12,8 @@ use Rattle.scanner.specs.Believed.Characters.{Character, character}
 use Rattle.scanner.specs.Believed.Scanning.{Scanned, ended, next, faultAt, State, outside, inAtom, inQuoted, takingInQuoted, inLiteral, takingInLiteral, inComment, takingInComment, Move, go, halt, atom, endingWith, moveOutside, moveInAtom, moveInQuoted, moveInLiteral, moveInComment, move, atEnd, followedBy, then, scanFrom}
 use Rattle.scanner.specs.Believed.Scanning as scanning
 use Rattle.scanner.specs.declared.Class.{Class}
-use Rattle.scanner.specs.declared.Kind.{Kind}
-use Rattle.scanner.specs.declared.Kind.the-variants.{White, Control, Return, Plain, Open, Close, Quote, Backslash, Mark, Above, OpenBracket, CloseBracket}
+use Rattle.scanner.specs.declared.ByteKind.{ByteKind}
+use Rattle.scanner.specs.declared.ByteKind.the-variants.{White, Control, Return, Plain, Open, Close, Quote, Backslash, Mark, Above, OpenBracket, CloseBracket}
 
 -- the number of a fault
 abbrev pub isFault : ℕ → Bool
@@ -30,7 +30,7 @@ abbrev MoveNumbered : Move → Type 0
 MoveNumbered (go symbols state) = Unit {0}
 MoveNumbered (halt symbols n p) = isFault n ≡ true
 
-in-outside : (kind : Kind) (b p : ℕ) → MoveNumbered (moveOutside kind b p)
+in-outside : (kind : ByteKind) (b p : ℕ) → MoveNumbered (moveOutside kind b p)
 in-outside White b p = tt
 in-outside Control b p = refl
 in-outside Return b p = refl
@@ -48,7 +48,7 @@ ending : (x : Symbol Class) (m : Move) → MoveNumbered m → MoveNumbered (endi
 ending x (go symbols state) h = tt
 ending x (halt symbols n p) h = h
 
-in-atom : (kind : Kind) (start end : ℕ) (t : List ℕ) (b p : ℕ) → MoveNumbered (moveInAtom kind start end t b p)
+in-atom : (kind : ByteKind) (start end : ℕ) (t : List ℕ) (b p : ℕ) → MoveNumbered (moveInAtom kind start end t b p)
 in-atom White start end t b p = ending (atom start end t) (moveOutside White b p) (in-outside White b p)
 in-atom Control start end t b p = ending (atom start end t) (moveOutside Control b p) (in-outside Control b p)
 in-atom Return start end t b p = ending (atom start end t) (moveOutside Return b p) (in-outside Return b p)
@@ -62,7 +62,7 @@ in-atom Above start end t b p = ending (atom start end t) (moveOutside Above b p
 in-atom OpenBracket start end t b p = ending (atom start end t) (moveOutside OpenBracket b p) (in-outside OpenBracket b p)
 in-atom CloseBracket start end t b p = ending (atom start end t) (moveOutside CloseBracket b p) (in-outside CloseBracket b p)
 
-in-quoted : (kind : Kind) (start : ℕ) (t : List ℕ) (b p : ℕ) → MoveNumbered (moveInQuoted kind start t b p)
+in-quoted : (kind : ByteKind) (start : ℕ) (t : List ℕ) (b p : ℕ) → MoveNumbered (moveInQuoted kind start t b p)
 in-quoted White start t b p = tt
 in-quoted Control start t b p = tt
 in-quoted Return start t b p = refl
@@ -76,7 +76,7 @@ in-quoted Above start t b p = refl
 in-quoted OpenBracket start t b p = tt
 in-quoted CloseBracket start t b p = tt
 
-in-literal : (kind : Kind) (start p : ℕ) → MoveNumbered (moveInLiteral kind start p)
+in-literal : (kind : ByteKind) (start p : ℕ) → MoveNumbered (moveInLiteral kind start p)
 in-literal White start p = tt
 in-literal Control start p = tt
 in-literal Return start p = refl
@@ -90,7 +90,7 @@ in-literal Above start p = refl
 in-literal OpenBracket start p = refl
 in-literal CloseBracket start p = tt
 
-in-comment : (kind : Kind) (depth start p : ℕ) → MoveNumbered (moveInComment kind depth start p)
+in-comment : (kind : ByteKind) (depth start p : ℕ) → MoveNumbered (moveInComment kind depth start p)
 in-comment White depth start p = tt
 in-comment Control depth start p = tt
 in-comment Return depth start p = refl
@@ -104,7 +104,7 @@ in-comment Above depth start p = refl
 in-comment OpenBracket depth start p = tt
 in-comment CloseBracket depth start p = tt
 
-taking : (kind : Kind) (state : State) (p : ℕ) → MoveNumbered (scanning.take kind state p)
+taking : (kind : ByteKind) (state : State) (p : ℕ) → MoveNumbered (scanning.take kind state p)
 taking White state p = tt
 taking Control state p = tt
 taking Return state p = tt
@@ -118,7 +118,7 @@ taking Above state p = refl
 taking OpenBracket state p = tt
 taking CloseBracket state p = tt
 
-each-move : (state : State) (kind : Kind) (b p : ℕ) (folded : Bool) → MoveNumbered (move state kind b p folded)
+each-move : (state : State) (kind : ByteKind) (b p : ℕ) (folded : Bool) → MoveNumbered (move state kind b p folded)
 each-move outside kind b p folded = in-outside kind b p
 each-move (inAtom start end t) kind b p folded = in-atom kind start end t b p
 each-move (inQuoted start t) kind b p folded = in-quoted kind start t b p

@@ -12,8 +12,8 @@ use Rattle.scanner.specs.Ties.Steps.{FirstCharacter}
 use Rattle.scanner.specs.Ties.Meanings.{inside, taking, over, Walk, dataOf, walked, dataFrom, dataAt, firstOr, datumFrom, datumAt}
 use Rattle.scanner.specs.declared.Datum.{Datum}
 use Rattle.scanner.specs.declared.Datum.the-variants.{Byte, Over}
-use Rattle.scanner.specs.declared.Kind.{Kind}
-use Rattle.scanner.specs.declared.Kind.the-variants.{White, Control, Return, Plain, Open, Close, Quote, Backslash, Mark, Above, OpenBracket, CloseBracket}
+use Rattle.scanner.specs.declared.ByteKind.{ByteKind}
+use Rattle.scanner.specs.declared.ByteKind.the-variants.{White, Control, Return, Plain, Open, Close, Quote, Backslash, Mark, Above, OpenBracket, CloseBracket}
 use Rattle.scanner.proofs.CharacterLaws.{View, one, view}
 use Rattle.scanner.proofs.CharacterLaws as characters
 use Rattle.scanner.proofs.MoveLaws.{tag}
@@ -21,11 +21,11 @@ use Rattle.scanner.proofs.MoveLaws.{tag}
 -- ---- one step of the walk
 
 -- a character of this kind is data as it is
-abbrev pub AsData : Kind → Type 0
+abbrev pub AsData : ByteKind → Type 0
 AsData kind = (b : ℕ) (folded : Bool) → (dataOf inside kind b folded ≡ b ∷ []) × (walked inside kind ≡ inside)
 
 -- any but the closing quote and a backslash
-pub as-data : (kind : Kind) → OneOf (0 ∷ 1 ∷ 2 ∷ 3 ∷ 4 ∷ 5 ∷ 8 ∷ 9 ∷ 10 ∷ 11 ∷ []) (tag kind) → AsData kind
+pub as-data : (kind : ByteKind) → OneOf (0 ∷ 1 ∷ 2 ∷ 3 ∷ 4 ∷ 5 ∷ 8 ∷ 9 ∷ 10 ∷ 11 ∷ []) (tag kind) → AsData kind
 as-data White o b folded = (refl, refl)
 as-data Control o b folded = (refl, refl)
 as-data Return o b folded = (refl, refl)
@@ -39,7 +39,7 @@ as-data Above o b folded = (refl, refl)
 as-data OpenBracket o b folded = (refl, refl)
 as-data CloseBracket o b folded = (refl, refl)
 
--- behind the closing quote there are none
+-- after the closing quote there are none
 data-over : (classes : List ℕ) (cs : List Character) → dataFrom classes over cs ≡ []
 unfolding dataFrom
 data-over classes [] = refl
@@ -50,7 +50,7 @@ unfolding datumFrom
 datum-over classes [] = refl
 datum-over classes (character b p folded ∷ rest) = datum-over classes rest
 
-module _ {classes text : List ℕ} {at p q : ℕ} {kind : Kind} (x : FirstCharacter classes text at kind p q) where
+module _ {classes text : List ℕ} {at p q : ℕ} {kind : ByteKind} (x : FirstCharacter classes text at kind p q) where
   step : (walk : Walk) → dataFrom classes walk (charactersAt text at) ≡ dataOf walk kind (getD text p 0) (x .folded) ++ dataFrom classes (walked walk kind) (charactersAt text q)
   unfolding dataFrom
   step walk = rw (x .characters, ← (x .kind-is))
@@ -68,7 +68,7 @@ module _ {classes text : List ℕ} {at p q : ℕ} {kind : Kind} (x : FirstCharac
       let n : p + 1 - 0 ≡ q = omega (arith, x .behind) in
       datum-step inside ∙ rw (d (getD text p 0) (x .folded) .0) (ap (λ (i : ℕ). Byte (getD text p 0) i) n)
 
-  -- the character behind a backslash: what it takes
+  -- the character after a backslash: what it takes
   pub data-taken : dataFrom classes taking (charactersAt text at) ≡ takenData (getD text p 0) (x .folded) ++ dataAt classes text q
   data-taken = step taking
 
@@ -102,7 +102,7 @@ data-end classes text walk at e = rw e
 
 -- ---- the next byte of data
 
--- it comes first, and the others from behind it on
+-- it comes first, and the others from after it on
 pub record DatumFirst (classes text : List ℕ) (at b q : ℕ) : Type 0 where
   pub first : dataAt classes text at ≡ b ∷ dataAt classes text q
   pub from : at < q
@@ -114,7 +114,7 @@ DatumIs classes text at Over = dataAt classes text at ≡ []
 
 module _ (classes text : List ℕ) where
   module _ {at p q : ℕ} where
-    as-is : {kind : Kind} → FirstCharacter classes text at kind p q → AsData kind → DatumIs classes text at (datumAt classes text at)
+    as-is : {kind : ByteKind} → FirstCharacter classes text at kind p q → AsData kind → DatumIs classes text at (datumAt classes text at)
     as-is x d = rw (datum-on x d) record { first = data-on x d; from = omega (arith, x .from, x .behind); within = x .within }
 
     -- what a backslash takes
@@ -125,7 +125,7 @@ module _ (classes text : List ℕ) where
         rw (datum-backslash x, datum-taken y)
         record { first = data-backslash x ∙ data-taken y; from = omega (arith, x .from, x .behind, y .from, y .behind); within = y .within }
 
-    by-kind : (kind : Kind) → FirstCharacter classes text at kind p q → DatumIs classes text at (datumAt classes text at)
+    by-kind : (kind : ByteKind) → FirstCharacter classes text at kind p q → DatumIs classes text at (datumAt classes text at)
     by-kind White x = as-is x (λ b f. (refl, refl))
     by-kind Control x = as-is x (λ b f. (refl, refl))
     by-kind Return x = as-is x (λ b f. (refl, refl))

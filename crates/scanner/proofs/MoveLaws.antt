@@ -18,12 +18,12 @@ use Rattle.scanner.specs.Believed.Scanning as scanning
 use Rattle.scanner.specs.Ties.Steps.{FirstCharacter}
 use Rattle.scanner.specs.declared.Class.{Class}
 use Rattle.scanner.specs.declared.Class.the-variants.{Stray}
-use Rattle.scanner.specs.declared.Kind.{Kind}
-use Rattle.scanner.specs.declared.Kind.the-variants.{White, Control, Return, Plain, Open, Close, Quote, Backslash, Mark, Above, OpenBracket, CloseBracket}
-use Rattle.scanner.proofs.Kind.{the-type}
+use Rattle.scanner.specs.declared.ByteKind.{ByteKind}
+use Rattle.scanner.specs.declared.ByteKind.the-variants.{White, Control, Return, Plain, Open, Close, Quote, Backslash, Mark, Above, OpenBracket, CloseBracket}
+use Rattle.scanner.proofs.ByteKind.{the-type}
 
 -- a kind's place in its declaration
-abbrev pub tag : Kind → ℕ
+abbrev pub tag : ByteKind → ℕ
 tag kind = tagOf the-type kind
 
 -- the text ends
@@ -32,7 +32,7 @@ unfolding scanFrom
 at-end classes text at state e = rw e
 
 -- a character makes its move
-pub moves : {classes text : List ℕ} {at : ℕ} {kind : Kind} {p q : ℕ} → (x : FirstCharacter classes text at kind p q) (state : State) (m : Move) → move state kind (getD text p 0) p (x .folded) ≡ m
+pub moves : {classes text : List ℕ} {at : ℕ} {kind : ByteKind} {p q : ℕ} → (x : FirstCharacter classes text at kind p q) (state : State) (m : Move) → move state kind (getD text p 0) p (x .folded) ≡ m
     → scanFrom classes (charactersAt text at) state ≡ then m (λ state′. scanFrom classes (charactersAt text q) state′)
 unfolding scanFrom
 moves x state m e = rw (x .characters, ← (x .kind-is), e)
@@ -40,22 +40,22 @@ moves x state m e = rw (x .characters, ← (x .kind-is), e)
 -- ---- the kinds that an arm of the code stands for
 
 -- any but Plain
-abbrev pub NotPlain : Kind → Type 0
+abbrev pub NotPlain : ByteKind → Type 0
 NotPlain kind = OneOf (0 ∷ 1 ∷ 2 ∷ 4 ∷ 5 ∷ 6 ∷ 7 ∷ 8 ∷ 9 ∷ 10 ∷ 11 ∷ []) (tag kind)
 
 -- data of a quoted-string as they are
-abbrev pub Data : Kind → Type 0
+abbrev pub Data : ByteKind → Type 0
 Data kind = OneOf (0 ∷ 1 ∷ 3 ∷ 4 ∷ 5 ∷ 8 ∷ 10 ∷ 11 ∷ []) (tag kind)
 
 -- text of a comment as it is
-abbrev pub Text : Kind → Type 0
+abbrev pub Text : ByteKind → Type 0
 Text kind = OneOf (0 ∷ 1 ∷ 3 ∷ 6 ∷ 8 ∷ 10 ∷ 11 ∷ []) (tag kind)
 
 -- any but Above
-abbrev pub Taken : Kind → Type 0
+abbrev pub Taken : ByteKind → Type 0
 Taken kind = OneOf (0 ∷ 1 ∷ 2 ∷ 3 ∷ 4 ∷ 5 ∷ 6 ∷ 7 ∷ 8 ∷ 10 ∷ 11 ∷ []) (tag kind)
 
-ends-atom : (classes : List ℕ) (kind : Kind) (b p : ℕ) (folded : Bool) (start end : ℕ) (t : List ℕ) (rest : State → Scanned) → NotPlain kind
+ends-atom : (classes : List ℕ) (kind : ByteKind) (b p : ℕ) (folded : Bool) (start end : ℕ) (t : List ℕ) (rest : State → Scanned) → NotPlain kind
     → then (move (inAtom start end t) kind b p folded) rest ≡ next (atom start end t) (then (move outside kind b p folded) rest)
 ends-atom classes White b p folded start end t rest o = refl
 ends-atom classes Control b p folded start end t rest o = refl
@@ -71,13 +71,13 @@ ends-atom classes OpenBracket b p folded start end t rest o = refl
 ends-atom classes CloseBracket b p folded start end t rest o = refl
 
 -- an atom ends before any other byte, which then does what it does outside
-pub atom-ends : {classes text : List ℕ} {at p q : ℕ} {kind : Kind} (start : ℕ) (t : List ℕ) → FirstCharacter classes text at kind p q → NotPlain kind
+pub atom-ends : {classes text : List ℕ} {at p q : ℕ} {kind : ByteKind} (start : ℕ) (t : List ℕ) → FirstCharacter classes text at kind p q → NotPlain kind
     → scanFrom classes (charactersAt text at) (inAtom start at t) ≡ next (atom start at t) (scanBy classes text at)
 atom-ends {classes} {text} {at} {p} {q} {kind} start t x o =
     moves x (inAtom start at t) _ refl ∙ ends-atom classes kind (getD text p 0) p (x .folded) start at t (λ s. scanFrom classes (charactersAt text q) s) o
     ∙ ap (next (atom start at t)) (sym (moves x outside _ refl))
 
-pub quoted-data : (kind : Kind) (start : ℕ) (t : List ℕ) (b p : ℕ) (folded : Bool) → Data kind → move (inQuoted start t) kind b p folded ≡ go [] (inQuoted start (t ++ (b ∷ [])))
+pub quoted-data : (kind : ByteKind) (start : ℕ) (t : List ℕ) (b p : ℕ) (folded : Bool) → Data kind → move (inQuoted start t) kind b p folded ≡ go [] (inQuoted start (t ++ (b ∷ [])))
 quoted-data White start t b p folded o = refl
 quoted-data Control start t b p folded o = refl
 quoted-data Return start t b p folded o = absurd (miss (0 ∷ 1 ∷ 3 ∷ 4 ∷ 5 ∷ 8 ∷ 10 ∷ 11 ∷ []) 2 tt o)
@@ -91,7 +91,7 @@ quoted-data Above start t b p folded o = absurd (miss (0 ∷ 1 ∷ 3 ∷ 4 ∷ 5
 quoted-data OpenBracket start t b p folded o = refl
 quoted-data CloseBracket start t b p folded o = refl
 
-pub taken : (kind : Kind) (state : State) (p : ℕ) → Taken kind → scanning.take kind state p ≡ go [] state
+pub taken : (kind : ByteKind) (state : State) (p : ℕ) → Taken kind → scanning.take kind state p ≡ go [] state
 taken White state p o = refl
 taken Control state p o = refl
 taken Return state p o = refl
@@ -105,12 +105,12 @@ taken Above state p o = absurd (miss (0 ∷ 1 ∷ 2 ∷ 3 ∷ 4 ∷ 5 ∷ 6 ∷ 
 taken OpenBracket state p o = refl
 taken CloseBracket state p o = refl
 
--- behind no fold, a backslash takes the byte alone
+-- after no fold, a backslash takes the byte alone
 pub taken-alone : (b : ℕ) → takenData b false ≡ b ∷ []
 unfolding takenData
 taken-alone b = refl
 
-pub comment-text : (kind : Kind) (depth start b p : ℕ) (folded : Bool) → Text kind → move (inComment depth start) kind b p folded ≡ go [] (inComment depth start)
+pub comment-text : (kind : ByteKind) (depth start b p : ℕ) (folded : Bool) → Text kind → move (inComment depth start) kind b p folded ≡ go [] (inComment depth start)
 comment-text White depth start b p folded o = refl
 comment-text Control depth start b p folded o = refl
 comment-text Return depth start b p folded o = absurd (miss (0 ∷ 1 ∷ 3 ∷ 6 ∷ 8 ∷ 10 ∷ 11 ∷ []) 2 tt o)
@@ -125,7 +125,7 @@ comment-text OpenBracket depth start b p folded o = refl
 comment-text CloseBracket depth start b p folded o = refl
 
 -- a lone ")" or backslash
-stray : (kind : Kind) (b p : ℕ) (folded : Bool) → OneOf (5 ∷ 7 ∷ 11 ∷ []) (tag kind) → move outside kind b p folded ≡ go (single Stray b p ∷ []) outside
+stray : (kind : ByteKind) (b p : ℕ) (folded : Bool) → OneOf (5 ∷ 7 ∷ 11 ∷ []) (tag kind) → move outside kind b p folded ≡ go (single Stray b p ∷ []) outside
 stray White b p folded o = absurd (miss (5 ∷ 7 ∷ 11 ∷ []) 0 tt o)
 stray Control b p folded o = absurd (miss (5 ∷ 7 ∷ 11 ∷ []) 1 tt o)
 stray Return b p folded o = absurd (miss (5 ∷ 7 ∷ 11 ∷ []) 2 tt o)
@@ -140,7 +140,7 @@ stray OpenBracket b p folded o = absurd (miss (5 ∷ 7 ∷ 11 ∷ []) 10 tt o)
 stray CloseBracket b p folded o = refl
 
 -- a control byte outside
-stray-control : (kind : Kind) (b p : ℕ) (folded : Bool) → OneOf (1 ∷ 2 ∷ []) (tag kind) → move outside kind b p folded ≡ halt [] strayControl p
+stray-control : (kind : ByteKind) (b p : ℕ) (folded : Bool) → OneOf (1 ∷ 2 ∷ []) (tag kind) → move outside kind b p folded ≡ halt [] strayControl p
 stray-control White b p folded o = absurd (miss (1 ∷ 2 ∷ []) 0 tt o)
 stray-control Control b p folded o = refl
 stray-control Return b p folded o = refl
@@ -200,22 +200,22 @@ pub record Quoting (classes text : List ℕ) (start at p : ℕ) : Type 0 where
   pub same : scanFrom classes (charactersAt text at) (inQuoted start []) ≡ scanFrom classes (charactersAt text p) (inQuoted start meaning)
 
 module _ {classes text : List ℕ} {start at p : ℕ} (w : Quoting classes text start at p) where
-  pub quoted-moves : {q r : ℕ} {kind : Kind} (x : FirstCharacter classes text p kind q r) (m : Move) → move (inQuoted start (w .meaning)) kind (getD text q 0) q (x .folded) ≡ m
+  pub quoted-moves : {q r : ℕ} {kind : ByteKind} (x : FirstCharacter classes text p kind q r) (m : Move) → move (inQuoted start (w .meaning)) kind (getD text q 0) q (x .folded) ≡ m
       → scanFrom classes (charactersAt text at) (inQuoted start []) ≡ then m (λ state. scanFrom classes (charactersAt text r) state)
   quoted-moves x m e = w .same ∙ moves x (inQuoted start (w .meaning)) m e
 
   -- data as they are
-  unfoldable pub quoted-on : {q r : ℕ} {kind : Kind} → FirstCharacter classes text p kind q r → Data kind → Quoting classes text start at r
+  unfoldable pub quoted-on : {q r : ℕ} {kind : ByteKind} → FirstCharacter classes text p kind q r → Data kind → Quoting classes text start at r
   quoted-on {q} {kind = kind} x o =
       record { meaning = w .meaning ++ (getD text q 0 ∷ []); same = quoted-moves x (go [] (inQuoted start (w .meaning ++ (getD text q 0 ∷ [])))) (quoted-data kind start (w .meaning) (getD text q 0) q (x .folded) o) }
 
-  -- a backslash, and what comes of the character behind it
-  pub quoted-taking : {q r s u : ℕ} {kind : Kind} → FirstCharacter classes text p Backslash q r → (y : FirstCharacter classes text r kind s u) (m : Move)
+  -- a backslash, and what comes of the character after it
+  pub quoted-taking : {q r s u : ℕ} {kind : ByteKind} → FirstCharacter classes text p Backslash q r → (y : FirstCharacter classes text r kind s u) (m : Move)
       → scanning.take kind (inQuoted start (w .meaning ++ takenData (getD text s 0) (y .folded))) s ≡ m
       → scanFrom classes (charactersAt text at) (inQuoted start []) ≡ then m (λ state. scanFrom classes (charactersAt text u) state)
   quoted-taking x y m e = quoted-moves x (go [] (takingInQuoted start (w .meaning))) refl ∙ moves y (takingInQuoted start (w .meaning)) m e
 
-  unfoldable pub quoted-taken : {q r s u : ℕ} {kind : Kind} → FirstCharacter classes text p Backslash q r → FirstCharacter classes text r kind s u → Taken kind → Quoting classes text start at u
+  unfoldable pub quoted-taken : {q r s u : ℕ} {kind : ByteKind} → FirstCharacter classes text p Backslash q r → FirstCharacter classes text r kind s u → Taken kind → Quoting classes text start at u
   quoted-taken {s = s} {kind = kind} x y o =
       let t : List ℕ = w .meaning ++ takenData (getD text s 0) (y .folded) in
       record { meaning = t; same = quoted-taking x y (go [] (inQuoted start t)) (taken kind (inQuoted start t) s o) }
@@ -223,10 +223,10 @@ module _ {classes text : List ℕ} {start at p : ℕ} (w : Quoting classes text 
 -- ---- a domain literal
 
 -- text of a literal as it is
-abbrev pub LiteralText : Kind → Type 0
+abbrev pub LiteralText : ByteKind → Type 0
 LiteralText kind = OneOf (0 ∷ 1 ∷ 3 ∷ 4 ∷ 5 ∷ 6 ∷ 8 ∷ []) (tag kind)
 
-pub literal-text : (kind : Kind) (start b p : ℕ) (folded : Bool) → LiteralText kind → move (inLiteral start) kind b p folded ≡ go [] (inLiteral start)
+pub literal-text : (kind : ByteKind) (start b p : ℕ) (folded : Bool) → LiteralText kind → move (inLiteral start) kind b p folded ≡ go [] (inLiteral start)
 literal-text White start b p folded o = refl
 literal-text Control start b p folded o = refl
 literal-text Return start b p folded o = absurd (miss (0 ∷ 1 ∷ 3 ∷ 4 ∷ 5 ∷ 6 ∷ 8 ∷ []) 2 tt o)
@@ -245,19 +245,19 @@ pub record InLiteral (classes text : List ℕ) (start at p : ℕ) : Type 0 where
   pub same : scanFrom classes (charactersAt text at) (inLiteral start) ≡ scanFrom classes (charactersAt text p) (inLiteral start)
 
 module _ {classes text : List ℕ} {start at p : ℕ} (w : InLiteral classes text start at p) where
-  pub literal-moves : {q r : ℕ} {kind : Kind} (x : FirstCharacter classes text p kind q r) (m : Move) → move (inLiteral start) kind (getD text q 0) q (x .folded) ≡ m
+  pub literal-moves : {q r : ℕ} {kind : ByteKind} (x : FirstCharacter classes text p kind q r) (m : Move) → move (inLiteral start) kind (getD text q 0) q (x .folded) ≡ m
       → scanFrom classes (charactersAt text at) (inLiteral start) ≡ then m (λ state. scanFrom classes (charactersAt text r) state)
   literal-moves x m e = w .same ∙ moves x (inLiteral start) m e
 
-  pub literal-on : {q r : ℕ} {kind : Kind} → FirstCharacter classes text p kind q r → LiteralText kind → InLiteral classes text start at r
+  pub literal-on : {q r : ℕ} {kind : ByteKind} → FirstCharacter classes text p kind q r → LiteralText kind → InLiteral classes text start at r
   literal-on {q} {kind = kind} x o = record { same = literal-moves x (go [] (inLiteral start)) (literal-text kind start (getD text q 0) q (x .folded) o) }
 
-  pub literal-taking : {q r s u : ℕ} {kind : Kind} → FirstCharacter classes text p Backslash q r → FirstCharacter classes text r kind s u → (m : Move)
+  pub literal-taking : {q r s u : ℕ} {kind : ByteKind} → FirstCharacter classes text p Backslash q r → FirstCharacter classes text r kind s u → (m : Move)
       → scanning.take kind (inLiteral start) s ≡ m
       → scanFrom classes (charactersAt text at) (inLiteral start) ≡ then m (λ state. scanFrom classes (charactersAt text u) state)
   literal-taking x y m e = literal-moves x (go [] (takingInLiteral start)) refl ∙ moves y (takingInLiteral start) m e
 
-  pub literal-taken : {q r s u : ℕ} {kind : Kind} → FirstCharacter classes text p Backslash q r → FirstCharacter classes text r kind s u → Taken kind → InLiteral classes text start at u
+  pub literal-taken : {q r s u : ℕ} {kind : ByteKind} → FirstCharacter classes text p Backslash q r → FirstCharacter classes text r kind s u → Taken kind → InLiteral classes text start at u
   literal-taken {s = s} {kind = kind} x y o = record { same = literal-taking x y (go [] (inLiteral start)) (taken kind (inLiteral start) s o) }
 
 -- ---- a comment
@@ -271,12 +271,12 @@ closed-inner zero start n = absurd (n refl)
 closed-inner (suc depth) start n = let e : depth ≡ suc depth - 1 = omega arith in ap (λ (d : ℕ). inComment d start) e
 
 module _ {classes text : List ℕ} {start at depth p : ℕ} (w : Commenting classes text start at depth p) where
-  pub comment-moves : {q r : ℕ} {kind : Kind} (x : FirstCharacter classes text p kind q r) (m : Move) → move (inComment depth start) kind (getD text q 0) q (x .folded) ≡ m
+  pub comment-moves : {q r : ℕ} {kind : ByteKind} (x : FirstCharacter classes text p kind q r) (m : Move) → move (inComment depth start) kind (getD text q 0) q (x .folded) ≡ m
       → scanFrom classes (charactersAt text at) (inComment 0 start) ≡ then m (λ state. scanFrom classes (charactersAt text r) state)
   comment-moves x m e = w .same ∙ moves x (inComment depth start) m e
 
   -- text as it is
-  pub comment-on : {q r : ℕ} {kind : Kind} → FirstCharacter classes text p kind q r → Text kind → Commenting classes text start at depth r
+  pub comment-on : {q r : ℕ} {kind : ByteKind} → FirstCharacter classes text p kind q r → Text kind → Commenting classes text start at depth r
   comment-on {q} {kind = kind} x o = record { same = comment-moves x (go [] (inComment depth start)) (comment-text kind depth start (getD text q 0) q (x .folded) o) }
 
   -- a comment in it opens
@@ -291,13 +291,13 @@ module _ {classes text : List ℕ} {start at depth p : ℕ} (w : Commenting clas
   pub comment-over : {q r : ℕ} → FirstCharacter classes text p Close q r → depth ≡ 0 → scanFrom classes (charactersAt text at) (inComment 0 start) ≡ scanBy classes text r
   comment-over x e = comment-moves x (go [] (closed depth start)) refl ∙ rw e
 
-  -- a backslash, and what comes of the character behind it
-  pub comment-taking : {q r s u : ℕ} {kind : Kind} → FirstCharacter classes text p Backslash q r → FirstCharacter classes text r kind s u → (m : Move)
+  -- a backslash, and what comes of the character after it
+  pub comment-taking : {q r s u : ℕ} {kind : ByteKind} → FirstCharacter classes text p Backslash q r → FirstCharacter classes text r kind s u → (m : Move)
       → scanning.take kind (inComment depth start) s ≡ m
       → scanFrom classes (charactersAt text at) (inComment 0 start) ≡ then m (λ state. scanFrom classes (charactersAt text u) state)
   comment-taking x y m e = comment-moves x (go [] (takingInComment depth start)) refl ∙ moves y (takingInComment depth start) m e
 
-  pub comment-taken : {q r s u : ℕ} {kind : Kind} → FirstCharacter classes text p Backslash q r → FirstCharacter classes text r kind s u → Taken kind → Commenting classes text start at depth u
+  pub comment-taken : {q r s u : ℕ} {kind : ByteKind} → FirstCharacter classes text p Backslash q r → FirstCharacter classes text r kind s u → Taken kind → Commenting classes text start at depth u
   comment-taken {s = s} {kind = kind} x y o =
       record { same = comment-taking x y (go [] (inComment depth start)) (taken kind (inComment depth start) s o) }
 
@@ -305,7 +305,7 @@ module _ {classes text : List ℕ} {start at depth p : ℕ} (w : Commenting clas
 
 module _ {classes text : List ℕ} {at p q : ℕ} where
   -- a single byte that is a symbol
-  single-next : {kind : Kind} (class : Class) (x : FirstCharacter classes text at kind p q) → move outside kind (getD text p 0) p (x .folded) ≡ go (single class (getD text p 0) p ∷ []) outside
+  single-next : {kind : ByteKind} (class : Class) (x : FirstCharacter classes text at kind p q) → move outside kind (getD text p 0) p (x .folded) ≡ go (single class (getD text p 0) p ∷ []) outside
       → scanBy classes text at ≡ next (symbol class p q (getD text p 0 ∷ [])) (scanBy classes text q)
   single-next class x e =
       moves x outside (go (single class (getD text p 0) p ∷ []) outside) e
@@ -314,8 +314,8 @@ module _ {classes text : List ℕ} {at p q : ℕ} where
   pub mark-next : {class : Class} → FirstCharacter classes text at (Mark class) p q → scanBy classes text at ≡ next (symbol class p q (getD text p 0 ∷ [])) (scanBy classes text q)
   mark-next {class} x = single-next class x refl
 
-  pub stray-next : {kind : Kind} → FirstCharacter classes text at kind p q → OneOf (5 ∷ 7 ∷ 11 ∷ []) (tag kind) → scanBy classes text at ≡ next (symbol Stray p q (getD text p 0 ∷ [])) (scanBy classes text q)
+  pub stray-next : {kind : ByteKind} → FirstCharacter classes text at kind p q → OneOf (5 ∷ 7 ∷ 11 ∷ []) (tag kind) → scanBy classes text at ≡ next (symbol Stray p q (getD text p 0 ∷ [])) (scanBy classes text q)
   stray-next {kind} x o = single-next Stray x (stray kind (getD text p 0) p (x .folded) o)
 
-  pub control-next : {kind : Kind} → FirstCharacter classes text at kind p q → OneOf (1 ∷ 2 ∷ []) (tag kind) → scanBy classes text at ≡ faultAt strayControl p
+  pub control-next : {kind : ByteKind} → FirstCharacter classes text at kind p q → OneOf (1 ∷ 2 ∷ []) (tag kind) → scanBy classes text at ≡ faultAt strayControl p
   control-next {kind} x o = moves x outside (halt [] strayControl p) (stray-control kind (getD text p 0) p (x .folded) o)

@@ -1,4 +1,4 @@
--- What a text scans to is the unfolding of the next-symbol step: a symbol lies in the text, behind the position asked, and scanning goes on from its end.
+-- What a text scans to is the unfolding of the next-symbol step: a symbol lies in the text, after the position asked, and scanning goes on from its end.
 -- Assumes nothing.
 use mathlib.Core.Path.{_≡_, refl, sym, ap, _∙_}
 use mathlib.Core.Bool.{Bool, true, false}
@@ -22,8 +22,8 @@ use Rattle.scanner.specs.Ties.Steps.{FirstCharacter, AtomEnds, CommentEn
 use Rattle.scanner.specs.declared.Class.{Class}
 use Rattle.scanner.specs.declared.Class.the-variants.{Atom, Quoted, At, LessThan, GreaterThan, Comma, Semicolon, Colon, Stray, Dot, Literal}
 use Rattle.scanner.specs.declared.Next.the-variants.{Found, Ended, Fault}
-use Rattle.scanner.specs.declared.Kind.{Kind}
-use Rattle.scanner.specs.declared.Kind.the-variants.{White, Control, Return, Plain, Open, Close, Quote, Backslash, Mark, Above, OpenBracket, CloseBracket}
+use Rattle.scanner.specs.declared.ByteKind.{ByteKind}
+use Rattle.scanner.specs.declared.ByteKind.the-variants.{White, Control, Return, Plain, Open, Close, Quote, Backslash, Mark, Above, OpenBracket, CloseBracket}
 use Rattle.scanner.proofs.CharacterLaws.{View, over, one, view}
 use Rattle.scanner.proofs.MoveLaws.{tag, part-one, NotPlain, Data, Taken, at-end, moves, atom-on, atom-begins, atom-ends, atom-last, Quoting, quoted-moves, quoted-on, quoted-taking, quoted-taken, InLiteral, literal-moves, literal-on, literal-taking, literal-taken, Commenting, comment-moves, comment-on, comment-opens, comment-closes, comment-over, comment-taking, comment-taken, mark-next, stray-next, control-next}
 use Rattle.scanner.specs.Ties.Meanings.{dataAt, meaningAt}
@@ -40,10 +40,10 @@ module _ (classes text : List ℕ) where
   atom-further {start} l x e =
       record { end = e .end; is = record { same = atom-on start l x ∙ e .is .same; from = omega (arith, x .from, x .behind, e .is .from); within = e .is .within } }
 
-  atom-here : {start at p q : ℕ} {kind : Kind} → at ≤ length text → FirstCharacter classes text at kind p q → NotPlain kind → Ends start at
+  atom-here : {start at p q : ℕ} {kind : ByteKind} → at ≤ length text → FirstCharacter classes text at kind p q → NotPlain kind → Ends start at
   atom-here {start} {at} h x o = record { end = at; is = record { same = atom-ends start (part text start at) x o; from = omega arith; within = h } }
 
-  atom-by : (start at : ℕ) {p q : ℕ} (kind : Kind) → start ≤ at → at ≤ length text → FirstCharacter classes text at kind p q → Ends start q → Ends start at
+  atom-by : (start at : ℕ) {p q : ℕ} (kind : ByteKind) → start ≤ at → at ≤ length text → FirstCharacter classes text at kind p q → Ends start q → Ends start at
   atom-by start at White l h x e = atom-here h x (hit (0 ∷ 1 ∷ 2 ∷ 4 ∷ 5 ∷ 6 ∷ 7 ∷ 8 ∷ 9 ∷ 10 ∷ 11 ∷ []) 0 tt)
   atom-by start at Control l h x e = atom-here h x (hit (0 ∷ 1 ∷ 2 ∷ 4 ∷ 5 ∷ 6 ∷ 7 ∷ 8 ∷ 9 ∷ 10 ∷ 11 ∷ []) 1 tt)
   atom-by start at Return l h x e = atom-here h x (hit (0 ∷ 1 ∷ 2 ∷ 4 ∷ 5 ∷ 6 ∷ 7 ∷ 8 ∷ 9 ∷ 10 ∷ 11 ∷ []) 2 tt)
@@ -79,12 +79,12 @@ module _ (classes text : List ℕ) where
     data-so-far : dataAt classes text at ≡ quoting .meaning ++ dataAt classes text p
     from : at ≤ p
 
-  passed-data : {start at p q r : ℕ} {kind : Kind} → Passed start at p → FirstCharacter classes text p kind q r → Data kind → AsData kind → Passed start at r
+  passed-data : {start at p q r : ℕ} {kind : ByteKind} → Passed start at p → FirstCharacter classes text p kind q r → Data kind → AsData kind → Passed start at r
   unfolding quoted-on
   passed-data w x o d =
       record { quoting = quoted-on (w .quoting) x o; data-so-far = w .data-so-far ∙ rw (data-on x d, append-assoc); from = omega (arith, w .from, x .from, x .behind) }
 
-  passed-taken : {start at p q r s u : ℕ} {kind : Kind} → Passed start at p → FirstCharacter classes text p Backslash q r → FirstCharacter classes text r kind s u → Taken kind → Passed start at u
+  passed-taken : {start at p q r s u : ℕ} {kind : ByteKind} → Passed start at p → FirstCharacter classes text p Backslash q r → FirstCharacter classes text r kind s u → Taken kind → Passed start at u
   unfolding quoted-taken
   passed-taken w x y o =
       record {
@@ -100,8 +100,8 @@ module _ (classes text : List ℕ) where
       (quoted-moves (w .quoting) x (go (symbol Quoted start (q + 1) (w .quoting .meaning) ∷ []) outside) refl ∙ rw (x .behind, m))
       (omega (arith, w .from, x .from, x .behind)) (x .within)
 
-  -- the character behind a backslash
-  taking-by : (start at p : ℕ) {q r s u : ℕ} (kind : Kind) → Passed start at p → FirstCharacter classes text p Backslash q r → FirstCharacter classes text r kind s u → (Passed start at u → Closes start at) → Closes start at
+  -- the character after a backslash
+  taking-by : (start at p : ℕ) {q r s u : ℕ} (kind : ByteKind) → Passed start at p → FirstCharacter classes text p Backslash q r → FirstCharacter classes text r kind s u → (Passed start at u → Closes start at) → Closes start at
   taking-by start at p White w x y f = f (passed-taken w x y (hit (0 ∷ 1 ∷ 2 ∷ 3 ∷ 4 ∷ 5 ∷ 6 ∷ 7 ∷ 8 ∷ 10 ∷ 11 ∷ []) 0 tt))
   taking-by start at p Control w x y f = f (passed-taken w x y (hit (0 ∷ 1 ∷ 2 ∷ 3 ∷ 4 ∷ 5 ∷ 6 ∷ 7 ∷ 8 ∷ 10 ∷ 11 ∷ []) 1 tt))
   taking-by start at p Return w x y f = f (passed-taken w x y (hit (0 ∷ 1 ∷ 2 ∷ 3 ∷ 4 ∷ 5 ∷ 6 ∷ 7 ∷ 8 ∷ 10 ∷ 11 ∷ []) 2 tt))
@@ -121,7 +121,7 @@ module _ (classes text : List ℕ) where
       faulty quotedNotClosed start (quoted-moves (w .quoting) x (go [] (takingInQuoted start (w .quoting .meaning))) refl ∙ at-end classes text r _ e)
   taking-view start at p w x (one {kind} {q = u} y) f = taking-by start at p kind w x y (λ z. f u (omega (arith, x .from, x .behind, y .from, y .behind)) (y .within) z)
 
-  quoted-by : (start at p : ℕ) {q r : ℕ} (kind : Kind) → Passed start at p → FirstCharacter classes text p kind q r → View classes text r
+  quoted-by : (start at p : ℕ) {q r : ℕ} (kind : ByteKind) → Passed start at p → FirstCharacter classes text p kind q r → View classes text r
       → ((u : ℕ) → p < u → u ≤ length text → Passed start at u → Closes start at) → Closes start at
   quoted-by start at p {r = r} White w x v f = f r (omega (arith, x .from, x .behind)) (x .within) (passed-data w x (hit (0 ∷ 1 ∷ 3 ∷ 4 ∷ 5 ∷ 8 ∷ 10 ∷ 11 ∷ []) 0 tt) (λ b f. (refl, refl)))
   quoted-by start at p {r = r} Control w x v f = f r (omega (arith, x .from, x .behind)) (x .within) (passed-data w x (hit (0 ∷ 1 ∷ 3 ∷ 4 ∷ 5 ∷ 8 ∷ 10 ∷ 11 ∷ []) 1 tt) (λ b f. (refl, refl)))
@@ -161,7 +161,7 @@ module _ (classes text : List ℕ) where
         | no n ↦ leaves r record { same = comment-over (w .commenting) x (omega arith); from = omega (arith, w .from, x .from, x .behind); within = x .within }
       ]
 
-  escaped-by : (start at depth p : ℕ) {q r s u : ℕ} (kind : Kind) → Within start at depth p → FirstCharacter classes text p Backslash q r → FirstCharacter classes text r kind s u
+  escaped-by : (start at depth p : ℕ) {q r s u : ℕ} (kind : ByteKind) → Within start at depth p → FirstCharacter classes text p Backslash q r → FirstCharacter classes text r kind s u
       → (Within start at depth u → Leaves start at) → Leaves start at
   escaped-by start at depth p White w x y f = f record { commenting = comment-taken (w .commenting) x y (hit (0 ∷ 1 ∷ 2 ∷ 3 ∷ 4 ∷ 5 ∷ 6 ∷ 7 ∷ 8 ∷ 10 ∷ 11 ∷ []) 0 tt); from = omega (arith, w .from, x .from, x .behind, y .from, y .behind) }
   escaped-by start at depth p Control w x y f = f record { commenting = comment-taken (w .commenting) x y (hit (0 ∷ 1 ∷ 2 ∷ 3 ∷ 4 ∷ 5 ∷ 6 ∷ 7 ∷ 8 ∷ 10 ∷ 11 ∷ []) 1 tt); from = omega (arith, w .from, x .from, x .behind, y .from, y .behind) }
@@ -182,7 +182,7 @@ module _ (classes text : List ℕ) where
       faulty commentNotClosed start (comment-moves (w .commenting) x (go [] (takingInComment depth start)) refl ∙ at-end classes text r _ e)
   escaped-view start at depth p w x (one {kind} {q = u} y) f = escaped-by start at depth p kind w x y (λ z. f u depth (omega (arith, x .from, x .behind, y .from, y .behind)) (y .within) z)
 
-  comment-by : (start at depth p : ℕ) {q r : ℕ} (kind : Kind) → Within start at depth p → FirstCharacter classes text p kind q r → View classes text r
+  comment-by : (start at depth p : ℕ) {q r : ℕ} (kind : ByteKind) → Within start at depth p → FirstCharacter classes text p kind q r → View classes text r
       → ((u depth′ : ℕ) → p < u → u ≤ length text → Within start at depth′ u → Leaves start at) → Leaves start at
   comment-by start at depth p {r = r} White w x v f = f r depth (omega (arith, x .from, x .behind)) (x .within) record { commenting = comment-on (w .commenting) x (hit (0 ∷ 1 ∷ 3 ∷ 6 ∷ 8 ∷ 10 ∷ 11 ∷ []) 0 tt); from = omega (arith, w .from, x .from, x .behind) }
   comment-by start at depth p {r = r} Control w x v f = f r depth (omega (arith, x .from, x .behind)) (x .within) record { commenting = comment-on (w .commenting) x (hit (0 ∷ 1 ∷ 3 ∷ 6 ∷ 8 ∷ 10 ∷ 11 ∷ []) 1 tt); from = omega (arith, w .from, x .from, x .behind) }
@@ -215,7 +215,7 @@ module _ (classes text : List ℕ) where
     literally : InLiteral classes text start at p
     from : at ≤ p
 
-  taken-by : (start at p : ℕ) {q r s u : ℕ} (kind : Kind) → Inside start at p → FirstCharacter classes text p Backslash q r → FirstCharacter classes text r kind s u
+  taken-by : (start at p : ℕ) {q r s u : ℕ} (kind : ByteKind) → Inside start at p → FirstCharacter classes text p Backslash q r → FirstCharacter classes text r kind s u
       → (Inside start at u → LiteralEnds start at) → LiteralEnds start at
   taken-by start at p White w x y f = f record { literally = literal-taken (w .literally) x y (hit (0 ∷ 1 ∷ 2 ∷ 3 ∷ 4 ∷ 5 ∷ 6 ∷ 7 ∷ 8 ∷ 10 ∷ 11 ∷ []) 0 tt); from = omega (arith, w .from, x .from, x .behind, y .from, y .behind) }
   taken-by start at p Control w x y f = f record { literally = literal-taken (w .literally) x y (hit (0 ∷ 1 ∷ 2 ∷ 3 ∷ 4 ∷ 5 ∷ 6 ∷ 7 ∷ 8 ∷ 10 ∷ 11 ∷ []) 1 tt); from = omega (arith, w .from, x .from, x .behind, y .from, y .behind) }
@@ -235,7 +235,7 @@ module _ (classes text : List ℕ) where
   taken-view start at p {r = r} w x (over e) f = faulty literalNotClosed start (literal-moves (w .literally) x (go [] (takingInLiteral start)) refl ∙ at-end classes text r _ e)
   taken-view start at p w x (one {kind} {q = u} y) f = taken-by start at p kind w x y (λ z. f u (omega (arith, x .from, x .behind, y .from, y .behind)) (y .within) z)
 
-  literal-by : (start at p : ℕ) {q r : ℕ} (kind : Kind) → Inside start at p → FirstCharacter classes text p kind q r → View classes text r
+  literal-by : (start at p : ℕ) {q r : ℕ} (kind : ByteKind) → Inside start at p → FirstCharacter classes text p kind q r → View classes text r
       → ((u : ℕ) → p < u → u ≤ length text → Inside start at u → LiteralEnds start at) → LiteralEnds start at
   literal-by start at p {r = r} White w x v f = f r (omega (arith, x .from, x .behind)) (x .within) record { literally = literal-on (w .literally) x (hit (0 ∷ 1 ∷ 3 ∷ 4 ∷ 5 ∷ 6 ∷ 8 ∷ []) 0 tt); from = omega (arith, w .from, x .from, x .behind) }
   literal-by start at p {r = r} Control w x v f = f r (omega (arith, x .from, x .behind)) (x .within) record { literally = literal-on (w .literally) x (hit (0 ∷ 1 ∷ 3 ∷ 4 ∷ 5 ∷ 6 ∷ 8 ∷ []) 1 tt); from = omega (arith, w .from, x .from, x .behind) }
@@ -283,7 +283,7 @@ Single Stray = Unit {0}
 Single Dot = Unit {0}
 Single Literal = ⊥
 
-abbrev SingleMark : Kind → Type 0
+abbrev SingleMark : ByteKind → Type 0
 SingleMark White = Unit {0}
 SingleMark Control = Unit {0}
 SingleMark Return = Unit {0}
@@ -297,7 +297,7 @@ SingleMark Above = Unit {0}
 SingleMark OpenBracket = Unit {0}
 SingleMark CloseBracket = Unit {0}
 
-or-else : (test : Bool) (a b : Kind) → SingleMark a → SingleMark b → SingleMark (pick test a b)
+or-else : (test : Bool) (a b : ByteKind) → SingleMark a → SingleMark b → SingleMark (pick test a b)
 or-else true a b x y = x
 or-else false a b x y = y
 
@@ -341,11 +341,11 @@ pub data Unfolded (classes text : List ℕ) (at : ℕ) : Type 0 where
   a-fault : {number p : ℕ} → scanBy classes text at ≡ faultAt number p → Unfolded classes text at
 
 -- what a character outside is: white space, the "(" of a comment, the first byte of a symbol, or it leads to a fault
-pub data OutsideIs (classes text : List ℕ) (at : ℕ) : Kind → ℕ → Type 0 where
+pub data OutsideIs (classes text : List ℕ) (at : ℕ) : ByteKind → ℕ → Type 0 where
   white-space : {p : ℕ} → OutsideIs classes text at White p
   opens-comment : {p : ℕ} → OutsideIs classes text at Open p
-  begins : {kind : Kind} {p : ℕ} {class : Class} {end : ℕ} → p ≡ at → SymbolAt classes text at class p end → OutsideIs classes text at kind p
-  faulty : {kind : Kind} {p number q : ℕ} → scanBy classes text at ≡ faultAt number q → OutsideIs classes text at kind p
+  begins : {kind : ByteKind} {p : ℕ} {class : Class} {end : ℕ} → p ≡ at → SymbolAt classes text at class p end → OutsideIs classes text at kind p
+  faulty : {kind : ByteKind} {p number q : ℕ} → scanBy classes text at ≡ faultAt number q → OutsideIs classes text at kind p
 
 module _ (classes text : List ℕ) where
   later : {at q : ℕ} → at ≤ q → scanBy classes text at ≡ scanBy classes text q → Unfolded classes text q → Unfolded classes text at
@@ -353,7 +353,7 @@ module _ (classes text : List ℕ) where
   later h e (a-symbol s) = a-symbol record { same = e ∙ s .same; from = omega (arith, s .from); starts = s .starts; within = s .within; quotes = s .quotes }
   later h e (a-fault f) = a-fault (e ∙ f)
 
-  one-byte : {at p q : ℕ} {kind : Kind} {class : Class} → FirstCharacter classes text at kind p q → (kind ≡ White → ⊥) → Single class
+  one-byte : {at p q : ℕ} {kind : ByteKind} {class : Class} → FirstCharacter classes text at kind p q → (kind ≡ White → ⊥) → Single class
       → scanBy classes text at ≡ next (symbol class p q (getD text p 0 ∷ [])) (scanBy classes text q) → OutsideIs classes text at kind p
   one-byte {p = p} {q = q} {class = class} x n s e =
       begins (x .tight n)
@@ -414,7 +414,7 @@ module _ (classes text : List ℕ) where
       (f end (omega (arith, x .from, x .behind, e .from)) (e .within))
   in-comment {p = p} x (faulty number r e) f = a-fault (moves x outside (go [] (inComment 0 p)) refl ∙ e)
 
-  outside-by : {at p q : ℕ} (kind : Kind) → SingleMark kind → FirstCharacter classes text at kind p q → OutsideIs classes text at kind p
+  outside-by : {at p q : ℕ} (kind : ByteKind) → SingleMark kind → FirstCharacter classes text at kind p q → OutsideIs classes text at kind p
   outside-by White s x = white-space
   outside-by Control s x = faulty (control-next x (hit (1 ∷ 2 ∷ []) 1 tt))
   outside-by Return s x = faulty (control-next x (hit (1 ∷ 2 ∷ []) 2 tt))
@@ -429,10 +429,10 @@ module _ (classes text : List ℕ) where
   outside-by {p = p} {q = q} OpenBracket s x = in-literal x (literal-run classes text (length text) p q q (omega arith) record { literally = record { same = refl }; from = omega arith })
   outside-by CloseBracket s x = one-byte x (λ k. omega (arith, ap tag k)) tt (stray-next x (hit (5 ∷ 7 ∷ 11 ∷ []) 11 tt))
 
-  pub outside-is : {at p q : ℕ} {kind : Kind} → FirstCharacter classes text at kind p q → OutsideIs classes text at kind p
+  pub outside-is : {at p q : ℕ} {kind : ByteKind} → FirstCharacter classes text at kind p q → OutsideIs classes text at kind p
   outside-is {p = p} {kind = kind} x = outside-by kind (rw (x .kind-is) (character-mark classes (getD text p 0) (x .folded))) x
 
-  outside-on : (at : ℕ) {p q : ℕ} {kind : Kind} → OutsideIs classes text at kind p → FirstCharacter classes text at kind p q → ((r : ℕ) → at < r → r ≤ length text → Unfolded classes text r) → Unfolded classes text at
+  outside-on : (at : ℕ) {p q : ℕ} {kind : ByteKind} → OutsideIs classes text at kind p → FirstCharacter classes text at kind p q → ((r : ℕ) → at < r → r ≤ length text → Unfolded classes text r) → Unfolded classes text at
   outside-on at {q = q} white-space x f = later (omega (arith, x .from, x .behind)) (moves x outside (go [] outside) refl) (f q (omega (arith, x .from, x .behind)) (x .within))
   outside-on at {p = p} {q = q} opens-comment x f =
       in-comment x (comment-run classes text (length text) p q 0 q (omega arith) record { commenting = record { same = refl }; from = omega arith }) f

@@ -51,7 +51,7 @@ pub enum Next {
     Fault(u8, usize),
 }
 
-// The next byte of data of a quoted-string and the position behind it, or that the string is over.
+// The next byte of data of a quoted-string and the position after it, or that the string is over.
 pub enum Datum {
     Byte(u8, usize),
     Over,
@@ -68,7 +68,7 @@ pub enum Category {
 }
 
 // What the scanner tells apart in a byte.
-enum Kind {
+enum ByteKind {
     White,
     Control,
     Return,
@@ -83,57 +83,57 @@ enum Kind {
     CloseBracket,
 }
 
-// The next character: its kind, its position and the position behind it.
+// The next character: its kind, its position and the position after it.
 enum Step {
     Done,
-    Byte(Kind, usize, usize),
+    Byte(ByteKind, usize, usize),
 }
 
-// A comment: the position behind it, or the fault in it.
+// A comment: the position after it, or the fault in it.
 enum Comment {
     Past(usize),
     Open(u8, usize),
 }
 
-// Where scanning stands between symbols: outside, in a comment that lies in so many others, or there behind a backslash.
+// Where scanning stands between symbols: outside, in a comment that lies in so many others, or there after a backslash.
 enum Gap {
     Outside,
     Comment(usize),
     Taking(usize),
 }
 
-// Behind a character: still between symbols, or no longer.
+// After a character: still between symbols, or no longer.
 enum Passed {
     To(Gap),
     Over,
 }
 
 // The kind of a byte.
-fn kind_of(classes: &[u8; 256], b: u8) -> Kind
+fn kind_of(classes: &[u8; 256], b: u8) -> ByteKind
     ensures { λ r. ⌜ r ≡ kindOf (now (classes .entry)) b ⌝ }
 {
     if b == b'\r' {
-        return Kind::Return;
+        return ByteKind::Return;
     }
     let class = octets::classes::class_in(classes, b);
     match class {
-        octets::classes::WHITE => Kind::White,
-        octets::classes::CONTROL => Kind::Control,
-        octets::classes::OPEN_PARENTHESIS => Kind::Open,
-        octets::classes::CLOSE_PARENTHESIS => Kind::Close,
-        octets::classes::LESS_THAN => Kind::Mark(Class::LessThan),
-        octets::classes::GREATER_THAN => Kind::Mark(Class::GreaterThan),
-        octets::classes::AT_SIGN => Kind::Mark(Class::At),
-        octets::classes::COMMA => Kind::Mark(Class::Comma),
-        octets::classes::SEMICOLON => Kind::Mark(Class::Semicolon),
-        octets::classes::COLON => Kind::Mark(Class::Colon),
-        octets::classes::BACKSLASH => Kind::Backslash,
-        octets::classes::QUOTE => Kind::Quote,
-        octets::classes::ABOVE_127 => Kind::Above,
-        octets::classes::DOT => Kind::Mark(Class::Dot),
-        octets::classes::OPEN_BRACKET => Kind::OpenBracket,
-        octets::classes::CLOSE_BRACKET => Kind::CloseBracket,
-        _ => Kind::Plain,
+        octets::classes::WHITE => ByteKind::White,
+        octets::classes::CONTROL => ByteKind::Control,
+        octets::classes::OPEN_PARENTHESIS => ByteKind::Open,
+        octets::classes::CLOSE_PARENTHESIS => ByteKind::Close,
+        octets::classes::LESS_THAN => ByteKind::Mark(Class::LessThan),
+        octets::classes::GREATER_THAN => ByteKind::Mark(Class::GreaterThan),
+        octets::classes::AT_SIGN => ByteKind::Mark(Class::At),
+        octets::classes::COMMA => ByteKind::Mark(Class::Comma),
+        octets::classes::SEMICOLON => ByteKind::Mark(Class::Semicolon),
+        octets::classes::COLON => ByteKind::Mark(Class::Colon),
+        octets::classes::BACKSLASH => ByteKind::Backslash,
+        octets::classes::QUOTE => ByteKind::Quote,
+        octets::classes::ABOVE_127 => ByteKind::Above,
+        octets::classes::DOT => ByteKind::Mark(Class::Dot),
+        octets::classes::OPEN_BRACKET => ByteKind::OpenBracket,
+        octets::classes::CLOSE_BRACKET => ByteKind::CloseBracket,
+        _ => ByteKind::Plain,
     }
 }
 
@@ -162,9 +162,9 @@ fn character(classes: &[u8; 256], text: &[u8], at: usize) -> Step
         return Step::Byte(kind_of(classes, text[at]), at, at + 1);
     }
     if folds(text, at) {
-        Step::Byte(Kind::White, at + 2, at + 3)
+        Step::Byte(ByteKind::White, at + 2, at + 3)
     } else {
-        Step::Byte(Kind::Return, at, at + 1)
+        Step::Byte(ByteKind::Return, at, at + 1)
     }
 }
 
@@ -179,7 +179,7 @@ fn atom_end(classes: &[u8; 256], text: &[u8], start: usize, at: usize) -> usize
             return p;
         };
         match kind {
-            Kind::Plain => p = q,
+            ByteKind::Plain => p = q,
             _ => return p,
         }
     }
@@ -209,14 +209,14 @@ fn quoted_end(classes: &[u8; 256], text: &[u8], start: usize, at: usize) -> Next
             return Next::Fault(QUOTED_NOT_CLOSED, start);
         };
         match kind {
-            Kind::Quote => return Next::Found(Class::Quoted, start, q),
-            Kind::Return => return Next::Fault(STRAY_CONTROL, here),
-            Kind::Above => return Next::Fault(BYTE_ABOVE_127, here),
-            Kind::Backslash => {
+            ByteKind::Quote => return Next::Found(Class::Quoted, start, q),
+            ByteKind::Return => return Next::Fault(STRAY_CONTROL, here),
+            ByteKind::Above => return Next::Fault(BYTE_ABOVE_127, here),
+            ByteKind::Backslash => {
                 let Step::Byte(taken, place, behind) = character(classes, text, q) else {
                     return Next::Fault(QUOTED_NOT_CLOSED, start);
                 };
-                if let Kind::Above = taken {
+                if let ByteKind::Above = taken {
                     return Next::Fault(BYTE_ABOVE_127, place);
                 }
                 p = behind;
@@ -234,8 +234,8 @@ pub fn next_datum(classes: &[u8; 256], text: &[u8], at: usize) -> Datum
         return Datum::Over;
     };
     match kind {
-        Kind::Quote => Datum::Over,
-        Kind::Backslash => {
+        ByteKind::Quote => Datum::Over,
+        ByteKind::Backslash => {
             let Step::Byte(taken, place, behind) = character(classes, text, q) else {
                 return Datum::Over;
             };
@@ -256,19 +256,19 @@ fn literal_end(classes: &[u8; 256], text: &[u8], start: usize, at: usize) -> Nex
             return Next::Fault(LITERAL_NOT_CLOSED, start);
         };
         match kind {
-            Kind::CloseBracket => return Next::Found(Class::Literal, start, q),
-            Kind::Return => return Next::Fault(STRAY_CONTROL, here),
-            Kind::Above => return Next::Fault(BYTE_ABOVE_127, here),
-            Kind::Backslash => {
+            ByteKind::CloseBracket => return Next::Found(Class::Literal, start, q),
+            ByteKind::Return => return Next::Fault(STRAY_CONTROL, here),
+            ByteKind::Above => return Next::Fault(BYTE_ABOVE_127, here),
+            ByteKind::Backslash => {
                 let Step::Byte(taken, place, behind) = character(classes, text, q) else {
                     return Next::Fault(LITERAL_NOT_CLOSED, start);
                 };
-                if let Kind::Above = taken {
+                if let ByteKind::Above = taken {
                     return Next::Fault(BYTE_ABOVE_127, place);
                 }
                 p = behind;
             }
-            Kind::OpenBracket => return Next::Fault(LITERAL_NOT_CLOSED, start),
+            ByteKind::OpenBracket => return Next::Fault(LITERAL_NOT_CLOSED, start),
             _ => p = q,
         }
     }
@@ -286,24 +286,24 @@ fn comment_end(classes: &[u8; 256], text: &[u8], start: usize, at: usize) -> Com
             return Comment::Open(COMMENT_NOT_CLOSED, start);
         };
         match kind {
-            Kind::Open => {
+            ByteKind::Open => {
                 depth += 1;
                 p = q;
             }
-            Kind::Close => {
+            ByteKind::Close => {
                 if depth == 0 {
                     return Comment::Past(q);
                 }
                 depth -= 1;
                 p = q;
             }
-            Kind::Return => return Comment::Open(STRAY_CONTROL, here),
-            Kind::Above => return Comment::Open(BYTE_ABOVE_127, here),
-            Kind::Backslash => {
+            ByteKind::Return => return Comment::Open(STRAY_CONTROL, here),
+            ByteKind::Above => return Comment::Open(BYTE_ABOVE_127, here),
+            ByteKind::Backslash => {
                 let Step::Byte(taken, place, behind) = character(classes, text, q) else {
                     return Comment::Open(COMMENT_NOT_CLOSED, start);
                 };
-                if let Kind::Above = taken {
+                if let ByteKind::Above = taken {
                     return Comment::Open(BYTE_ABOVE_127, place);
                 }
                 p = behind;
@@ -323,25 +323,25 @@ pub fn next_by(classes: &[u8; 256], text: &[u8], at: usize) -> Next
             return Next::Ended;
         };
         match kind {
-            Kind::White => p = q,
-            Kind::Open => match comment_end(classes, text, here, q) {
+            ByteKind::White => p = q,
+            ByteKind::Open => match comment_end(classes, text, here, q) {
                 Comment::Past(behind) => p = behind,
                 Comment::Open(number, place) => return Next::Fault(number, place),
             },
-            Kind::Quote => return quoted_end(classes, text, here, q),
-            Kind::Plain => {
+            ByteKind::Quote => return quoted_end(classes, text, here, q),
+            ByteKind::Plain => {
                 let end = atom_end(classes, text, here, q);
                 return Next::Found(atom_class(text, here, end), here, end);
             }
-            Kind::Mark(class) => return Next::Found(class, here, q),
-            Kind::Close | Kind::Backslash | Kind::CloseBracket => return Next::Found(
+            ByteKind::Mark(class) => return Next::Found(class, here, q),
+            ByteKind::Close | ByteKind::Backslash | ByteKind::CloseBracket => return Next::Found(
                 Class::Stray,
                 here,
                 q,
             ),
-            Kind::Control | Kind::Return => return Next::Fault(STRAY_CONTROL, here),
-            Kind::Above => return Next::Fault(BYTE_ABOVE_127, here),
-            Kind::OpenBracket => return literal_end(classes, text, here, q),
+            ByteKind::Control | ByteKind::Return => return Next::Fault(STRAY_CONTROL, here),
+            ByteKind::Above => return Next::Fault(BYTE_ABOVE_127, here),
+            ByteKind::OpenBracket => return literal_end(classes, text, here, q),
         }
     }
 }
@@ -380,7 +380,11 @@ fn past_harmless(classes: &[u8; 256], text: &[u8], at: usize) -> usize
     let mut p = at;
     while p < text.len() {
         match kind_of(classes, text[p]) {
-            Kind::White | Kind::Plain | Kind::Close | Kind::Backslash | Kind::Mark(_) => p += 1,
+            ByteKind::White
+            | ByteKind::Plain
+            | ByteKind::Close
+            | ByteKind::Backslash
+            | ByteKind::Mark(_) => p += 1,
             _ => return p,
         }
     }
@@ -441,58 +445,58 @@ fn symbol_category(text: &[u8], class: Class, start: usize, end: usize) -> Categ
 }
 
 // What a character of a kind is where scanning stands there.
-fn gap_category(gap: Gap, kind: Kind) -> Category
+fn gap_category(gap: Gap, kind: ByteKind) -> Category
     ensures { λ r. ⌜ GapCategoryIs gap kind r ⌝ }
 {
     match gap {
         Gap::Outside => match kind {
-            Kind::White => Category::White,
-            Kind::Open => Category::Comment,
+            ByteKind::White => Category::White,
+            ByteKind::Open => Category::Comment,
             _ => Category::Nothing,
         },
         _ => Category::Comment,
     }
 }
 
-// Where scanning stands behind a character of a kind in a comment that lies in so many others.
-fn pass_comment(depth: usize, kind: Kind) -> Passed
+// Where scanning stands after a character of a kind in a comment that lies in so many others.
+fn pass_comment(depth: usize, kind: ByteKind) -> Passed
     requires { ⌜ depth < countLimit ⌝ }
     ensures { λ r. ⌜ PassedIs (commentGap depth) kind r × PassedLow (depth + 1) r ⌝ }
 {
     match kind {
-        Kind::Open => Passed::To(Gap::Comment(depth + 1)),
-        Kind::Close => {
+        ByteKind::Open => Passed::To(Gap::Comment(depth + 1)),
+        ByteKind::Close => {
             if depth == 0 {
                 return Passed::To(Gap::Outside);
             }
             Passed::To(Gap::Comment(depth - 1))
         }
-        Kind::Backslash => Passed::To(Gap::Taking(depth)),
-        Kind::Return | Kind::Above => Passed::Over,
+        ByteKind::Backslash => Passed::To(Gap::Taking(depth)),
+        ByteKind::Return | ByteKind::Above => Passed::Over,
         _ => Passed::To(Gap::Comment(depth)),
     }
 }
 
-// Where scanning stands behind a character of a kind.
-fn pass(gap: Gap, kind: Kind) -> Passed
+// Where scanning stands after a character of a kind.
+fn pass(gap: Gap, kind: ByteKind) -> Passed
     requires { ⌜ gapDepth gap < countLimit ⌝ }
     ensures { λ r. ⌜ PassedIs gap kind r × PassedLow (gapDepth gap + 1) r ⌝ }
 {
     match gap {
         Gap::Outside => match kind {
-            Kind::White => Passed::To(Gap::Outside),
-            Kind::Open => Passed::To(Gap::Comment(0)),
+            ByteKind::White => Passed::To(Gap::Outside),
+            ByteKind::Open => Passed::To(Gap::Comment(0)),
             _ => Passed::Over,
         },
         Gap::Comment(depth) => pass_comment(depth, kind),
         Gap::Taking(depth) => match kind {
-            Kind::Above => Passed::Over,
+            ByteKind::Above => Passed::Over,
             _ => Passed::To(Gap::Comment(depth)),
         },
     }
 }
 
-// What the byte at a place is that lies between symbols, from the position behind the symbol before it on.
+// What the byte at a place is that lies between symbols, from the position after the symbol before it on.
 fn between_by(classes: &[u8; 256], text: &[u8], at: usize, place: usize) -> Category
     ensures { λ r. ⌜ r ≡ between (now (classes .entry)) place (charactersAt (now (text .entry)) at) outside ⌝ }
 {

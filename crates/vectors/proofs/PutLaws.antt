@@ -17,7 +17,7 @@ use Rattle.vectors.specs.Ties.Puts.{Puts}
 pub puts-nothing : (out : List ℕ) (n : ℕ) → Puts (λ rest. rest) out n out n
 puts-nothing out n = record { same = λ rest. refl }
 
--- the place behind a byte
+-- the place after a byte
 pub next-inside : (out : List ℕ) (n : ℕ) → n < length out → n + 1 ≡ next out n
 next-inside out n h = rw (lt-ltb n (length out) h)
 
@@ -33,7 +33,7 @@ puts-byte e f = record { same = λ rest. rw (e, f) }
 pub puts-as : {f g : List ℕ → List ℕ} {o p : List ℕ} {n m : ℕ} → ((rest : List ℕ) → f rest ≡ g rest) → Puts f o n p m → Puts g o n p m
 puts-as {o = o} {n = n} e w = record { same = λ rest. ap (putting o n) (sym (e rest)) ∙ w .same rest }
 
--- one text behind another
+-- one text after another
 pub puts-both : {f g : List ℕ → List ℕ} {o p q : List ℕ} {n m k : ℕ} → Puts f o n p m → Puts g p m q k → Puts (λ rest. f (g rest)) o n q k
 puts-both {f} {g} a b = record { same = λ rest. a .same (g rest) ∙ b .same rest }
 

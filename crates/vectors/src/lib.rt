@@ -1,6 +1,6 @@
 // Runs a vector, and puts what it gives into a lent text.
 //
-// A line of vectors: a word whose first letter tells what is run, numbers behind marks, "|" and a message; where a second text
+// A line of vectors: a word whose first letter tells what is run, numbers after marks, "|" and a message; where a second text
 // is needed, "|" and that text. "<" start and ">" end of the body, otherwise the whole message; "/" room in bytes or numbers;
 // "=" edition; "@" place. In a message "~" stands for CR, "^" for LF, "$" for a zero, "{255}" for the byte of that number, and
 // "{64*<}" for 64 times "<". The words:
@@ -52,7 +52,7 @@ const UNTOUCHED: u8 = 170;
 
 // ---- texts
 
-// The place behind a byte, which stays at the end of a part.
+// The place after a byte, which stays at the end of a part.
 fn next(out: &[u8], n: usize) -> usize
     ensures { λ r. ⌜ r ≡ nextOf (now (out .entry)) n ⌝ }
 {
@@ -123,7 +123,7 @@ fn put_decimal(x: u64, out: &mut [u8], n: usize) -> usize
     put_bytes(&digits[..k], out, n)
 }
 
-// Each number behind one SPACE.
+// Each number after one SPACE.
 fn put_numbers(numbers: &[u64], out: &mut [u8], n: usize) -> usize
     ensures { λ r. ⌜ Puts (spaced (now (numbers .entry))) (now (out .entry)) n (now (out .exit)) r ⌝ }
 {
@@ -159,7 +159,7 @@ fn put_bracketed(text: &[u8], out: &mut [u8], n: usize) -> usize
 
 // ---- what a line says
 
-// The place of the first such mark, and the place behind it; without one, both are the end.
+// The place of the first such mark, and the place after it; without one, both are the end.
 struct Seam {
     at: usize,
     past: usize,
@@ -206,7 +206,7 @@ fn digits(text: &[u8]) -> usize
     n
 }
 
-// The number behind a mark.
+// The number after a mark.
 fn asked(head: &[u8], mark: u8, otherwise: usize) -> usize
     ensures { λ r. ⌜ r ≡ askedOf mark otherwise (now (head .entry)) ⌝ }
 {
@@ -805,7 +805,7 @@ fn put_with_room<'a>(
     )
 }
 
-// What a vector gives, from what stands before and behind its first "|".
+// What a vector gives, from what stands before and after its first "|".
 fn put_parts(letter: u8, head: &[u8], tail: &[u8], store: &[u8], out: &mut [u8], n: usize) -> usize
     ensures { λ r. ⌜ Puts (partsText letter (now (head .entry)) (now (tail .entry)) (now (store .entry))) (now (out .entry)) n (now (out .exit)) r ⌝ }
 {

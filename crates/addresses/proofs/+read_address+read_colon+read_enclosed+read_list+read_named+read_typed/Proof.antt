@@ -60,15 +60,15 @@ use Rattle.addresses.proofs.+read_address+read_colon+read_enclosed+read
 abbrev left : List ℕ → ℕ → Frame → ℕ
 left text at frame = (length text - at) + frame .levels
 
--- from the first symbol on; each reader that it calls stands behind that symbol
+-- from the first symbol on; each reader that it calls stands after that symbol
 abbrev μ-read-address : Measures 3 read-address-kinds.ps ℕ
 μ-read-address κs a = 2 * left (a .1 .0 .now) (a .1 .1 .1 .1 .0) (a .1 .1 .1 .1 .1 .1 .0)
 
--- from behind the ":" on, and 1 more, since read_enclosed is called at the same place; read_typed stands behind the second ":"
+-- from after the ":" on, and 1 more, since read_enclosed is called at the same place; read_typed stands after the second ":"
 abbrev μ-read-colon : Measures 3 read-colon-kinds.ps ℕ
 μ-read-colon κs a = 2 * left (a .1 .0 .now) (a .1 .1 .1 .1 .0) (a .1 .1 .1 .1 .1 .0) + 1
 
--- from behind the opening mark on; the list is called one level down
+-- from after the opening mark on; the list is called one level down
 abbrev μ-read-enclosed : Measures 3 read-enclosed-kinds.ps ℕ
 μ-read-enclosed κs a = 2 * left (a .1 .0 .now) (a .1 .1 .1 .1 .1 .0) (a .1 .1 .1 .1 .1 .1 .1 .0)
 
@@ -76,11 +76,11 @@ abbrev μ-read-enclosed : Measures 3 read-enclosed-kinds.ps ℕ
 abbrev μ-read-list : Measures 3 read-list-kinds.ps ℕ
 μ-read-list κs a = 2 * left (a .1 .0 .now) (a .1 .1 .1 .0) (a .1 .1 .1 .1 .0) + 1
 
--- from behind the first word on; read_enclosed stands behind the mark that follows the words
+-- from after the first word on; read_enclosed stands after the mark that follows the words
 abbrev μ-read-named : Measures 3 read-named-kinds.ps ℕ
 μ-read-named κs a = 2 * left (a .1 .0 .now) (a .1 .1 .1 .1 .1 .0) (a .1 .1 .1 .1 .1 .1 .0)
 
--- from behind the second ":" on; the address is called one level down
+-- from after the second ":" on; the address is called one level down
 abbrev μ-read-typed : Measures 3 read-typed-kinds.ps ℕ
 μ-read-typed κs a = 2 * left (a .1 .0 .now) (a .1 .1 .1 .1 .1 .1 .0) (a .1 .1 .1 .1 .1 .1 .1 .0)
 

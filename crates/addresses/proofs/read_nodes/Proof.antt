@@ -20,7 +20,7 @@ Inv-loop classes text start at p₀ p =
 abbrev μ-loop : tie.MeasureT-loop
 μ-loop classes text start at p₀ p = length text - p
 
--- what was seen behind an "at"
+-- what was seen after an "at"
 seen : (c : tie.After-next-by Inv-loop μ-loop) → (let a = c .before .before .before .args in NextIs (a .classes .now) (a .text .now) (c .before .loop .p) (c .next-by .result))
 seen c = next-is _ _ _ (c .next-by .result) (c .before .loop .inv .faultless) (c .next-by .ensures)
 
@@ -30,7 +30,7 @@ read c =
     node-read _ _ (c .before .before .before .before .before .before .loop .inv) (rw (c .before .before .before .class .given .1) at (seen (c .before .before .before .before .before)))
     (sym (c .before .is-word .ensures) ∙ not-false _ (c .if1 .left))
 
--- what was seen behind it
+-- what was seen after it
 seen-behind : (c : tie.After-next-by2 Inv-loop μ-loop) → (let a = c .before .before .before .before .before .before .before .before .before .args in NextIs (a .classes .now) (a .text .now) (c .before .before .before .before .class .given .0 .1 .1 .0) (c .next-by2 .result))
 seen-behind c = next-is _ _ _ (c .next-by2 .result) (read (c .before) .faultless) (c .next-by2 .ensures)
 

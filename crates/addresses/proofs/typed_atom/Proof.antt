@@ -19,7 +19,7 @@ first c = next-is _ _ _ (c .next-by .result) (c .before .before .pre) (c .next-b
 atom : (c : tie.After-enum-told) → (let a = c .before .before .before .before .before .before .before .args in let f = c .before .before .before .class .given .0 in NextIs (a .classes .now) (a .text .now) (a .at) (Found Atom (f .1 .0) (f .1 .1 .0)))
 atom c = rw (c .enum-told .given .1) at (rw (c .before .before .before .class .given .1) at (first (c .before .before .before .before .before)))
 
--- what was seen behind it
+-- what was seen after it
 second : (c : tie.After-next-by2) → (let a = c .before .before .before .before .before .before .before .before .args in NextIs (a .classes .now) (a .text .now) (c .before .before .before .before .class .given .0 .1 .1 .0) (c .next-by2 .result))
 second c = next-is _ _ _ (c .next-by2 .result) (atom (c .before) .ok .1 .faultless) (c .next-by2 .ensures)
 

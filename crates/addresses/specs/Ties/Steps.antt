@@ -41,7 +41,7 @@ isWord c = oneOf (Atom ∷ Quoted ∷ []) c
 abbrev pub isQuoted : Class → Bool
 isQuoted c = sameClass Quoted c
 
--- what comes next may stand behind an address
+-- what comes next may stand after an address
 abbrev pub endsAddressNext : Next → Bool
 endsAddressNext (Found class start end) = endsAddress class
 endsAddressNext Ended = true
@@ -105,7 +105,7 @@ module _ (classes text : List ℕ) where
   symbolsAhead Ended = []
   symbolsAhead (Fault number p) = []
 
-  -- a symbol stands from a position to another, and there is no fault behind it
+  -- a symbol stands from a position to another, and there is no fault after it
   pub record Standing (start end : ℕ) : Type 0 where
     pub starts : start < end
     pub within : end ≤ length text
@@ -142,7 +142,7 @@ module _ (classes text : List ℕ) where
     pub from : end ≤ r .end
     pub within : r .end ≤ length text
 
-  -- ---- nodes, behind the "at" that stands from start to at
+  -- ---- nodes, after the "at" that stands from start to at
 
   pub record NodesEnd (start at : ℕ) (ahead : Next) (last : ℕ) : Type 0 where
     pub nodes : Nodes
@@ -171,7 +171,7 @@ module _ (classes text : List ℕ) where
   NodesIs start at (Stopped number-told place) =
       Stops (λ (c : NodesContext) why rest. judge (run (c .limit) (firstAt (c .here) (c .phrase) (lexemeAt At start at)) (symbolsFrom at)) ≡ refused why rest) number-told place
 
-  -- ---- an atom and ":" behind a ":"
+  -- ---- an atom and ":" after a ":"
 
   pub record TypedFollows (at start end behind : ℕ) : Type 0 where
     pub colon : Lexeme
@@ -229,7 +229,7 @@ module _ (classes text : List ℕ) where
     pub end-is : span .end ≡ nameEnd name (lexemeAt (opening enclosure) a b)
     pub house : House enclosure name (symbolsFrom b)
 
-  -- a mark stands from a to b, behind the start of its address
+  -- a mark stands from a to b, after the start of its address
   pub record Opened (a b : ℕ) (span : Span) (frame : Frame) : Type 0 where
     pub stands : Standing a b
     pub behind : span .start ≤ a

@@ -35,7 +35,7 @@ stateAfter (c ∷ rest) state = elim (stateBehind state c) [ none ↦ none | som
 -- ---- where a comment may stand
 
 -- a "(" opens a comment outside, in an atom, which it ends, and in a comment; not in a quoted-string, in a domain literal nor
--- behind a backslash
+-- after a backslash
 abbrev pub opensComment : State → Bool
 opensComment outside = true
 opensComment (inAtom start end t) = true
@@ -46,7 +46,7 @@ opensComment (takingInLiteral start) = false
 opensComment (inComment depth start) = true
 opensComment (takingInComment depth start) = false
 
--- a comment may stand behind a text whose body starts at a position: scanning comes so far without fault, and a "(" opens one there
+-- a comment may stand after a text whose body starts at a position: scanning comes so far without fault, and a "(" opens one there
 abbrev pub commentMayFollow : List ℕ → ℕ → Bool
 commentMayFollow text start = elim (stateAfter (charactersAt text start) outside) [ none ↦ false | some state ↦ opensComment state ]
 
@@ -68,7 +68,7 @@ abbrev pub isEmpty : List Character → Bool
 isEmpty [] = true
 isEmpty (c ∷ rest) = false
 
--- behind a character of a comment: outside, and then no character is left; or still in it, and it is closed later
+-- after a character of a comment: outside, and then no character is left; or still in it, and it is closed later
 abbrev pub closedBy : Option State → List Character → (State → Bool) → Bool
 closedBy none rest later = false
 closedBy (some state) rest later = pick (isOutside state) (isEmpty rest) (later state)
@@ -85,7 +85,7 @@ isComment (b ∷ inside) = both (eqb b openByte) (closes (charactersFrom charact
 
 -- ---- no comment is left out
 
--- bytes begin with a comment, and others stand behind it
+-- bytes begin with a comment, and others stand after it
 pub record BeginsWithComment (bytes : List ℕ) : Type 0 where
   pub comment : List ℕ
   pub behind : List ℕ

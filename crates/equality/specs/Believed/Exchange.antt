@@ -18,7 +18,7 @@ use Rattle.equality.specs.Believed.Comments.{commentMayFollow, isComment
 
 -- ---- a comment in the body of a message
 
--- a place in the body of a message: the bytes of the message before it and behind it, where the body starts, and how many of the bytes behind it are the body's
+-- a place in the body of a message: the bytes of the message before it and after it, where the body starts, and how many of the bytes after it are the body's
 pub record Place : Type 0 where
   pub before : List ℕ
   pub behind : List ℕ

@@ -32,16 +32,16 @@ pub data IsOf : Thing → Class → Type 0 where
 
 -- ---- what could stand
 
--- some list of at most `limit` levels goes on with this symbol behind these
+-- some list of at most `limit` levels goes on with this symbol after these
 abbrev pub GoesOnWith : ℕ → List (Symbol Class) → Symbol Class → Type 0
 GoesOnWith limit before x = GoesOn DerivedList levels (AtMost limit) (upTo before x)
 
--- some list of at most `limit` levels goes on with such a thing behind these symbols; for the end: they are such a list
+-- some list of at most `limit` levels goes on with such a thing after these symbols; for the end: they are such a list
 pub data Could (limit : ℕ) (before : List (Symbol Class)) : Thing → Type 0 where
   goesOn : {thing : Thing} (x : Symbol Class) → IsOf thing (x .class) → GoesOnWith limit before x → Could limit before thing
   ends : {k : Derivation} → DerivedList k before → levels k ≤ limit → Could limit before bodyEnd
 
--- a thing is named exactly if it could stand behind these symbols
+-- a thing is named exactly if it could stand after these symbols
 pub record Exactly (limit : ℕ) (before : List (Symbol Class)) (named : Thing → Bool) : Type 0 where
   pub only : (thing : Thing) → named thing ≡ true → Could limit before thing
   pub all : (thing : Thing) → Could limit before thing → named thing ≡ true

@@ -156,7 +156,7 @@ module _ {C S T : Type 0} (Derives : T → List (Symbol C) → Type 0) (levels :
         let b : read (max (levels t) (levels u)) xs ≡ accepted u = M .complete (max (levels t) (levels u)) u xs e (omega arith) in
         cc
 
-    -- ---- what could stand behind symbols that the machine has taken
+    -- ---- what could stand after symbols that the machine has taken
 
     -- a symbol that the machine takes goes on ..
     pub taken-goes-on : (n : ℕ) (p : List (Symbol C)) (s s′ : S) (x : Symbol C) → Leads n start p s → step n s x ≡ go s′ → GoesOn Derives levels (AtMost n) (upTo p x)

@@ -14,7 +14,7 @@ pub record Lies (from to : ℕ) (r : AddressRecord) : Type 0 where
   pub not-empty : r .start < r .end
   pub before-to : r .end ≤ to
 
--- records lie between two positions, and each starts behind the start of the one before
+-- records lie between two positions, and each starts after the start of the one before
 abbrev pub Ascending : ℕ → ℕ → List AddressRecord → Type 0
 Ascending from to [] = from ≤ to
 Ascending from to (r ∷ rs) = Lies from to r × Ascending (suc (r .start)) to rs

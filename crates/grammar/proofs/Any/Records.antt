@@ -89,9 +89,9 @@ module _ {C N : Type 0} where
   pub parent-smaller : (forest : Forest C N) (i : ℕ) (r : AddressRecord) → i < length (records forest) → getD (records forest) i r .parent ≤ i
   parent-smaller forest i r h = omega (arith, parent-at (records forest) 0 i r (parents-from forest 0 0 0 (omega arith)) h)
 
-  -- ---- records behind others
+  -- ---- records after others
 
-  -- records, and those of a forest behind them
+  -- records, and those of a forest after them
   abbrev pub Then : List AddressRecord → Forest C N → ℕ → ℕ → List AddressRecord
   Then rs k d p = rs ++ recordsFrom k d p (length rs)
 

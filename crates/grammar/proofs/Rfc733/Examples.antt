@@ -66,7 +66,7 @@ levels-65 = (refl, refl, refl)
 typed-64 : Gives (times 63 LessThan (Colon ∷ Atom ∷ Colon ∷ Quoted ∷ times 63 GreaterThan [])) 0 0 65
 typed-64 = (refl, refl, refl)
 
--- with 64 open a colon behind a mailbox is no list's, and one behind a phrase is a level too many
+-- with 64 open a colon after a mailbox is no list's, and one after a phrase is a level too many
 mailbox-colon : Gives (times 64 LessThan (Atom ∷ At ∷ Atom ∷ Colon ∷ [])) 8 67 0
 mailbox-colon = (refl, refl, refl)
 

@@ -41,7 +41,7 @@ nodes-lies (next m t w) from to xs h =
     let g = word-lies w (t .end) to xs (f .1 .2) in
     (omega (arith, f .0, f .1 .0, f .1 .1, g .0, g .1), g .2)
 
--- a name, and the mark behind it
+-- a name, and the mark after it
 pub name-lies : (o : Option Phrase) (from to : ℕ) (x : Sym) (xs : List Sym) → InOrder from to (nameThen o (x ∷ xs))
     → (from ≤ nameStart o (x .lexeme)) × (nameStart o (x .lexeme) ≤ nameEnd o (x .lexeme)) × (nameEnd o (x .lexeme) ≤ x .lexeme .start)
     × (x .lexeme .start + leastBytes (x .class) ≤ x .lexeme .end) × InOrder (x .lexeme .end) to xs

@@ -36,7 +36,7 @@ abbrev pub nodesEnd : Nodes → ℕ
 nodesEnd (first t w) = wordLexeme w .end
 nodesEnd (next m t w) = wordLexeme w .end
 
--- the start of a name, or of the mark behind it
+-- the start of a name, or of the mark after it
 abbrev pub nameStart : Option Phrase → Lexeme → ℕ
 nameStart none t = t .start
 nameStart (some p) t = phraseStart p

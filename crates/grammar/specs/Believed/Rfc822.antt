@@ -32,7 +32,7 @@ rulesOf routeAddr =
     ∷ []
 -- local-part, the name, "@" and domain
 rulesOf addrSpec = flat (always kinds.mailbox) (some 0) (nonterminal localPart ∷ symbol At ∷ nonterminal domain ∷ []) ∷ []
--- one or more of ("@", domain), with empty slots before, between and behind them, and ":"
+-- one or more of ("@", domain), with empty slots before, between and after them, and ":"
 rulesOf route = plain (nonterminal hops ∷ symbol Colon ∷ []) ∷ plain (nonterminal hops ∷ symbol Comma ∷ nonterminal emptySlots ∷ symbol Colon ∷ []) ∷ []
 rulesOf hops =
     plain (nonterminal emptySlots ∷ symbol At ∷ nonterminal domain ∷ [])

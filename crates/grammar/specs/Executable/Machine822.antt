@@ -31,7 +31,7 @@ pub data Hop : Type 0 where
   firstAt : Empties → Hop
   nextAt : Hops → Lexeme → Empties → Hop
 
--- where a domain stands, behind its "@"
+-- where a domain stands, after its "@"
 pub data Behind : Type 0 where
   ofSpec : In → Local → Lexeme → Behind
   ofHop : Open → Hop → Lexeme → Behind
@@ -67,12 +67,12 @@ words f arrows = on Atom (λ t. f (atomWord t)) ∷ on Quoted (λ t. f (quotedWo
 abbrev pub subs : (Sub → State) → Arrows
 subs f = on Atom (λ t. f (atomSub t)) ∷ on Literal (λ t. f (literalSub t)) ∷ []
 
--- behind a phrase: "<", and where a group may begin ":"
+-- after a phrase: "<", and where a group may begin ":"
 abbrev afterPhrase : Here → Phrase → Arrows
 afterPhrase (inList r) p = on LessThan (λ t. opened (less (inList r) p t)) ∷ on Colon (λ t. place (inGroup r p t empty)) ∷ []
 afterPhrase (inGroup r q c s) p = on LessThan (λ t. opened (less (inGroup r q c s) p t)) ∷ []
 
--- behind a place of a list, with an address or without
+-- after a place of a list, with an address or without
 abbrev afterPlace : Listed Address → Arrows
 afterPlace l = on Comma (λ t. place (inList (comma l t))) ∷ []
 

@@ -27,7 +27,7 @@ unfoldable pub signed : ℤ → List ℕ → List ℕ
 signed (pos n) rest = decimal n rest
 signed (negsuc n) rest = minusByte ∷ decimal (n + 1) rest
 
--- each number behind one SPACE
+-- each number after one SPACE
 unfoldable pub spaced : List ℕ → List ℕ → List ℕ
 spaced [] rest = rest
 spaced (n ∷ numbers) rest = spaceByte ∷ decimal n (spaced numbers rest)

@@ -24,7 +24,7 @@ use Rattle.dates.specs.declared.DateAnswer.{DateAnswer}
 use Rattle.dates.specs.declared.DateAnswer.the-variants as date
 use Rattle.listing.specs.Believed.Lines.{fieldLine, addressLine, dateLine, refusedLine}
 
--- the texts of things, one behind the other
+-- the texts of things, one after the other
 unfoldable pub each : {A : Type 0} → (A → List ℕ → List ℕ) → List A → List ℕ → List ℕ
 each text [] rest = rest
 each text (a ∷ more) rest = text a (each text more rest)

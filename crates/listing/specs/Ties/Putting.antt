@@ -32,7 +32,7 @@ unfoldable pub tabulate : {A : Type 0} → (ℕ → A) → ℕ → ℕ → List 
 tabulate thing zero i = []
 tabulate thing (suc many) i = thing i ∷ tabulate thing many (i + 1)
 
--- a number behind one SPACE
+-- a number after one SPACE
 abbrev pub number : ℕ → List ℕ → List ℕ
 number n rest = spaceByte ∷ decimal n rest
 

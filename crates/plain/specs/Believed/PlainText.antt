@@ -34,7 +34,7 @@ abbrev pub wordText : Word → List ℕ → List ℕ
 wordText (atom letters) rest = letters ++ rest
 wordText (quotedString content) rest = quotedText content rest
 
--- one SPACE behind words, if there are any
+-- one SPACE after words, if there are any
 abbrev pub spaceBehind : Words → List ℕ → List ℕ
 spaceBehind noWord rest = rest
 spaceBehind (andWord before word) rest = bytes " " ++ rest
@@ -68,7 +68,7 @@ firstAtomGroup noAddress = false
 firstAtomGroup (andAddress noAddress first) = atomGroup first
 firstAtomGroup (andAddress (andAddress before other) last) = firstAtomGroup (andAddress before other)
 
--- behind the ":" of a group with this name and these members: nothing if it is empty;
+-- after the ":" of a group with this name and these members: nothing if it is empty;
 -- a comma and SPACE if it is nameless and its first member is a group named by a single atom; else SPACE
 abbrev pub groupGap : Words → Addresses → List ℕ → List ℕ
 groupGap name noAddress rest = rest
@@ -77,7 +77,7 @@ groupGap (andWord words word) (andAddress before last) rest = bytes " " ++ rest
 
 -- ---- addresses
 
--- comma and SPACE behind addresses, if there are any
+-- comma and SPACE after addresses, if there are any
 abbrev pub commaBehind : Addresses → List ℕ → List ℕ
 commaBehind noAddress rest = rest
 commaBehind (andAddress before last) rest = bytes ", " ++ rest
@@ -91,7 +91,7 @@ openingText kind name nodes members rest =
     (pick (eqb kind (kindNumber quoted)) (phraseText name rest)
     (bytes ":" ++ phraseText name (bytes ": " ++ rest)))))
 
--- what stands behind them: `>`, `;` or nothing
+-- what stands after them: `>`, `;` or nothing
 abbrev pub closingText : ℕ → List ℕ → List ℕ
 closingText kind rest =
     pick (eqb kind (kindNumber angleList)) (bytes ">") (pick (eqb kind (kindNumber group)) (bytes ";") []) ++ rest

@@ -91,7 +91,7 @@ symbolText Stray meaning place colon rest = rest
 symbolText Dot meaning place colon rest = rest
 symbolText Literal meaning place colon rest = rest
 
--- the place behind a symbol
+-- the place after a symbol
 abbrev pub after : Class → Place → Bool → Place
 after Atom place colon = afterAtom place colon
 after Quoted place colon = Word

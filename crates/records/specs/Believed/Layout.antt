@@ -19,7 +19,7 @@ abbrev pub partBytes : Part → ℕ → List ℕ
 partBytes byte x = x ∷ []
 partBytes (number width) x = bytesOf width x
 
--- the bytes that parts take, one behind the other
+-- the bytes that parts take, one after the other
 abbrev pub sizeOf : List Part → ℕ
 sizeOf [] = 0
 sizeOf (part ∷ parts) = widthOf part + sizeOf parts

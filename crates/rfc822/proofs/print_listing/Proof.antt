@@ -1,4 +1,4 @@
--- `rfc822::print_listing` is safe and ends: each window starts behind the one before. Assumes nothing.
+-- `rfc822::print_listing` is safe and ends: each window starts after the one before. Assumes nothing.
 use mathlib.Core.Path.{_≡_, refl, _∙_}
 use Prim.Native.Nat.{_-_}
 use borrow.Author.Needs.{needs}

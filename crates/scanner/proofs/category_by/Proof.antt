@@ -1,4 +1,4 @@
--- `scanner::category_by` meets its contract: the place lies at or behind the position reached, from which there is no fault. Assumes nothing.
+-- `scanner::category_by` meets its contract: the place lies at or after the position reached, from which there is no fault. Assumes nothing.
 use borrow.Author.Needs.{needs}
 use mathlib.Core.Path.{_≡_, refl, sym, _∙_}
 use native.Mathlib.Omega.{arith}

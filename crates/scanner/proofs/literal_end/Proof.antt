@@ -26,7 +26,7 @@ abbrev μ-loop : tie.MeasureT-loop
 first : (c : tie.After-kind Inv-loop μ-loop) → (let f = c .kind .given .0 in let a = c .before .before .before .before .before .args in FirstCharacter (a .classes .now) (a .text .now) (c .before .before .before .loop .p) (f .0) (f .1 .0) (f .1 .1 .0))
 first c = rw (c .kind .given .1) at (c .before .before .character .ensures)
 
--- the character behind a backslash
+-- the character after a backslash
 second : (c : tie.After-taken Inv-loop μ-loop) → (let d = c .before .before .before .before .before .before in let f = c .taken .given .0 in let a = d .before .before .before .before .before .args in FirstCharacter (a .classes .now) (a .text .now) (d .kind .given .0 .1 .1 .0) (f .0) (f .1 .0) (f .1 .1 .0))
 second c = rw (c .taken .given .1) at (c .before .before .character2 .ensures)
 

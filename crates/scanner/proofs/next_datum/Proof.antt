@@ -15,7 +15,7 @@ use Rattle.scanner.proofs.character.Reads as character-reads
 first : (c : tie.After-kind) → (let f = c .kind .given .0 in let a = c .before .before .before .before .args in FirstCharacter (a .classes .now) (a .text .now) (a .at) (f .0) (f .1 .0) (f .1 .1 .0))
 first c = rw (c .kind .given .1) at (c .before .before .character .ensures)
 
--- the character behind a backslash
+-- the character after a backslash
 second : (c : tie.After-taken) → (let d = c .before .before .before .before .before .before in let f = c .taken .given .0 in let a = d .before .before .before .before .args in FirstCharacter (a .classes .now) (a .text .now) (d .kind .given .0 .1 .1 .0) (f .0) (f .1 .0) (f .1 .1 .0))
 second c = rw (c .taken .given .1) at (c .before .before .character2 .ensures)
 

@@ -17,8 +17,8 @@ use Rattle.scanner.specs.Believed.Scanning.{Scanned, ended, next, faultA
 use Rattle.scanner.specs.Believed.Answers.{bodyChecked, unlessFault, bodyScanned}
 use Rattle.scanner.specs.declared.Class.{Class}
 use Rattle.scanner.specs.declared.Class.the-variants.{Atom, Quoted, At, LessThan, GreaterThan, Comma, Semicolon, Colon, Stray, Dot, Literal}
-use Rattle.scanner.specs.declared.Kind.{Kind}
-use Rattle.scanner.specs.declared.Kind.the-variants.{White, Control, Return, Plain, Open, Close, Quote, Backslash, Mark, Above, OpenBracket, CloseBracket}
+use Rattle.scanner.specs.declared.ByteKind.{ByteKind}
+use Rattle.scanner.specs.declared.ByteKind.the-variants.{White, Control, Return, Plain, Open, Close, Quote, Backslash, Mark, Above, OpenBracket, CloseBracket}
 use Rattle.scanner.specs.declared.Category.{Category}
 use Rattle.scanner.specs.declared.Category.the-variants as category
 
@@ -45,7 +45,7 @@ ofSymbol Literal meaning = category.Mark
 -- ---- between symbols
 
 -- a byte of a kind outside of words and comments: white space, or the "(" of a comment; any other begins a symbol or is a fault
-abbrev pub takenOutside : Kind → Category
+abbrev pub takenOutside : ByteKind → Category
 takenOutside White = category.White
 takenOutside Control = category.Nothing
 takenOutside Return = category.Nothing
@@ -60,7 +60,7 @@ takenOutside OpenBracket = category.Nothing
 takenOutside CloseBracket = category.Nothing
 
 -- a byte of a kind, by the state in which scanning takes it: in a comment it is comment; a word or literal does not lie between symbols
-abbrev pub takenIn : State → Kind → Category
+abbrev pub takenIn : State → ByteKind → Category
 takenIn outside kind = takenOutside kind
 takenIn (inAtom start end t) kind = category.Nothing
 takenIn (inQuoted start t) kind = category.Nothing
@@ -83,7 +83,7 @@ behind (go [] (takingInComment depth start)) rest = rest (takingInComment depth 
 behind (go (x ∷ symbols) state) rest = category.Nothing
 behind (halt symbols number p) rest = category.Nothing
 
--- the byte at a place, of these characters: the first character at or behind it tells, for the CRLF of a fold is with its white space
+-- the byte at a place, of these characters: the first character at or after it tells, for the CRLF of a fold is with its white space
 unfoldable pub between : List ℕ → ℕ → List Character → State → Category
 between classes place [] state = category.Nothing
 between classes place (character b p folded ∷ rest) state =

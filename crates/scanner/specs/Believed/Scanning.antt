@@ -12,8 +12,8 @@ use Rattle.scanner.specs.Believed.Kinds.{characterKind}
 use Rattle.scanner.specs.Believed.Characters.{Character, character, charactersAt}
 use Rattle.scanner.specs.declared.Class.{Class}
 use Rattle.scanner.specs.declared.Class.the-variants.{Atom, Quoted, At, Stray, Literal}
-use Rattle.scanner.specs.declared.Kind.{Kind}
-use Rattle.scanner.specs.declared.Kind.the-variants.{White, Control, Return, Plain, Open, Close, Quote, Backslash, Mark, Above, OpenBracket, CloseBracket}
+use Rattle.scanner.specs.declared.ByteKind.{ByteKind}
+use Rattle.scanner.specs.declared.ByteKind.the-variants.{White, Control, Return, Plain, Open, Close, Quote, Backslash, Mark, Above, OpenBracket, CloseBracket}
 
 -- symbols in order, and then the end or the first fault with its number and position
 pub data Scanned : Type 0 where
@@ -27,11 +27,11 @@ pub data State : Type 0 where
   outside : State
   -- in an atom, from its start to the position after its last byte so far, with its bytes so far
   inAtom : ℕ → ℕ → List ℕ → State
-  -- in a quoted-string, from its opening quote, with its data so far; there behind a backslash that takes the next byte
+  -- in a quoted-string, from its opening quote, with its data so far; there after a backslash that takes the next byte
   inQuoted takingInQuoted : ℕ → List ℕ → State
-  -- in a domain literal, from its "["; there behind a backslash that takes the next byte
+  -- in a domain literal, from its "["; there after a backslash that takes the next byte
   inLiteral takingInLiteral : ℕ → State
-  -- in a comment: how many comments lie around this one, and the outermost "("; there behind a backslash that takes the next byte
+  -- in a comment: how many comments lie around this one, and the outermost "("; there after a backslash that takes the next byte
   inComment takingInComment : ℕ → ℕ → State
 
 -- what a character does: it ends symbols and leads to a state, or to a fault
@@ -56,7 +56,7 @@ abbrev pub single : Class → ℕ → ℕ → Symbol Class
 single class b p = symbol class p (p + 1) (b ∷ [])
 
 -- a byte b of a kind, at a position p, outside of words and comments
-abbrev pub moveOutside : Kind → ℕ → ℕ → Move
+abbrev pub moveOutside : ByteKind → ℕ → ℕ → Move
 moveOutside White b p = go [] outside
 moveOutside Control b p = halt [] strayControl p
 moveOutside Return b p = halt [] strayControl p
@@ -76,7 +76,7 @@ endingWith x (go symbols state) = go (x ∷ symbols) state
 endingWith x (halt symbols number p) = halt (x ∷ symbols) number p
 
 -- in an atom: a longest run, so any byte that is not plain ends it and then does what it does outside
-abbrev pub moveInAtom : Kind → ℕ → ℕ → List ℕ → ℕ → ℕ → Move
+abbrev pub moveInAtom : ByteKind → ℕ → ℕ → List ℕ → ℕ → ℕ → Move
 moveInAtom White start end t b p = endingWith (atom start end t) (moveOutside White b p)
 moveInAtom Control start end t b p = endingWith (atom start end t) (moveOutside Control b p)
 moveInAtom Return start end t b p = endingWith (atom start end t) (moveOutside Return b p)
@@ -91,7 +91,7 @@ moveInAtom OpenBracket start end t b p = endingWith (atom start end t) (moveOuts
 moveInAtom CloseBracket start end t b p = endingWith (atom start end t) (moveOutside CloseBracket b p)
 
 -- in a quoted-string: control bytes other than CR are data
-abbrev pub moveInQuoted : Kind → ℕ → List ℕ → ℕ → ℕ → Move
+abbrev pub moveInQuoted : ByteKind → ℕ → List ℕ → ℕ → ℕ → Move
 moveInQuoted White start t b p = go [] (inQuoted start (t ++ (b ∷ [])))
 moveInQuoted Control start t b p = go [] (inQuoted start (t ++ (b ∷ [])))
 moveInQuoted Return start t b p = halt [] strayControl p
@@ -106,7 +106,7 @@ moveInQuoted OpenBracket start t b p = go [] (inQuoted start (t ++ (b ∷ [])))
 moveInQuoted CloseBracket start t b p = go [] (inQuoted start (t ++ (b ∷ [])))
 
 -- in a domain literal: as in a quoted-string, but "]" closes it, and another "[" is a fault. It is no word and has no meaning
-abbrev pub moveInLiteral : Kind → ℕ → ℕ → Move
+abbrev pub moveInLiteral : ByteKind → ℕ → ℕ → Move
 moveInLiteral White start p = go [] (inLiteral start)
 moveInLiteral Control start p = go [] (inLiteral start)
 moveInLiteral Return start p = halt [] strayControl p
@@ -120,13 +120,13 @@ moveInLiteral Above start p = halt [] byteAbove127 p
 moveInLiteral OpenBracket start p = halt [] literalNotClosed start
 moveInLiteral CloseBracket start p = go (symbol Literal start (p + 1) [] ∷ []) outside
 
--- behind the ")" of a comment that lies in `depth` others
+-- after the ")" of a comment that lies in `depth` others
 abbrev pub closed : ℕ → ℕ → State
 closed zero start = outside
 closed (suc depth) start = inComment depth start
 
 -- in a comment: a quote is data
-abbrev pub moveInComment : Kind → ℕ → ℕ → ℕ → Move
+abbrev pub moveInComment : ByteKind → ℕ → ℕ → ℕ → Move
 moveInComment White depth start p = go [] (inComment depth start)
 moveInComment Control depth start p = go [] (inComment depth start)
 moveInComment Return depth start p = halt [] strayControl p
@@ -141,7 +141,7 @@ moveInComment OpenBracket depth start p = go [] (inComment depth start)
 moveInComment CloseBracket depth start p = go [] (inComment depth start)
 
 -- what a backslash takes: any byte up to 127, as data
-abbrev pub take : Kind → State → ℕ → Move
+abbrev pub take : ByteKind → State → ℕ → Move
 take White state p = go [] state
 take Control state p = go [] state
 take Return state p = go [] state
@@ -155,12 +155,12 @@ take Above state p = halt [] byteAbove127 p
 take OpenBracket state p = go [] state
 take CloseBracket state p = go [] state
 
--- the data that a backslash takes in a quoted-string: the byte behind it, where the CRLF of a fold was dropped right before that one, too
+-- the data that a backslash takes in a quoted-string: the byte after it, where the CRLF of a fold was dropped right before that one, too
 unfoldable pub takenData : ℕ → Bool → List ℕ
 takenData b folded = b ∷ []
 
 -- a byte b of a kind, at a position p, in any state; folded, the CRLF of a fold was dropped right before it
-abbrev pub move : State → Kind → ℕ → ℕ → Bool → Move
+abbrev pub move : State → ByteKind → ℕ → ℕ → Bool → Move
 move outside kind b p folded = moveOutside kind b p
 move (inAtom start end t) kind b p folded = moveInAtom kind start end t b p
 move (inQuoted start t) kind b p folded = moveInQuoted kind start t b p

@@ -4,7 +4,7 @@ use Prim.Native.Nat.{ℕ, _≤_}
 use mathlib.Core.Bool.{Bool}
 use Rattle.scanner.specs.Believed.Scanning.{State, outside, inComment, takingInComment, move}
 use Rattle.scanner.specs.Believed.Categories.{takenIn, behind}
-use Rattle.scanner.specs.declared.Kind.{Kind}
+use Rattle.scanner.specs.declared.ByteKind.{ByteKind}
 use Rattle.scanner.specs.declared.Category.{Category}
 use Rattle.scanner.specs.declared.Category.the-variants.{Nothing}
 use Rattle.scanner.specs.declared.Gap.{Gap}
@@ -25,15 +25,15 @@ gapDepth (Comment depth) = depth
 gapDepth (Taking depth) = depth
 
 -- what a character of a kind is
-abbrev pub GapCategoryIs : Gap → Kind → Category → Type 0
+abbrev pub GapCategoryIs : Gap → ByteKind → Category → Type 0
 GapCategoryIs gap kind r = (start : ℕ) → r ≡ takenIn (stateOf gap start) kind
 
 -- where it leads, with a byte b at a position p
-pub record LeadsTo (gap : Gap) (start : ℕ) (kind : Kind) (b p : ℕ) (folded : Bool) (next : Gap) : Type 0 where
+pub record LeadsTo (gap : Gap) (start : ℕ) (kind : ByteKind) (b p : ℕ) (folded : Bool) (next : Gap) : Type 0 where
   pub outermost : ℕ
   pub same : (rest : State → Category) → behind (move (stateOf gap start) kind b p folded) rest ≡ rest (stateOf next outermost)
 
-abbrev pub PassedIs : Gap → Kind → Passed → Type 0
+abbrev pub PassedIs : Gap → ByteKind → Passed → Type 0
 PassedIs gap kind (To next) = (start b p : ℕ) (folded : Bool) → LeadsTo gap start kind b p folded next
 PassedIs gap kind Over = (start b p : ℕ) (folded : Bool) (rest : State → Category) → behind (move (stateOf gap start) kind b p folded) rest ≡ Nothing
 

@@ -11,15 +11,15 @@ use Rattle.scanner.specs.declared.Class.{Class}
 use Rattle.scanner.specs.declared.Class.the-variants.{Atom, Quoted, At, LessThan, GreaterThan, Comma, Semicolon, Colon, Stray, Dot, Literal}
 use Rattle.scanner.specs.declared.Datum.{Datum}
 use Rattle.scanner.specs.declared.Datum.the-variants.{Byte, Over}
-use Rattle.scanner.specs.declared.Kind.{Kind}
-use Rattle.scanner.specs.declared.Kind.the-variants.{White, Control, Return, Plain, Open, Close, Quote, Backslash, Mark, Above, OpenBracket, CloseBracket}
+use Rattle.scanner.specs.declared.ByteKind.{ByteKind}
+use Rattle.scanner.specs.declared.ByteKind.the-variants.{White, Control, Return, Plain, Open, Close, Quote, Backslash, Mark, Above, OpenBracket, CloseBracket}
 
--- where a walk through a quoted-string stands: inside it, behind a backslash, or behind its closing quote
+-- where a walk through a quoted-string stands: inside it, after a backslash, or after its closing quote
 pub data Walk : Type 0 where
   inside taking over : Walk
 
 -- the data of a character
-abbrev pub dataOf : Walk → Kind → ℕ → Bool → List ℕ
+abbrev pub dataOf : Walk → ByteKind → ℕ → Bool → List ℕ
 dataOf taking kind b folded = takenData b folded
 dataOf over kind b folded = []
 dataOf inside White b folded = b ∷ []
@@ -36,7 +36,7 @@ dataOf inside OpenBracket b folded = b ∷ []
 dataOf inside CloseBracket b folded = b ∷ []
 
 -- where the walk goes on
-abbrev pub walked : Walk → Kind → Walk
+abbrev pub walked : Walk → ByteKind → Walk
 walked taking kind = inside
 walked over kind = over
 walked inside White = inside
@@ -62,7 +62,7 @@ dataFrom classes walk (character b p folded ∷ rest) =
 abbrev pub dataAt : List ℕ → List ℕ → ℕ → List ℕ
 dataAt classes text at = dataFrom classes inside (charactersAt text at)
 
--- the first of the data that stand up to a position, with the position behind it; where there are none, what comes then
+-- the first of the data that stand up to a position, with the position after it; where there are none, what comes then
 abbrev pub firstOr : List ℕ → ℕ → Datum → Datum
 firstOr [] end rest = rest
 firstOr (b ∷ more) end rest = Byte b (end - length more)

@@ -10,15 +10,15 @@ use Rattle.scanner.specs.Believed.Kinds.{characterKind}
 use Rattle.scanner.specs.Believed.Characters.{character, charactersAt}
 use Rattle.scanner.specs.Believed.Scanning.{inAtom, inComment, atom, next, faultAt, scanFrom, scanBy}
 use Rattle.scanner.specs.Believed.Answers.{faultOf}
-use Rattle.scanner.specs.declared.Kind.{Kind}
-use Rattle.scanner.specs.declared.Kind.the-variants.{White}
+use Rattle.scanner.specs.declared.ByteKind.{ByteKind}
+use Rattle.scanner.specs.declared.ByteKind.the-variants.{White}
 use Rattle.scanner.specs.declared.Step.{Step}
 use Rattle.scanner.specs.declared.Step.the-variants.{Done, Byte}
 use Rattle.scanner.specs.declared.Comment.{Comment}
 use Rattle.scanner.specs.declared.Comment.the-variants.{Past, Open}
 
--- the first character at or after a position: its kind, its position p and the position q behind it
-pub record FirstCharacter (classes text : List ℕ) (at : ℕ) (kind : Kind) (p q : ℕ) : Type 0 where
+-- the first character at or after a position: its kind, its position p and the position q after it
+pub record FirstCharacter (classes text : List ℕ) (at : ℕ) (kind : ByteKind) (p q : ℕ) : Type 0 where
   pub folded : Bool
   pub characters : charactersAt text at ≡ character (getD text p 0) p folded ∷ charactersAt text q
   pub kind-is : kind ≡ characterKind classes (getD text p 0) folded
@@ -38,7 +38,7 @@ pub record AtomEnds (classes text : List ℕ) (start at end : ℕ) : Type 0 wher
   pub from : at ≤ end
   pub within : end ≤ length text
 
--- behind a comment scanning goes on outside
+-- after a comment scanning goes on outside
 pub record CommentEnds (classes text : List ℕ) (at start q : ℕ) : Type 0 where
   pub same : scanFrom classes (charactersAt text at) (inComment 0 start) ≡ scanBy classes text q
   pub from : at ≤ q

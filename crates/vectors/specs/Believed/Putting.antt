@@ -13,7 +13,7 @@ pub record Text : Type 0 where
 abbrev pub text : List ℕ → ℕ → Text
 text bytes used = record { bytes = bytes; used = used }
 
--- the place behind a byte; at the end of the part it stays
+-- the place after a byte; at the end of the part it stays
 abbrev pub next : List ℕ → ℕ → ℕ
 next lent n = pick (ltb n (length lent)) (n + 1) n
 

@@ -1,4 +1,4 @@
--- How a line of vectors is read: what stands before and behind a mark, numbers, and the bytes that a text stands for.
+-- How a line of vectors is read: what stands before and after a mark, numbers, and the bytes that a text stands for.
 use Prim.Native.Nat.{ℕ, zero, suc, _+_, _*_, _-_, _%_}
 use mathlib.Core.Bool.{Bool, true, not}
 use mathlib.Core.List.{List, [], _∷_}
@@ -15,7 +15,7 @@ unfoldable pub before : ℕ → List ℕ → List ℕ
 before mark [] = []
 before mark (b ∷ text) = pick (eqb b mark) [] (b ∷ before mark text)
 
--- what stands behind it; nothing without one
+-- what stands after it; nothing without one
 unfoldable pub behind : ℕ → List ℕ → List ℕ
 behind mark [] = []
 behind mark (b ∷ text) = pick (eqb b mark) text (behind mark text)
@@ -24,12 +24,12 @@ behind mark (b ∷ text) = pick (eqb b mark) text (behind mark text)
 abbrev pub has : ℕ → List ℕ → Bool
 has mark text = ltb (length (before mark text)) (length text)
 
--- the number whose digits stand at the front of a text, behind those of `n`; of more than nineteen, the last ones
+-- the number whose digits stand at the front of a text, after those of `n`; of more than nineteen, the last ones
 unfoldable pub digitsFrom : ℕ → List ℕ → ℕ
 digitsFrom n [] = n
 digitsFrom n (b ∷ text) = pick (isDigit b) (digitsFrom (n % 1000000000000000000 * 10 + (b - zeroByte)) text) n
 
--- the number behind a mark
+-- the number after a mark
 abbrev pub asked : ℕ → ℕ → List ℕ → ℕ
 asked mark otherwise head = pick (has mark head) (digitsFrom 0 (behind mark head)) otherwise
 
@@ -69,7 +69,7 @@ unfoldable pub times : ℕ → List ℕ → List ℕ → List ℕ
 times zero text rest = rest
 times (suc many) text rest = copied true text (times many text rest)
 
--- in braces: a text behind "*", as many times as the number says, or the byte of the number
+-- in braces: a text after "*", as many times as the number says, or the byte of the number
 unfoldable pub braced : List ℕ → List ℕ → List ℕ
 braced inner rest = pick (has 42 inner) (times (digitsFrom 0 inner) (behind 42 inner) rest) (digitsFrom 0 inner % 256 ∷ rest)
 

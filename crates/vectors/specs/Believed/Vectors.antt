@@ -106,7 +106,7 @@ vectorWith letter head message other store rest =
 abbrev pub message : List ℕ → List ℕ
 message text = take 65536 (decoded false text)
 
--- from what stands before and behind the first "|"
+-- from what stands before and after the first "|"
 unfoldable pub partsText : ℕ → List ℕ → List ℕ → List ℕ → List ℕ → List ℕ
 partsText letter head tail store rest = vectorWith letter head (message (before 124 tail)) (message (behind 124 tail)) store rest
 
