@@ -137,18 +137,21 @@ fn kind_of(classes: &[u8; 256], b: u8) -> ByteKind
     }
 }
 
-// Whether a fold starts at a position.
+// Whether a fold starts at a position. CR and LF are looked at here, and not by a call, for the sake of the loops around it.
 fn folds(text: &[u8], at: usize) -> bool
     requires { ⌜ at < length (now text) ⌝ }
     ensures { λ r. ⌜ r ≡ foldAt (now (text .entry)) at ⌝ }
 {
-    if octets::lines::is_crlf(text, at) {
-        if text.len() - at < 3 {
-            return false;
-        }
-        return octets::lines::is_white(text[at + 2]);
+    if text[at] != b'\r' {
+        return false;
     }
-    false
+    if text.len() - at < 3 {
+        return false;
+    }
+    if text[at + 1] != b'\n' {
+        return false;
+    }
+    octets::lines::is_white(text[at + 2])
 }
 
 // The first character at or after a position, folds dropped.
