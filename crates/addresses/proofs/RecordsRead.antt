@@ -84,6 +84,3 @@ module _ (message : List ℕ) (start end : ℕ) (table : List ℕ) (n : ℕ) (e 
 
   pub accepted-list : AcceptedList message start end table n
   accepted-list = by-judgement (judged message start end)
-
-  pub accepted-fits : n ≤ length table / addressRecordSize
-  accepted-fits = let (k, b, c, fits, w) = accepted-list in fits

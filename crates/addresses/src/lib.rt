@@ -6,7 +6,6 @@ ghost use mathlib.Core.Path.{_≡_};
 ghost use Prim.Native.Nat.{_+_, _*_, _-_, _≤_, _<_};
 ghost use lib.ListN.{length};
 ghost use lib.Seq.{sets};
-ghost use Rattle.octets.specs.Believed.Text.{part};
 ghost use Rattle.octets.specs.Believed.Numbers.{messageLimit, levelLimit};
 ghost use Rattle.records.specs.Believed.AddressRecords.{recordBy, recordBytes, addressRecordSize};
 ghost use Rattle.grammar.specs.Executable.Machine733.{answer};

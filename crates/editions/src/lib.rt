@@ -4,7 +4,7 @@
 // next place for each place and class, and coming to a place begins a record or comes to its end.
 ghost use mathlib.Core.Path.{_≡_};
 ghost use Prim.Native.Nat.{_+_, _*_, _≤_, _<_};
-ghost use lib.ListN.{length, getD};
+ghost use lib.ListN.{getD};
 ghost use lib.Seq.{sets};
 ghost use Rattle.octets.specs.Believed.Choice.{both};
 ghost use Rattle.octets.specs.Believed.Numbers.{messageLimit};

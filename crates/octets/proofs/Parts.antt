@@ -6,7 +6,7 @@ use native.Mathlib.Nat.{add-zero, sub-zero, zero-sub}
 use native.Mathlib.Numerals.{add-one}
 use native.Mathlib.Omega.{arith}
 use lib.ListN.{length, getD, take, drop, set, length-drop}
-use lib.Seq.{sets, sets-eq, drop-at, drop-cons, drop-drop, take-append-seam, take-set-le, take-nil, take-take, drop-set-lt, set-comm, set-out, length-take-le, getD-set-other}
+use lib.Seq.{sets, sets-eq, drop-at, drop-cons, drop-drop, take-append-seam, take-set-le, take-nil, take-take, drop-set-lt, set-comm, set-out, length-take-le}
 use Rattle.octets.specs.Believed.Text.{part}
 
 module _ {A : Type 0} where
@@ -53,12 +53,6 @@ module _ {A : Type 0} where
   pub drop-sets : (vs table : List A) (i n : ℕ) → i + length vs ≤ n → drop n (sets table i vs) ≡ drop n table
   drop-sets [] table i n h = refl
   drop-sets (v ∷ vs) table i n h = drop-sets vs (set table i v) (suc i) n (omega arith) ∙ drop-set-lt n table i v (omega arith)
-
-  -- an element outside the run stays
-  pub getD-sets-before : (vs table : List A) (i n : ℕ) (d : A) → n < i → getD (sets table i vs) n d ≡ getD table n d
-  getD-sets-before [] table i n d h = refl
-  getD-sets-before (v ∷ vs) table i n d h =
-      getD-sets-before vs (set table i v) (suc i) n d (omega arith) ∙ getD-set-other table i n v d (λ e. absurd (omega arith))
 
   -- the run itself
   pub part-sets : (vs table : List A) (i : ℕ) → i + length vs ≤ length table → take (length vs) (drop i (sets table i vs)) ≡ vs

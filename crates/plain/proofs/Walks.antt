@@ -23,11 +23,6 @@ use Rattle.plain.proofs.TreeMeanings.{wordMeaning, phraseMeaning, nodes
 
 -- ---- words
 
--- a word after a word
-walk-word : (w : trees.Word) (xs : List Sym) → walkText Word (wordSymbol w ∷ xs) ≡ 32 ∷ wordText (wordMeaning w) (walkText Word xs)
-walk-word (atomWord t) xs = refl
-walk-word (quotedWord t) xs = refl
-
 -- a node
 pub walk-node : (w : trees.Word) (xs : List Sym) → walkText Node (wordSymbol w ∷ xs) ≡ 32 ∷ wordText (wordMeaning w) (walkText Word xs)
 walk-node (atomWord t) xs = refl

@@ -1,9 +1,6 @@
 -- Single bytes by name.
 use Prim.Native.Nat.{ℕ}
 
-abbrev pub tabByte : ℕ
-tabByte = 9
-
 abbrev pub lineFeedByte : ℕ
 lineFeedByte = 10
 
