@@ -3,3 +3,4 @@ pub mod LayoutLaws
 pub mod TableLaws
 pub mod ReadBack
 pub mod EndLaws
+pub mod Examples
