@@ -22,10 +22,15 @@ digits-requires : tie.Need-digits-requires
 digits-requires c κs = search needs
 
 returns : tie.Need-returns
-returns c = (rw (tail-part (c .before .before .before .before .cut .result .past) (c .before .before .before .before .before .before .args .head .now)) at (c .digits .ensures)) ∙ asked-behind (c .before .before .before .before .before .before .args .mark) (c .before .before .before .before .before .before .args .otherwise) (c .before .before .before .before .before .before .args .head .now) (c .before .before .before .before .cut .ensures) (omega arith)
+returns c =
+    let cut = c .before .before .before .before .cut in
+    let args = c .before .before .before .before .before .before .args in
+    (rw (tail-part (cut .result .past) (args .head .now)) at (c .digits .ensures)) ∙ asked-behind (args .mark) (args .otherwise) (args .head .now) (cut .ensures) (omega arith)
 
 returns-2 : tie.Need-returns-2
-returns-2 c = not-asked (c .before .before .before .before .args .mark) (c .before .before .before .before .args .otherwise) (c .before .before .before .before .args .head .now) (c .before .before .cut .ensures) (omega arith)
+returns-2 c =
+    let args = c .before .before .before .before .args in
+    not-asked (args .mark) (args .otherwise) (args .head .now) (c .before .before .cut .ensures) (omega arith)
 
 pub asked-spec : {M : Type 1} → statement M
 asked-spec =

@@ -45,13 +45,20 @@ loop-less : tie.Need-loop-less Inv-loop μ-loop
 loop-less c = search needs
 
 loop-again : tie.Need-loop-again Inv-loop μ-loop
-loop-again c = (omega arith, c .before .before .before .put-piece .kept .1 .1 .1 .0 ∙ c .before .before .before .before .before .before .before .before .loop .inv .1, c .before .before .before .before .before .before .before .before .loop .inv .2 ∙ ap (putting (c .before .before .before .before .before .before .before .before .loop .out) (c .before .before .before .before .before .before .before .before .loop .n)) (decoded-next (c .before .before .before .before .before .before .before .before .loop .inside) (c .before .before .before .before .before .before .before .before .before .before .before .args .text .now) (c .before .before .before .before .before .before .before .before .loop .i) (omega arith)) ∙ (rw (tail-part (c .before .before .before .before .before .before .before .before .loop .i + 1) (c .before .before .before .before .before .before .before .before .before .before .before .args .text .now)) at (c .before .before .before .put-piece .ensures .same (decoded (stays (c .before .before .before .before .before .before .before .before .loop .inside) (getD (c .before .before .before .before .before .before .before .before .before .before .before .args .text .now) (c .before .before .before .before .before .before .before .before .loop .i) 0)) (drop (c .before .before .before .before .before .before .before .before .loop .i + 1) (c .before .before .before .before .before .before .before .before .before .before .before .args .text .now))))) ∙ rw (c .is-inside .ensures))
+loop-again c =
+    let put-piece = c .before .before .before .put-piece in
+    let loop = c .before .before .before .before .before .before .before .before .loop in
+    let args = c .before .before .before .before .before .before .before .before .before .before .before .args in
+    (omega arith, put-piece .kept .1 .1 .1 .0 ∙ loop .inv .1, loop .inv .2 ∙ ap (putting (loop .out) (loop .n)) (decoded-next (loop .inside) (args .text .now) (loop .i) (omega arith)) ∙ (rw (tail-part (loop .i + 1) (args .text .now)) at (put-piece .ensures .same (decoded (stays (loop .inside) (getD (args .text .now) (loop .i) 0)) (drop (loop .i + 1) (args .text .now))))) ∙ rw (c .is-inside .ensures))
 
 same-length : tie.Need-same-length Inv-loop μ-loop
 same-length c = c .before .loop .inv .1
 
 returns : tie.Need-returns Inv-loop μ-loop
-returns c = decode-done (c .before .before .before .before .args .text .now) (c .before .before .before .before .args .out .now) (c .before .loop .out) (c .before .loop .n) (c .before .loop .inv .2 ∙ ap (putting (c .before .loop .out) (c .before .loop .n)) (decoded-end (c .before .loop .inside) (c .before .before .before .before .args .text .now) (c .before .loop .i) (omega arith)))
+returns c =
+    let args = c .before .before .before .before .args in
+    let loop = c .before .loop in
+    decode-done (args .text .now) (args .out .now) (loop .out) (loop .n) (loop .inv .2 ∙ ap (putting (loop .out) (loop .n)) (decoded-end (loop .inside) (args .text .now) (loop .i) (omega arith)))
 
 pub decode-spec : {M : Type 1} → statement M
 decode-spec =

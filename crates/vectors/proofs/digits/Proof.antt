@@ -26,19 +26,28 @@ is-digit-requires : tie.Need-is-digit-requires Inv-loop μ-loop
 is-digit-requires c κs = search needs
 
 returns : tie.Need-returns Inv-loop μ-loop
-returns c = sym (c .before .before .before .before .loop .inv .1 ∙ no-digit (c .before .before .before .before .loop .n) (c .before .before .before .before .before .before .args .text .now) (c .before .before .before .before .loop .i) (omega arith) (sym (c .before .is-digit .ensures) ∙ not-true (c .before .is-digit .result) (c .if1 .taken)))
+returns c =
+    let loop = c .before .before .before .before .loop in
+    let is-digit = c .before .is-digit in
+    sym (loop .inv .1 ∙ no-digit (loop .n) (c .before .before .before .before .before .before .args .text .now) (loop .i) (omega arith) (sym (is-digit .ensures) ∙ not-true (is-digit .result) (c .if1 .taken)))
 
 mul-n : tie.Need-mul-n Inv-loop μ-loop
 mul-n c = search needs
 
 sub-n : tie.Need-sub-n Inv-loop μ-loop
-sub-n c = let d = digit-range (getD (c .before .before .before .before .before .before .args .text .now) (c .before .before .before .before .loop .i) 0) (sym (c .before .is-digit .ensures) ∙ not-false (c .before .is-digit .result) (c .if1 .left)) in omega (arith, d .0)
+sub-n c =
+    let is-digit = c .before .is-digit in
+    let d = digit-range (getD (c .before .before .before .before .before .before .args .text .now) (c .before .before .before .before .loop .i) 0) (sym (is-digit .ensures) ∙ not-false (is-digit .result) (c .if1 .left)) in omega (arith, d .0)
 
 cast-n : tie.Need-cast-n Inv-loop μ-loop
-cast-n c = let d = digit-range (getD (c .before .before .before .before .before .before .args .text .now) (c .before .before .before .before .loop .i) 0) (sym (c .before .is-digit .ensures) ∙ not-false (c .before .is-digit .result) (c .if1 .left)) in omega (arith, d .0, d .1)
+cast-n c =
+    let is-digit = c .before .is-digit in
+    let d = digit-range (getD (c .before .before .before .before .before .before .args .text .now) (c .before .before .before .before .loop .i) 0) (sym (is-digit .ensures) ∙ not-false (is-digit .result) (c .if1 .left)) in omega (arith, d .0, d .1)
 
 add-n : tie.Need-add-n Inv-loop μ-loop
-add-n c = let d = digit-range (getD (c .before .before .before .before .before .before .args .text .now) (c .before .before .before .before .loop .i) 0) (sym (c .before .is-digit .ensures) ∙ not-false (c .before .is-digit .result) (c .if1 .left)) in omega (arith, d .0, d .1)
+add-n c =
+    let is-digit = c .before .is-digit in
+    let d = digit-range (getD (c .before .before .before .before .before .before .args .text .now) (c .before .before .before .before .loop .i) 0) (sym (is-digit .ensures) ∙ not-false (is-digit .result) (c .if1 .left)) in omega (arith, d .0, d .1)
 
 add-i : tie.Need-add-i Inv-loop μ-loop
 add-i c = search needs
@@ -47,10 +56,17 @@ loop-less : tie.Need-loop-less Inv-loop μ-loop
 loop-less c = search needs
 
 loop-again : tie.Need-loop-again Inv-loop μ-loop
-loop-again c = let d = digit-range (getD (c .before .before .before .before .before .before .args .text .now) (c .before .before .before .before .loop .i) 0) (sym (c .before .is-digit .ensures) ∙ not-false (c .before .is-digit .result) (c .if1 .left)) in (omega (arith, d .0, d .1), c .before .before .before .before .loop .inv .1 ∙ digit-next (c .before .before .before .before .loop .n) (c .before .before .before .before .before .before .args .text .now) (c .before .before .before .before .loop .i) (omega arith) (sym (c .before .is-digit .ensures) ∙ not-false (c .before .is-digit .result) (c .if1 .left)))
+loop-again c =
+    let args = c .before .before .before .before .before .before .args in
+    let loop = c .before .before .before .before .loop in
+    let is-digit = c .before .is-digit in
+    let if1 = c .if1 in
+    let d = digit-range (getD (args .text .now) (loop .i) 0) (sym (is-digit .ensures) ∙ not-false (is-digit .result) (if1 .left)) in (omega (arith, d .0, d .1), loop .inv .1 ∙ digit-next (loop .n) (args .text .now) (loop .i) (omega arith) (sym (is-digit .ensures) ∙ not-false (is-digit .result) (if1 .left)))
 
 returns-2 : tie.Need-returns-2 Inv-loop μ-loop
-returns-2 c = sym (c .before .loop .inv .1 ∙ digits-end (c .before .loop .n) (c .before .before .before .args .text .now) (c .before .loop .i) (omega arith))
+returns-2 c =
+    let loop = c .before .loop in
+    sym (loop .inv .1 ∙ digits-end (loop .n) (c .before .before .before .args .text .now) (loop .i) (omega arith))
 
 pub digits-spec : {M : Type 1} → statement M
 digits-spec =

@@ -30,16 +30,20 @@ loop-less : tie.Need-loop-less Inv-loop μ-loop
 loop-less c = search needs
 
 loop-again : tie.Need-loop-again Inv-loop μ-loop
-loop-again c = (omega arith, ap (λ (l : List ℕ). set l (c .before .loop .i) untouchedByte) (c .before .loop .inv .1) ∙ fill-more (c .before .loop .i) untouchedByte (c .before .before .args .room .now) (omega arith), length-set (c .before .loop .room) (c .before .loop .i) untouchedByte ∙ c .before .loop .inv .2)
+loop-again c =
+    let loop = c .before .loop in
+    (omega arith, ap (λ (l : List ℕ). set l (loop .i) untouchedByte) (loop .inv .1) ∙ fill-more (loop .i) untouchedByte (c .before .before .args .room .now) (omega arith), length-set (loop .room) (loop .i) untouchedByte ∙ loop .inv .2)
 
 same-length : tie.Need-same-length Inv-loop μ-loop
 same-length c = c .before .loop .inv .2
 
 returns : tie.Need-returns Inv-loop μ-loop
 returns c =
-    let n : c .before .loop .i ≡ length (c .before .before .args .room .now) = omega arith in
-    let d : drop (c .before .loop .i) (c .before .before .args .room .now) ≡ [] = drop-of-length-le (c .before .before .args .room .now) {i = c .before .loop .i} (omega arith) in
-    c .before .loop .inv .1 ∙ rw (d, n) (append-nil (replicate (length (c .before .before .args .room .now)) untouchedByte))
+    let loop = c .before .loop in
+    let args = c .before .before .args in
+    let n : loop .i ≡ length (args .room .now) = omega arith in
+    let d : drop (loop .i) (args .room .now) ≡ [] = drop-of-length-le (args .room .now) {i = loop .i} (omega arith) in
+    loop .inv .1 ∙ rw (d, n) (append-nil (replicate (length (args .room .now)) untouchedByte))
 
 pub fill-spec : {M : Type 1} → statement M
 fill-spec =

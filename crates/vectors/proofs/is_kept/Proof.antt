@@ -22,7 +22,9 @@ shared-slice-read-if1 : tie.Need-shared-slice-read-if1 Inv-loop μ-loop
 shared-slice-read-if1 c = omega arith
 
 returns : tie.Need-returns Inv-loop μ-loop
-returns c = sym (c .before .before .before .loop .inv ∙ not-kept (c .before .before .before .before .args .table .now) (c .before .before .before .loop .i) (omega arith) (c .if1 .taken))
+returns c =
+    let loop = c .before .before .before .loop in
+    sym (loop .inv ∙ not-kept (c .before .before .before .before .args .table .now) (loop .i) (omega arith) (c .if1 .taken))
 
 add-i : tie.Need-add-i Inv-loop μ-loop
 add-i c = search needs
@@ -31,10 +33,14 @@ loop-less : tie.Need-loop-less Inv-loop μ-loop
 loop-less c = search needs
 
 loop-again : tie.Need-loop-again Inv-loop μ-loop
-loop-again c = c .before .before .before .loop .inv ∙ kept-next (c .before .before .before .before .args .table .now) (c .before .before .before .loop .i) (omega arith) (c .if1 .left)
+loop-again c =
+    let loop = c .before .before .before .loop in
+    loop .inv ∙ kept-next (c .before .before .before .before .args .table .now) (loop .i) (omega arith) (c .if1 .left)
 
 returns-2 : tie.Need-returns-2 Inv-loop μ-loop
-returns-2 c = sym (c .before .loop .inv ∙ kept-end (c .before .before .args .table .now) (c .before .loop .i) (omega arith))
+returns-2 c =
+    let loop = c .before .loop in
+    sym (loop .inv ∙ kept-end (c .before .before .args .table .now) (loop .i) (omega arith))
 
 pub is-kept-spec : {M : Type 1} → statement M
 is-kept-spec =

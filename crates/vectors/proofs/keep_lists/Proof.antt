@@ -11,7 +11,9 @@ load-byte-requires : tie.Need-load-byte-requires
 load-byte-requires c κs = search needs
 
 returns : tie.Need-returns
-returns c = keep-not (c .before .before .before .before .args .line .now) (c .before .before .before .before .args .store .now) (c .before .before .before .before .args .used) (c .before .load-byte .ensures) (c .if1 .taken)
+returns c =
+    let args = c .before .before .before .before .args in
+    keep-not (args .line .now) (args .store .now) (args .used) (c .before .load-byte .ensures) (c .if1 .taken)
 
 cut-requires : tie.Need-cut-requires
 cut-requires c κs = search needs
@@ -32,7 +34,10 @@ same-length : tie.Need-same-length
 same-length c = search needs
 
 returns-2 : tie.Need-returns-2
-returns-2 c = keep-new (c .before .before .before .before .before .before .before .before .before .before .args .line .now) (c .before .before .before .before .before .before .before .before .before .before .args .store .now) (c .before .before .before .before .before .before .before .before .before .before .args .used) (c .before .before .before .before .before .before .before .load-byte .ensures) (c .before .before .before .before .before .before .if1 .left) (tail-part (c .before .before .before .before .before .cut .result .past) (c .before .before .before .before .before .before .before .before .before .before .args .line .now) ∙ c .before .before .before .before .before .cut .ensures .1) (c .before .before .decode .ensures .0)
+returns-2 c =
+    let args = c .before .before .before .before .before .before .before .before .before .before .args in
+    let cut = c .before .before .before .before .before .cut in
+    keep-new (args .line .now) (args .store .now) (args .used) (c .before .before .before .before .before .before .before .load-byte .ensures) (c .before .before .before .before .before .before .if1 .left) (tail-part (cut .result .past) (args .line .now) ∙ cut .ensures .1) (c .before .before .decode .ensures .0)
 
 pub keep-lists-spec : {M : Type 1} → statement M
 keep-lists-spec =

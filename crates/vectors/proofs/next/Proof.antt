@@ -8,10 +8,14 @@ add-result : tie.Need-add-result
 add-result c = search needs
 
 returns : tie.Need-returns
-returns c = next-inside (c .before .args .out .now) (c .before .args .n) (c .if1 .taken)
+returns c =
+    let args = c .before .args in
+    next-inside (args .out .now) (args .n) (c .if1 .taken)
 
 returns-2 : tie.Need-returns-2
-returns-2 c = next-outside (c .before .args .out .now) (c .before .args .n) (c .if1 .left)
+returns-2 c =
+    let args = c .before .args in
+    next-outside (args .out .now) (args .n) (c .if1 .left)
 
 pub next-spec : {M : Type 1} → statement M
 next-spec = tie.close (tie.spec add-result returns returns-2)

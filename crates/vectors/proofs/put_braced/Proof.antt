@@ -28,7 +28,10 @@ same-length : tie.Need-same-length
 same-length c = search needs
 
 returns : tie.Need-returns
-returns c = puts-as (λ rest. braced-times (c .before .before .before .before .before .before .before .before .before .before .before .args .inner .now) rest (c .before .before .before .before .before .before .before .cut .ensures) (omega arith)) (rw (tail-part (c .before .before .before .before .before .before .before .cut .result .past) (c .before .before .before .before .before .before .before .before .before .before .before .args .inner .now), c .before .before .before .before .before .before .before .before .digits .ensures) at (c .before .before .put-times .ensures))
+returns c =
+    let args = c .before .before .before .before .before .before .before .before .before .before .before .args in
+    let cut = c .before .before .before .before .before .before .before .cut in
+    puts-as (λ rest. braced-times (args .inner .now) rest (cut .ensures) (omega arith)) (rw (tail-part (cut .result .past) (args .inner .now), c .before .before .before .before .before .before .before .before .digits .ensures) at (c .before .before .put-times .ensures))
 
 cast-put : tie.Need-cast-put
 cast-put c = search needs

@@ -22,7 +22,9 @@ same-length c = search needs
 
 returns : tie.Need-returns
 unfolding chosenText
-returns c = puts-both {f = line 61 (length (c .before .before .before .before .before .before .before .before .before .before .before .args .body .now) ∷ [])} {g = frontText (c .before .before .before .before .before .before .before .before .before .before .before .args .body .now) 64} (c .before .before .before .before .before .before .put-line .ensures) (c .before .before .put-front .ensures)
+returns c =
+    let args = c .before .before .before .before .before .before .before .before .before .before .before .args in
+    puts-both {f = line 61 (length (args .body .now) ∷ [])} {g = frontText (args .body .now) 64} (c .before .before .before .before .before .before .put-line .ensures) (c .before .before .put-front .ensures)
 
 pub put-chosen-spec : {M : Type 1} → statement M
 put-chosen-spec =

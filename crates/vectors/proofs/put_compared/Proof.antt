@@ -38,7 +38,9 @@ same-length-3 : tie.Need-same-length-3
 same-length-3 c = search needs
 
 returns : tie.Need-returns
-returns c = compare-text (c .before .before .before .before .before .before .before .before .before .before .before .before .before .before .before .before .before .before .before .before .before .before .before .before .before .before .before .before .before .before .args .message .now) (c .before .before .before .before .before .before .before .before .before .before .before .before .before .before .before .before .before .before .before .before .before .before .before .before .before .before .before .before .before .before .args .other .now) (c .before .before .before .before .before .before .before .before .before .before .before .before .before .before .before .before .before .before .before .before .before .before .before .before .before .before .before .before .before .before .args .room .now) (c .before .before .before .before .before .before .before .before .before .before .before .before .before .before .before .before .before .before .before .before .before .before .before .before .before .before .before .before .before .before .args .spare .now) (c .before .before .before .before .before .before .before .before .before .before .before .before .before .before .before .before .before .before .before .before .before .before .before .write-plain .ensures .0) (c .before .before .before .before .before .before .before .before .before .before .before .before .before .before .before .write-plain2 .ensures .0) (c .before .before .before .before .before .before .same-bytes .ensures) (c .before .before .before .before .before .one-if .ensures) (c .before .before .before .before .before .before .before .before .before .before .before .before .before .before .before .before .before .before .before .put-answer .ensures) (c .before .before .before .before .before .before .before .before .before .before .before .put-answer2 .ensures) (c .before .before .put-line .ensures)
+returns c =
+    let args = c .before .before .before .before .before .before .before .before .before .before .before .before .before .before .before .before .before .before .before .before .before .before .before .before .before .before .before .before .before .before .args in
+    compare-text (args .message .now) (args .other .now) (args .room .now) (args .spare .now) (c .before .before .before .before .before .before .before .before .before .before .before .before .before .before .before .before .before .before .before .before .before .before .before .write-plain .ensures .0) (c .before .before .before .before .before .before .before .before .before .before .before .before .before .before .before .write-plain2 .ensures .0) (c .before .before .before .before .before .before .same-bytes .ensures) (c .before .before .before .before .before .one-if .ensures) (c .before .before .before .before .before .before .before .before .before .before .before .before .before .before .before .before .before .before .before .put-answer .ensures) (c .before .before .before .before .before .before .before .before .before .before .before .put-answer2 .ensures) (c .before .before .put-line .ensures)
 
 pub put-compared-spec : {M : Type 1} → statement M
 put-compared-spec =

@@ -35,13 +35,20 @@ loop-less : tie.Need-loop-less Inv-loop μ-loop
 loop-less c = search needs
 
 loop-again : tie.Need-loop-again Inv-loop μ-loop
-loop-again c = (omega arith, c .before .before .put .kept .0 ∙ c .before .before .before .before .before .before .before .loop .inv .1, left-after (c .before .before .before .before .before .before .before .loop .inv .2) (λ rest. copied-next (c .before .before .before .before .before .before .before .before .before .before .args .coded) (c .before .before .before .before .before .before .before .before .before .before .args .text .now) (c .before .before .before .before .before .before .before .loop .i) rest (omega arith)) (rw (c .before .before .before .taken .ensures) at (c .before .before .put .ensures)))
+loop-again c =
+    let put = c .before .before .put in
+    let loop = c .before .before .before .before .before .before .before .loop in
+    let args = c .before .before .before .before .before .before .before .before .before .before .args in
+    (omega arith, put .kept .0 ∙ loop .inv .1, left-after (loop .inv .2) (λ rest. copied-next (args .coded) (args .text .now) (loop .i) rest (omega arith)) (rw (c .before .before .before .taken .ensures) at (put .ensures)))
 
 same-length : tie.Need-same-length Inv-loop μ-loop
 same-length c = c .before .loop .inv .1
 
 returns : tie.Need-returns Inv-loop μ-loop
-returns c = left-none (c .before .loop .inv .2) (λ rest. copied-end (c .before .before .before .before .args .coded) (c .before .before .before .before .args .text .now) (c .before .loop .i) rest (omega arith))
+returns c =
+    let loop = c .before .loop in
+    let args = c .before .before .before .before .args in
+    left-none (loop .inv .2) (λ rest. copied-end (args .coded) (args .text .now) (loop .i) rest (omega arith))
 
 pub put-copied-spec : {M : Type 1} → statement M
 put-copied-spec =

@@ -12,7 +12,9 @@ same-length : tie.Need-same-length
 same-length c = search needs
 
 returns : tie.Need-returns
-returns c = counted-bytes (c .before .before .before .before .before .before .before .args .size) (c .before .before .before .before .before .before .before .args .table .now) (c .before .before .before .before .before .before .before .args .many) (c .before .before .before .before .if1 .taken) (c .before .before .put-front .ensures)
+returns c =
+    let args = c .before .before .before .before .before .before .before .args in
+    counted-bytes (args .size) (args .table .now) (args .many) (c .before .before .before .before .if1 .taken) (c .before .before .put-front .ensures)
 
 put-rows-requires : tie.Need-put-rows-requires
 put-rows-requires c κs = search needs
@@ -21,7 +23,9 @@ same-length-2 : tie.Need-same-length-2
 same-length-2 c = search needs
 
 returns-2 : tie.Need-returns-2
-returns-2 c = counted-few (c .before .before .before .before .before .before .before .before .args .size) (c .before .before .before .before .before .before .before .before .args .table .now) (c .before .before .before .before .before .before .before .before .args .many) (c .before .before .before .before .before .if1 .left) (omega arith) (c .before .before .put-rows .ensures)
+returns-2 c =
+    let args = c .before .before .before .before .before .before .before .before .args in
+    counted-few (args .size) (args .table .now) (args .many) (c .before .before .before .before .before .if1 .left) (omega arith) (c .before .before .put-rows .ensures)
 
 put-rows-requires-2 : tie.Need-put-rows-requires-2
 put-rows-requires-2 c κs = search needs
@@ -36,7 +40,9 @@ same-length-3 : tie.Need-same-length-3
 same-length-3 c = search needs
 
 returns-3 : tie.Need-returns-3
-returns-3 c = counted-many (c .before .before .before .before .before .before .before .before .before .before .before .before .args .size) (c .before .before .before .before .before .before .before .before .before .before .before .before .args .table .now) (c .before .before .before .before .before .before .before .before .before .before .before .before .args .many) (c .before .before .before .before .before .before .before .before .before .if1 .left) (omega arith) (c .before .before .before .before .before .before .put-rows2 .ensures) (c .before .before .put-rows3 .ensures)
+returns-3 c =
+    let args = c .before .before .before .before .before .before .before .before .before .before .before .before .args in
+    counted-many (args .size) (args .table .now) (args .many) (c .before .before .before .before .before .before .before .before .before .if1 .left) (omega arith) (c .before .before .before .before .before .before .put-rows2 .ensures) (c .before .before .put-rows3 .ensures)
 
 pub put-counted-spec : {M : Type 1} → statement M
 put-counted-spec =

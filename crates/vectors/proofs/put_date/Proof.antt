@@ -44,7 +44,10 @@ same-length : tie.Need-same-length
 same-length c = search needs
 
 returns : tie.Need-returns
-returns c = let f : SFits w64 (c .before .before .before .before .value .result) = record { sfits = c .before .before .before .before .value .ok } in date-text (c .before .before .before .before .before .before .before .before .before .before .before .before .before .before .before .before .before .before .before .args .head .now) (c .before .before .before .before .before .before .before .before .before .before .before .before .before .before .before .before .before .before .before .args .message .now) (c .before .before .before .before .before .before .before .before .before .before .before .before .before .before .before .start-of .ensures) (c .before .before .before .before .before .before .before .before .before .before .before .before .before .before .end-of .ensures) (c .before .before .before .before .before .before .before .before .before .before .before .before .before .read-date .ensures .0 .1) (c .before .before .before .before .before .before .before .before .before .before .before .before .number .ensures) (c .before .before .before .before .before .before .before .before .before .before .before .position .ensures) (c .before .before .before .before .before .before .before .before .before .before .count .ensures) (c .before .before .before .before .value .ensures) (c .before .before .before .before .before .before .before .put-line .ensures) (rw (toZ-ofZ f) at (c .before .before .put-value .ensures))
+returns c =
+    let value = c .before .before .before .before .value in
+    let args = c .before .before .before .before .before .before .before .before .before .before .before .before .before .before .before .before .before .before .before .args in
+    let f : SFits w64 (value .result) = record { sfits = value .ok } in date-text (args .head .now) (args .message .now) (c .before .before .before .before .before .before .before .before .before .before .before .before .before .before .before .start-of .ensures) (c .before .before .before .before .before .before .before .before .before .before .before .before .before .before .end-of .ensures) (c .before .before .before .before .before .before .before .before .before .before .before .before .before .read-date .ensures .0 .1) (c .before .before .before .before .before .before .before .before .before .before .before .before .number .ensures) (c .before .before .before .before .before .before .before .before .before .before .before .position .ensures) (c .before .before .before .before .before .before .before .before .before .before .count .ensures) (value .ensures) (c .before .before .before .before .before .before .before .put-line .ensures) (rw (toZ-ofZ f) at (c .before .before .put-value .ensures))
 
 pub put-date-spec : {M : Type 1} → statement M
 put-date-spec =

@@ -24,9 +24,10 @@ same-length c = search needs
 
 returns : tie.Need-returns
 returns c =
+    let args = c .before .before .before .before .before .before .before .before .args in
     let d = c .before .before .before .before .before .decimal in
-    let few = few-digits (c .before .before .before .before .before .before .before .before .args .x) (d .result) (c .before .before .before .before .before .before .before .before .fits .x .fits) (d .ensures .1 .0) in
-    puts-as (λ rest. ap (λ t. t ++ rest) (d .ensures .1 .1) ∙ digits-are 20 (d .result) (c .before .before .before .before .before .before .before .before .args .x) rest few (d .ensures .1 .0)) (c .before .before .put-bytes .ensures)
+    let few = few-digits (args .x) (d .result) (c .before .before .before .before .before .before .before .before .fits .x .fits) (d .ensures .1 .0) in
+    puts-as (λ rest. ap (λ t. t ++ rest) (d .ensures .1 .1) ∙ digits-are 20 (d .result) (args .x) rest few (d .ensures .1 .0)) (c .before .before .put-bytes .ensures)
 
 pub put-decimal-spec : {M : Type 1} → statement M
 put-decimal-spec =

@@ -38,7 +38,9 @@ same-length : tie.Need-same-length
 same-length c = search needs
 
 returns : tie.Need-returns
-returns c = field-row (c .before .before .before .before .before .before .before .before .before .before .before .args .table .now) (c .before .before .before .before .before .before .before .before .before .before .before .args .i) (c .before .before .before .before .before .before .before .before .load-two .ensures) (c .before .before .before .before .before .before .before .load-two2 .ensures) (c .before .before .before .before .before .before .load-two3 .ensures) (c .before .before .before .before .before .load-two4 .ensures) (c .before .before .put-line .ensures)
+returns c =
+    let args = c .before .before .before .before .before .before .before .before .before .before .before .args in
+    field-row (args .table .now) (args .i) (c .before .before .before .before .before .before .before .before .load-two .ensures) (c .before .before .before .before .before .before .before .load-two2 .ensures) (c .before .before .before .before .before .before .load-two3 .ensures) (c .before .before .before .before .before .load-two4 .ensures) (c .before .before .put-line .ensures)
 
 pub put-field-spec : {M : Type 1} → statement M
 put-field-spec =

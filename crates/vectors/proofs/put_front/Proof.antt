@@ -9,7 +9,9 @@ use Rattle.vectors.proofs.put_front.Statement.{statement}
 use Rattle.vectors.proofs.put_front.Tie as tie
 
 returns : tie.Need-returns
-returns c = front-none (c .before .before .before .args .table .now) (c .before .before .before .args .many) (c .if1 .taken) (puts-nothing _ _)
+returns c =
+    let args = c .before .before .before .args in
+    front-none (args .table .now) (args .many) (c .if1 .taken) (puts-nothing _ _)
 
 put-bracketed-requires : tie.Need-put-bracketed-requires
 put-bracketed-requires c κs = search needs
@@ -18,10 +20,14 @@ same-length : tie.Need-same-length
 same-length c = search needs
 
 returns-2 : tie.Need-returns-2
-returns-2 c = front-whole (c .before .before .before .before .before .before .before .before .args .table .now) (c .before .before .before .before .before .before .before .before .args .many) (c .before .before .before .before .before .if1 .left) (omega arith) (c .before .before .put-bracketed .ensures)
+returns-2 c =
+    let args = c .before .before .before .before .before .before .before .before .args in
+    front-whole (args .table .now) (args .many) (c .before .before .before .before .before .if1 .left) (omega arith) (c .before .before .put-bracketed .ensures)
 
 slice-aggregate-put-bracketed : tie.Need-slice-aggregate-put-bracketed
-slice-aggregate-put-bracketed c = sym (length-take-le (c .before .before .before .before .before .args .many) (c .before .before .before .before .before .args .table .now) (omega arith))
+slice-aggregate-put-bracketed c =
+    let args = c .before .before .before .before .before .args in
+    sym (length-take-le (args .many) (args .table .now) (omega arith))
 
 put-bracketed-requires-2 : tie.Need-put-bracketed-requires-2
 put-bracketed-requires-2 c κs = search needs
@@ -30,7 +36,9 @@ same-length-2 : tie.Need-same-length-2
 same-length-2 c = search needs
 
 returns-3 : tie.Need-returns-3
-returns-3 c = front-part (c .before .before .before .before .before .before .before .before .before .args .table .now) (c .before .before .before .before .before .before .before .before .before .args .many) (c .before .before .before .before .before .before .if1 .left) (c .before .before .put-bracketed2 .ensures)
+returns-3 c =
+    let args = c .before .before .before .before .before .before .before .before .before .args in
+    front-part (args .table .now) (args .many) (c .before .before .before .before .before .before .if1 .left) (c .before .before .put-bracketed2 .ensures)
 
 pub put-front-spec : {M : Type 1} → statement M
 put-front-spec =

@@ -16,7 +16,9 @@ put-counted-requires : tie.Need-put-counted-requires
 put-counted-requires c κs = search needs
 
 mul-put-kept : tie.Need-mul-put-kept
-mul-put-kept c = let m = mul-le-mul-right {m = c .before .before .before .before .before .before .before .before .written .result} {n = 65536} (c .before .before .before .before .before .before .before .before .before .before .before .args .size) (omega (arith, c .before .before .before .before .before .before .before .before .written .ensures .1)) in omega (arith, m)
+mul-put-kept c =
+    let written = c .before .before .before .before .before .before .before .before .written in
+    let m = mul-le-mul-right {m = written .result} {n = 65536} (c .before .before .before .before .before .before .before .before .before .before .before .args .size) (omega (arith, written .ensures .1)) in omega (arith, m)
 
 put-kept-requires : tie.Need-put-kept-requires
 put-kept-requires c κs = search needs
@@ -25,7 +27,9 @@ same-length : tie.Need-same-length
 same-length c = search needs
 
 returns : tie.Need-returns
-returns c = given-parts (c .before .before .before .before .before .before .before .before .before .before .before .before .before .before .before .args .size) (c .before .before .before .before .before .before .before .before .before .before .before .before .before .before .before .args .answer) (c .before .before .before .before .before .before .before .before .before .before .before .before .before .before .before .args .table .now) (c .before .before .before .before .before .before .before .before .before .before .before .before .written .ensures .0) (c .before .before .before .before .before .before .before .before .before .before .put-answer .ensures) (c .before .before .before .before .before .before .put-counted .ensures) (c .before .before .put-kept .ensures)
+returns c =
+    let args = c .before .before .before .before .before .before .before .before .before .before .before .before .before .before .before .args in
+    given-parts (args .size) (args .answer) (args .table .now) (c .before .before .before .before .before .before .before .before .before .before .before .before .written .ensures .0) (c .before .before .before .before .before .before .before .before .before .before .put-answer .ensures) (c .before .before .before .before .before .before .put-counted .ensures) (c .before .before .put-kept .ensures)
 
 pub put-given-spec : {M : Type 1} → statement M
 put-given-spec =

@@ -10,7 +10,9 @@ is-kept-requires : tie.Need-is-kept-requires
 is-kept-requires c κs = search needs
 
 returns : tie.Need-returns
-returns c = note-none (c .before .before .before .before .args .table .now) (c .before .before .before .before .args .from) (sym (c .before .is-kept .ensures) ∙ c .if1 .taken) (puts-nothing _ _)
+returns c =
+    let args = c .before .before .before .before .args in
+    note-none (args .table .now) (args .from) (sym (c .before .is-kept .ensures) ∙ c .if1 .taken) (puts-nothing _ _)
 
 slice-aggregate-put-line : tie.Need-slice-aggregate-put-line
 slice-aggregate-put-line c = search needs
@@ -22,7 +24,9 @@ same-length : tie.Need-same-length
 same-length c = search needs
 
 returns-2 : tie.Need-returns-2
-returns-2 c = note-one (c .before .before .before .before .before .before .before .before .before .args .table .now) (c .before .before .before .before .before .before .before .before .before .args .from) (sym (c .before .before .before .before .before .before .is-kept .ensures) ∙ c .before .before .before .before .before .if1 .left) (c .before .before .put-line .ensures)
+returns-2 c =
+    let args = c .before .before .before .before .before .before .before .before .before .args in
+    note-one (args .table .now) (args .from) (sym (c .before .before .before .before .before .before .is-kept .ensures) ∙ c .before .before .before .before .before .if1 .left) (c .before .before .put-line .ensures)
 
 pub put-kept-spec : {M : Type 1} → statement M
 put-kept-spec =

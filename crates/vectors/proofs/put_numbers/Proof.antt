@@ -40,13 +40,19 @@ loop-less : tie.Need-loop-less Inv-loop μ-loop
 loop-less c = search needs
 
 loop-again : tie.Need-loop-again Inv-loop μ-loop
-loop-again c = (omega arith, c .before .before .put-decimal .kept .1 .0 ∙ c .before .before .before .before .before .before .before .put .kept .0 ∙ c .before .before .before .before .before .before .before .before .before .before .loop .inv .1, left-after (c .before .before .before .before .before .before .before .before .before .before .loop .inv .2) (λ rest. spaced-next (c .before .before .before .before .before .before .before .before .before .before .before .before .before .args .numbers .now) (c .before .before .before .before .before .before .before .before .before .before .loop .i) rest (omega arith)) (puts-both {f = λ rest. spaceByte ∷ rest} (c .before .before .before .before .before .before .before .put .ensures) (c .before .before .put-decimal .ensures)))
+loop-again c =
+    let put-decimal = c .before .before .put-decimal in
+    let put = c .before .before .before .before .before .before .before .put in
+    let loop = c .before .before .before .before .before .before .before .before .before .before .loop in
+    (omega arith, put-decimal .kept .1 .0 ∙ put .kept .0 ∙ loop .inv .1, left-after (loop .inv .2) (λ rest. spaced-next (c .before .before .before .before .before .before .before .before .before .before .before .before .before .args .numbers .now) (loop .i) rest (omega arith)) (puts-both {f = λ rest. spaceByte ∷ rest} (put .ensures) (put-decimal .ensures)))
 
 same-length : tie.Need-same-length Inv-loop μ-loop
 same-length c = c .before .loop .inv .1
 
 returns : tie.Need-returns Inv-loop μ-loop
-returns c = left-none (c .before .loop .inv .2) (λ rest. spaced-end (c .before .before .before .before .args .numbers .now) (c .before .loop .i) rest (omega arith))
+returns c =
+    let loop = c .before .loop in
+    left-none (loop .inv .2) (λ rest. spaced-end (c .before .before .before .before .args .numbers .now) (loop .i) rest (omega arith))
 
 pub put-numbers-spec : {M : Type 1} → statement M
 put-numbers-spec =

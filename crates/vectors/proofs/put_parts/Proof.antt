@@ -20,7 +20,9 @@ cut-requires : tie.Need-cut-requires
 cut-requires c κs = search needs
 
 slice-aggregate-decode : tie.Need-slice-aggregate-decode
-slice-aggregate-decode c = sym (length-take-le (c .before .cut .result .at) (c .before .before .before .before .before .before .before .before .args .tail .now) (c .before .cut .ensures .2))
+slice-aggregate-decode c =
+    let cut = c .before .cut in
+    sym (length-take-le (cut .result .at) (c .before .before .before .before .before .before .before .before .args .tail .now) (cut .ensures .2))
 
 slice-aggregate-decode-2 : tie.Need-slice-aggregate-decode-2
 slice-aggregate-decode-2 c = search needs
@@ -47,13 +49,17 @@ array-share-prefix-first : tie.Need-array-share-prefix-first
 array-share-prefix-first c = search needs
 
 slice-aggregate-put-with-room : tie.Need-slice-aggregate-put-with-room
-slice-aggregate-put-with-room c = sym (length-take-le _ _ (rw (c .before .before .before .before .before .before .decode .kept .1 .0) (c .before .before .before .before .before .before .decode .ensures .1)))
+slice-aggregate-put-with-room c =
+    let decode = c .before .before .before .before .before .before .decode in
+    sym (length-take-le _ _ (rw (decode .kept .1 .0) (decode .ensures .1)))
 
 array-share-prefix-second : tie.Need-array-share-prefix-second
 array-share-prefix-second c = search needs
 
 slice-aggregate-put-with-room-2 : tie.Need-slice-aggregate-put-with-room-2
-slice-aggregate-put-with-room-2 c = sym (length-take-le _ _ (rw (c .before .before .before .decode2 .kept .1 .0) (c .before .before .before .decode2 .ensures .1)))
+slice-aggregate-put-with-room-2 c =
+    let decode2 = c .before .before .before .decode2 in
+    sym (length-take-le _ _ (rw (decode2 .kept .1 .0) (decode2 .ensures .1)))
 
 put-with-room-requires : tie.Need-put-with-room-requires
 put-with-room-requires c κs = search needs
@@ -62,7 +68,12 @@ same-length : tie.Need-same-length
 same-length c = search needs
 
 returns : tie.Need-returns
-returns c = parts-text (c .before .before .before .before .before .before .before .before .before .before .before .before .before .before .before .before .before .before .before .before .before .args .letter) (c .before .before .before .before .before .before .before .before .before .before .before .before .before .before .before .before .before .before .before .before .before .args .head .now) (c .before .before .before .before .before .before .before .before .before .before .before .before .before .before .before .before .before .before .before .before .before .args .tail .now) (c .before .before .before .before .before .before .before .before .before .before .before .before .before .before .before .before .before .before .before .before .before .args .store .now) (message-is (c .before .before .before .before .before .before .before .before .before .before .before .before .before .before .before .before .large-buffer .result) (c .before .before .before .before .before .before .before .before .before .before .before .before .before .before .before .before .large-buffer .ensures) (c .before .before .before .before .before .before .before .before .before .before .before .before .before .before .cut .ensures .0) (c .before .before .before .before .before .before .before .before .before .before .before .decode .ensures .2)) (message-is (c .before .before .before .before .before .before .before .before .before .before .before .before .before .before .before .large-buffer2 .result) (c .before .before .before .before .before .before .before .before .before .before .before .before .before .before .before .large-buffer2 .ensures) (tail-part (c .before .before .before .before .before .before .before .before .before .before .before .before .before .before .cut .result .past) (c .before .before .before .before .before .before .before .before .before .before .before .before .before .before .before .before .before .before .before .before .before .args .tail .now) ∙ c .before .before .before .before .before .before .before .before .before .before .before .before .before .before .cut .ensures .1) (c .before .before .before .before .before .before .before .decode2 .ensures .2)) (c .before .before .put-with-room .ensures)
+returns c =
+    let args = c .before .before .before .before .before .before .before .before .before .before .before .before .before .before .before .before .before .before .before .before .before .args in
+    let large-buffer = c .before .before .before .before .before .before .before .before .before .before .before .before .before .before .before .before .large-buffer in
+    let cut = c .before .before .before .before .before .before .before .before .before .before .before .before .before .before .cut in
+    let large-buffer2 = c .before .before .before .before .before .before .before .before .before .before .before .before .before .before .before .large-buffer2 in
+    parts-text (args .letter) (args .head .now) (args .tail .now) (args .store .now) (message-is (large-buffer .result) (large-buffer .ensures) (cut .ensures .0) (c .before .before .before .before .before .before .before .before .before .before .before .decode .ensures .2)) (message-is (large-buffer2 .result) (large-buffer2 .ensures) (tail-part (cut .result .past) (args .tail .now) ∙ cut .ensures .1) (c .before .before .before .before .before .before .before .decode2 .ensures .2)) (c .before .before .put-with-room .ensures)
 
 pub put-parts-spec : {M : Type 1} → statement M
 put-parts-spec =

@@ -8,13 +8,17 @@ use Rattle.vectors.proofs.put_piece.Statement.{statement}
 use Rattle.vectors.proofs.put_piece.Tie as tie
 
 returns : tie.Need-returns
-returns c = puts-as (λ rest. piece-inside (c .before .before .before .args .inside) (c .before .before .before .args .b) (c .before .before .before .args .text .now) rest (c .if1 .taken)) (puts-nothing _ _)
+returns c =
+    let args = c .before .before .before .args in
+    puts-as (λ rest. piece-inside (args .inside) (args .b) (args .text .now) rest (c .if1 .taken)) (puts-nothing _ _)
 
 cut-requires : tie.Need-cut-requires
 cut-requires c κs = search needs
 
 slice-aggregate-put-braced : tie.Need-slice-aggregate-put-braced
-slice-aggregate-put-braced c = sym (length-take-le (c .before .cut .result .at) (c .before .before .before .before .before .before .args .text .now) (c .before .cut .ensures .2))
+slice-aggregate-put-braced c =
+    let cut = c .before .cut in
+    sym (length-take-le (cut .result .at) (c .before .before .before .before .before .before .args .text .now) (cut .ensures .2))
 
 put-braced-requires : tie.Need-put-braced-requires
 put-braced-requires c κs = search needs
@@ -23,7 +27,9 @@ same-length : tie.Need-same-length
 same-length c = search needs
 
 returns-2 : tie.Need-returns-2
-returns-2 c = puts-as (λ rest. piece-braced (c .before .before .before .before .before .before .before .before .before .before .args .inside) (c .before .before .before .before .before .before .before .before .before .before .args .b) (c .before .before .before .before .before .before .before .before .before .before .args .text .now) rest (c .before .before .before .before .before .before .before .if1 .left) (c .before .before .before .before .before .before .if2 .taken)) (rw (c .before .before .before .before .before .cut .ensures .0) at (c .before .before .put-braced .ensures))
+returns-2 c =
+    let args = c .before .before .before .before .before .before .before .before .before .before .args in
+    puts-as (λ rest. piece-braced (args .inside) (args .b) (args .text .now) rest (c .before .before .before .before .before .before .before .if1 .left) (c .before .before .before .before .before .before .if2 .taken)) (rw (c .before .before .before .before .before .cut .ensures .0) at (c .before .before .put-braced .ensures))
 
 meant-requires : tie.Need-meant-requires
 meant-requires c κs = search needs
@@ -35,7 +41,9 @@ same-length-2 : tie.Need-same-length-2
 same-length-2 c = search needs
 
 returns-3 : tie.Need-returns-3
-returns-3 c = puts-as (λ rest. piece-byte (c .before .before .before .before .before .before .before .before .before .args .inside) (c .before .before .before .before .before .before .before .before .before .args .b) (c .before .before .before .before .before .before .before .before .before .args .text .now) rest (c .before .before .before .before .before .before .if1 .left) (c .before .before .before .before .before .if2 .left)) (rw (c .before .before .before .meant .ensures) at (c .before .before .put .ensures))
+returns-3 c =
+    let args = c .before .before .before .before .before .before .before .before .before .args in
+    puts-as (λ rest. piece-byte (args .inside) (args .b) (args .text .now) rest (c .before .before .before .before .before .before .if1 .left) (c .before .before .before .before .before .if2 .left)) (rw (c .before .before .before .meant .ensures) at (c .before .before .put .ensures))
 
 pub put-piece-spec : {M : Type 1} → statement M
 put-piece-spec =

@@ -23,7 +23,9 @@ same-length : tie.Need-same-length
 same-length c = search needs
 
 returns : tie.Need-returns
-returns c = address-row (c .before .before .before .before .before .before .before .before .before .before .args .table .now) (c .before .before .before .before .before .before .before .before .before .before .args .i) (c .before .before .before .before .before .before .before .load-record .ensures) (c .before .before .put-line .ensures)
+returns c =
+    let args = c .before .before .before .before .before .before .before .before .before .before .args in
+    address-row (args .table .now) (args .i) (c .before .before .before .before .before .before .before .load-record .ensures) (c .before .before .put-line .ensures)
 
 pub put-record-spec : {M : Type 1} → statement M
 put-record-spec =

@@ -18,7 +18,9 @@ same-length : tie.Need-same-length
 same-length c = search needs
 
 returns : tie.Need-returns
-returns c = puts-as (λ rest. ap (λ t. chosenText t rest) (ap now (c .before .before .before .before .reply-body .ensures) ∙ pick-of now (leftForFrom (c .before .before .before .before .before .before .before .before .args .reply .now)) (c .before .before .before .before .before .before .before .before .args .from) (c .before .before .before .before .before .before .before .before .args .reply))) (c .before .before .put-chosen .ensures)
+returns c =
+    let args = c .before .before .before .before .before .before .before .before .args in
+    puts-as (λ rest. ap (λ t. chosenText t rest) (ap now (c .before .before .before .before .reply-body .ensures) ∙ pick-of now (leftForFrom (args .reply .now)) (args .from) (args .reply))) (c .before .before .put-chosen .ensures)
 
 pub put-reply-spec : {M : Type 1} → statement M
 put-reply-spec = tie.close (tie.spec reply-body-requires put-chosen-requires same-length returns)

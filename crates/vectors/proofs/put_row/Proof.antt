@@ -20,7 +20,9 @@ same-length-2 : tie.Need-same-length-2
 same-length-2 c = search needs
 
 returns-2 : tie.Need-returns-2
-returns-2 c = other-size (c .before .before .before .before .before .before .before .args .size) (c .before .before .before .before .before .before .before .args .table .now) (c .before .before .before .before .before .before .before .args .i) (c .before .before .before .before .if1 .left) (c .before .before .put-record .ensures)
+returns-2 c =
+    let args = c .before .before .before .before .before .before .before .args in
+    other-size (args .size) (args .table .now) (args .i) (c .before .before .before .before .if1 .left) (c .before .before .put-record .ensures)
 
 pub put-row-spec : {M : Type 1} → statement M
 put-row-spec =

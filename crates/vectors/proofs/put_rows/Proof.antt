@@ -17,7 +17,9 @@ abbrev μ-loop : tie.MeasureT-loop
 μ-loop size table many from out₀ n i₀ m₀ out i m = many - i
 
 loop-holds : tie.Need-loop-holds Inv-loop μ-loop
-loop-holds c = (omega arith, refl, left-as (left-all _ _ _) (λ rest. rows-all (c .before .before .args .size) (c .before .before .args .table .now) (c .before .before .args .many) (c .before .before .args .from) 0 rest))
+loop-holds c =
+    let args = c .before .before .args in
+    (omega arith, refl, left-as (left-all _ _ _) (λ rest. rows-all (args .size) (args .table .now) (args .many) (args .from) 0 rest))
 
 add-put-row : tie.Need-add-put-row Inv-loop μ-loop
 add-put-row c = omega arith
@@ -32,13 +34,20 @@ loop-less : tie.Need-loop-less Inv-loop μ-loop
 loop-less c = search needs
 
 loop-again : tie.Need-loop-again Inv-loop μ-loop
-loop-again c = (omega arith, c .before .before .put-row .kept .1 .1 .1 .0 ∙ c .before .before .before .before .before .loop .inv .1, left-after (c .before .before .before .before .before .loop .inv .2) (λ rest. rows-next (c .before .before .before .before .before .before .before .before .args .size) (c .before .before .before .before .before .before .before .before .args .table .now) (c .before .before .before .before .before .before .before .before .args .many) (c .before .before .before .before .before .before .before .before .args .from) (c .before .before .before .before .before .loop .i) rest (omega arith)) (c .before .before .put-row .ensures))
+loop-again c =
+    let put-row = c .before .before .put-row in
+    let loop = c .before .before .before .before .before .loop in
+    let args = c .before .before .before .before .before .before .before .before .args in
+    (omega arith, put-row .kept .1 .1 .1 .0 ∙ loop .inv .1, left-after (loop .inv .2) (λ rest. rows-next (args .size) (args .table .now) (args .many) (args .from) (loop .i) rest (omega arith)) (put-row .ensures))
 
 same-length : tie.Need-same-length Inv-loop μ-loop
 same-length c = c .before .loop .inv .1
 
 returns : tie.Need-returns Inv-loop μ-loop
-returns c = left-none (c .before .loop .inv .2) (λ rest. rows-none (c .before .before .before .before .args .size) (c .before .before .before .before .args .table .now) (c .before .before .before .before .args .many) (c .before .before .before .before .args .from) (c .before .loop .i) rest (omega arith))
+returns c =
+    let loop = c .before .loop in
+    let args = c .before .before .before .before .args in
+    left-none (loop .inv .2) (λ rest. rows-none (args .size) (args .table .now) (args .many) (args .from) (loop .i) rest (omega arith))
 
 pub put-rows-spec : {M : Type 1} → statement M
 put-rows-spec =

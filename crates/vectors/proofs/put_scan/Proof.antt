@@ -23,7 +23,9 @@ same-length : tie.Need-same-length
 same-length c = search needs
 
 returns : tie.Need-returns
-returns c = scan-text (c .before .before .before .before .before .before .before .before .before .before .before .before .before .before .args .head .now) (c .before .before .before .before .before .before .before .before .before .before .before .before .before .before .args .message .now) (c .before .before .before .before .before .before .before .before .before .before .start-of .ensures) (c .before .before .before .before .before .before .before .before .before .end-of .ensures) (c .before .before .before .before .before .before .before .before .scan-body .ensures .1) (c .before .before .before .before .before .before .put-answer .ensures) (c .before .before .put-symbols .ensures)
+returns c =
+    let args = c .before .before .before .before .before .before .before .before .before .before .before .before .before .before .args in
+    scan-text (args .head .now) (args .message .now) (c .before .before .before .before .before .before .before .before .before .before .start-of .ensures) (c .before .before .before .before .before .before .before .before .before .end-of .ensures) (c .before .before .before .before .before .before .before .before .scan-body .ensures .1) (c .before .before .before .before .before .before .put-answer .ensures) (c .before .before .put-symbols .ensures)
 
 pub put-scan-spec : {M : Type 1} → statement M
 put-scan-spec =

@@ -41,7 +41,10 @@ same-length : tie.Need-same-length Inv-loop μ-loop
 same-length c = c .before .before .before .before .loop .inv .0
 
 returns : tie.Need-returns Inv-loop μ-loop
-returns c = left-none (c .before .before .before .before .loop .inv .1) (λ rest. symbols-ended (c .before .before .before .before .loop .left) (c .before .before .before .before .before .before .before .args .message .now) (c .before .before .before .before .loop .p) (c .before .before .before .before .before .before .before .args .end) rest (omega arith) (sym (c .before .before .next-symbol .ensures .1) ∙ c .enum-told .given .1))
+returns c =
+    let loop = c .before .before .before .before .loop in
+    let args = c .before .before .before .before .before .before .before .args in
+    left-none (loop .inv .1) (λ rest. symbols-ended (loop .left) (args .message .now) (loop .p) (args .end) rest (omega arith) (sym (c .before .before .next-symbol .ensures .1) ∙ c .enum-told .given .1))
 
 enum-known-number : tie.Need-enum-known-number Inv-loop μ-loop
 enum-known-number c = search needs
@@ -59,7 +62,10 @@ same-length-2 : tie.Need-same-length-2 Inv-loop μ-loop
 same-length-2 c = c .before .before .put-line2 .kept .1 .1 .0 ∙ c .before .before .before .before .before .before .before .before .before .before .loop .inv .0
 
 returns-2 : tie.Need-returns-2 Inv-loop μ-loop
-returns-2 c = left-last (c .before .before .before .before .before .before .before .before .before .before .loop .inv .1) (λ rest. symbols-fault (c .before .before .before .before .before .before .before .before .before .before .loop .left) (c .before .before .before .before .before .before .before .before .before .before .before .before .before .args .message .now) (c .before .before .before .before .before .before .before .before .before .before .loop .p) (c .before .before .before .before .before .before .before .before .before .before .before .before .before .args .end) rest (omega arith) (sym (c .before .before .before .before .before .before .before .before .next-symbol .ensures .1) ∙ c .before .before .before .before .before .before .number .given .1)) (c .before .before .put-line2 .ensures)
+returns-2 c =
+    let loop = c .before .before .before .before .before .before .before .before .before .before .loop in
+    let args = c .before .before .before .before .before .before .before .before .before .before .before .before .before .args in
+    left-last (loop .inv .1) (λ rest. symbols-fault (loop .left) (args .message .now) (loop .p) (args .end) rest (omega arith) (sym (c .before .before .before .before .before .before .before .before .next-symbol .ensures .1) ∙ c .before .before .before .before .before .before .number .given .1)) (c .before .before .put-line2 .ensures)
 
 sub-left : tie.Need-sub-left Inv-loop μ-loop
 sub-left c = search needs
@@ -68,13 +74,20 @@ loop-less : tie.Need-loop-less Inv-loop μ-loop
 loop-less c = search needs
 
 loop-again : tie.Need-loop-again Inv-loop μ-loop
-loop-again c = (c .before .before .put-line .kept .1 .1 .0 ∙ c .before .before .before .before .before .before .before .before .before .before .before .loop .inv .0, left-after (c .before .before .before .before .before .before .before .before .before .before .before .loop .inv .1) (λ rest. symbols-found (c .before .before .before .before .before .before .before .before .before .before .before .loop .left) (c .before .before .before .before .before .before .before .before .before .before .before .before .before .before .args .message .now) (c .before .before .before .before .before .before .before .before .before .before .before .loop .p) (c .before .before .before .before .before .before .before .before .before .before .before .before .before .before .args .end) rest (omega arith) (sym (c .before .before .before .before .before .before .before .before .before .next-symbol .ensures .1) ∙ c .before .before .before .before .before .before .before .class .given .1)) (rw (c .before .before .before .before .before .mark .ensures) at (c .before .before .put-line .ensures)))
+loop-again c =
+    let put-line = c .before .before .put-line in
+    let loop = c .before .before .before .before .before .before .before .before .before .before .before .loop in
+    let args = c .before .before .before .before .before .before .before .before .before .before .before .before .before .before .args in
+    (put-line .kept .1 .1 .0 ∙ loop .inv .0, left-after (loop .inv .1) (λ rest. symbols-found (loop .left) (args .message .now) (loop .p) (args .end) rest (omega arith) (sym (c .before .before .before .before .before .before .before .before .before .next-symbol .ensures .1) ∙ c .before .before .before .before .before .before .before .class .given .1)) (rw (c .before .before .before .before .before .mark .ensures) at (put-line .ensures)))
 
 same-length-3 : tie.Need-same-length-3 Inv-loop μ-loop
 same-length-3 c = c .before .loop .inv .0
 
 returns-3 : tie.Need-returns-3 Inv-loop μ-loop
-returns-3 c = left-none (c .before .loop .inv .1) (λ rest. symbols-none (c .before .loop .left) (c .before .before .before .before .args .message .now) (c .before .loop .p) (c .before .before .before .before .args .end) rest (omega arith))
+returns-3 c =
+    let loop = c .before .loop in
+    let args = c .before .before .before .before .args in
+    left-none (loop .inv .1) (λ rest. symbols-none (loop .left) (args .message .now) (loop .p) (args .end) rest (omega arith))
 
 pub put-symbols-spec : {M : Type 1} → statement M
 put-symbols-spec =

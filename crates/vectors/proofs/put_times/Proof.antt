@@ -17,7 +17,9 @@ abbrev μ-loop : tie.MeasureT-loop
 μ-loop many text out₀ n i₀ m₀ out i m = many - i
 
 loop-holds : tie.Need-loop-holds Inv-loop μ-loop
-loop-holds c = (omega arith, refl, left-as (left-all _ _ _) (λ rest. times-all (c .before .before .args .many) 0 (c .before .before .args .text .now) rest))
+loop-holds c =
+    let args = c .before .before .args in
+    (omega arith, refl, left-as (left-all _ _ _) (λ rest. times-all (args .many) 0 (args .text .now) rest))
 
 put-copied-requires : tie.Need-put-copied-requires Inv-loop μ-loop
 put-copied-requires c κs = search needs
@@ -29,13 +31,20 @@ loop-less : tie.Need-loop-less Inv-loop μ-loop
 loop-less c = search needs
 
 loop-again : tie.Need-loop-again Inv-loop μ-loop
-loop-again c = (omega arith, c .before .before .put-copied .kept .1 .1 .0 ∙ c .before .before .before .before .before .loop .inv .1, left-after (c .before .before .before .before .before .loop .inv .2) (λ rest. times-next (c .before .before .before .before .before .before .before .before .args .many) (c .before .before .before .before .before .loop .i) (c .before .before .before .before .before .before .before .before .args .text .now) rest (omega arith)) (c .before .before .put-copied .ensures))
+loop-again c =
+    let put-copied = c .before .before .put-copied in
+    let loop = c .before .before .before .before .before .loop in
+    let args = c .before .before .before .before .before .before .before .before .args in
+    (omega arith, put-copied .kept .1 .1 .0 ∙ loop .inv .1, left-after (loop .inv .2) (λ rest. times-next (args .many) (loop .i) (args .text .now) rest (omega arith)) (put-copied .ensures))
 
 same-length : tie.Need-same-length Inv-loop μ-loop
 same-length c = c .before .loop .inv .1
 
 returns : tie.Need-returns Inv-loop μ-loop
-returns c = left-none (c .before .loop .inv .2) (λ rest. times-none (c .before .before .before .before .args .many) (c .before .loop .i) (c .before .before .before .before .args .text .now) rest (omega arith))
+returns c =
+    let loop = c .before .loop in
+    let args = c .before .before .before .before .args in
+    left-none (loop .inv .2) (λ rest. times-none (args .many) (loop .i) (args .text .now) rest (omega arith))
 
 pub put-times-spec : {M : Type 1} → statement M
 put-times-spec =

@@ -22,7 +22,9 @@ array-borrow-prefix-path : tie.Need-array-borrow-prefix-path
 array-borrow-prefix-path c = search needs
 
 slice-aggregate-put-touched : tie.Need-slice-aggregate-put-touched
-slice-aggregate-put-touched c = sym (length-take-le (c .before .asked .result % 71) (c .before .before .path-room .result) (omega (arith, ap length (c .before .before .path-room .ensures))))
+slice-aggregate-put-touched c =
+    let path-room = c .before .before .path-room in
+    sym (length-take-le (c .before .asked .result % 71) (path-room .result) (omega (arith, ap length (path-room .ensures))))
 
 put-touched-requires : tie.Need-put-touched-requires
 put-touched-requires c κs = search needs
@@ -31,7 +33,10 @@ same-length : tie.Need-same-length
 same-length c = search needs
 
 returns : tie.Need-returns
-returns c = puts-as (λ rest. ap (λ p. touchText (c .before .before .before .before .before .before .before .before .before .before .before .args .head .now) (c .before .before .before .before .before .before .before .before .before .before .before .args .message .now) p rest) (path-is (c .before .before .before .before .before .before .asked .result) (c .before .before .before .before .before .before .before .path-room .ensures) ∙ ap (λ y. replicate (y % 71) untouchedNumber) (c .before .before .before .before .before .before .asked .ensures))) (c .before .before .before .put-touched .ensures)
+returns c =
+    let args = c .before .before .before .before .before .before .before .before .before .before .before .args in
+    let asked = c .before .before .before .before .before .before .asked in
+    puts-as (λ rest. ap (λ p. touchText (args .head .now) (args .message .now) p rest) (path-is (asked .result) (c .before .before .before .before .before .before .before .path-room .ensures) ∙ ap (λ y. replicate (y % 71) untouchedNumber) (asked .ensures))) (c .before .before .before .put-touched .ensures)
 
 pub put-touch-spec : {M : Type 1} → statement M
 put-touch-spec =

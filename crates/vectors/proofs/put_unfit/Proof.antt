@@ -32,7 +32,9 @@ same-length-2 : tie.Need-same-length-2
 same-length-2 c = search needs
 
 returns : tie.Need-returns
-returns c = unfit-text (c .before .before .before .before .before .before .before .before .before .before .before .before .before .before .before .before .before .args .head .now) (c .before .before .before .before .before .before .before .before .before .before .before .before .before .before .before .before .before .args .message .now) (c .before .before .before .before .before .before .before .before .before .before .before .before .before .before .before .before .before .args .table .now) (c .before .before .before .before .before .before .before .before .before .before .before .before .asked .ensures) (c .before .before .before .before .before .before .before .before .before .before .read-addresses .ensures .0) (c .before .before .before .before .before .before .before .asked2 .ensures) (c .before .before .before .before .before .before .refuses-at .ensures) (c .before .before .before .before .before .one-if .ensures) (c .before .before .put-line .ensures)
+returns c =
+    let args = c .before .before .before .before .before .before .before .before .before .before .before .before .before .before .before .before .before .args in
+    unfit-text (args .head .now) (args .message .now) (args .table .now) (c .before .before .before .before .before .before .before .before .before .before .before .before .asked .ensures) (c .before .before .before .before .before .before .before .before .before .before .read-addresses .ensures .0) (c .before .before .before .before .before .before .before .asked2 .ensures) (c .before .before .before .before .before .before .refuses-at .ensures) (c .before .before .before .before .before .one-if .ensures) (c .before .before .put-line .ensures)
 
 pub put-unfit-spec : {M : Type 1} → statement M
 put-unfit-spec =

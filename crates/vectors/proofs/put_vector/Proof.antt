@@ -24,7 +24,9 @@ same-length-2 c = search needs
 
 returns-2 : tie.Need-returns-2
 unfolding vectorText
-returns-2 c = puts-as (λ rest. rw (ne-eqb (c .before .before .before .before .before .before .before .before .before .before .before .before .before .args .letter) 100 (c .before .before .before .before .before .if1 .left), eq-eqb (c .before .before .before .before .before .before .before .before .before .before .before .before .before .args .letter) 107 (c .before .before .before .before .if2 .taken))) (c .before .before .put-known .ensures)
+returns-2 c =
+    let args = c .before .before .before .before .before .before .before .before .before .before .before .before .before .args in
+    puts-as (λ rest. rw (ne-eqb (args .letter) 100 (c .before .before .before .before .before .if1 .left), eq-eqb (args .letter) 107 (c .before .before .before .before .if2 .taken))) (c .before .before .put-known .ensures)
 
 put-reply-requires : tie.Need-put-reply-requires
 put-reply-requires c κs = search needs
@@ -34,7 +36,9 @@ same-length-3 c = search needs
 
 returns-3 : tie.Need-returns-3
 unfolding vectorText
-returns-3 c = puts-as (λ rest. rw (ne-eqb (c .before .before .before .before .before .before .before .before .before .before .before .before .before .before .args .letter) 100 (c .before .before .before .before .before .before .if1 .left), ne-eqb (c .before .before .before .before .before .before .before .before .before .before .before .before .before .before .args .letter) 107 (c .before .before .before .before .before .if2 .left), eq-eqb (c .before .before .before .before .before .before .before .before .before .before .before .before .before .before .args .letter) 114 (c .before .before .before .before .if3 .taken))) (c .before .before .put-reply .ensures)
+returns-3 c =
+    let args = c .before .before .before .before .before .before .before .before .before .before .before .before .before .before .args in
+    puts-as (λ rest. rw (ne-eqb (args .letter) 100 (c .before .before .before .before .before .before .if1 .left), ne-eqb (args .letter) 107 (c .before .before .before .before .before .if2 .left), eq-eqb (args .letter) 114 (c .before .before .before .before .if3 .taken))) (c .before .before .put-reply .ensures)
 
 put-scan-requires : tie.Need-put-scan-requires
 put-scan-requires c κs = search needs
@@ -44,7 +48,9 @@ same-length-4 c = search needs
 
 returns-4 : tie.Need-returns-4
 unfolding vectorText
-returns-4 c = puts-as (λ rest. rw (ne-eqb (c .before .before .before .before .before .before .before .before .before .before .before .before .before .before .before .args .letter) 100 (c .before .before .before .before .before .before .before .if1 .left), ne-eqb (c .before .before .before .before .before .before .before .before .before .before .before .before .before .before .before .args .letter) 107 (c .before .before .before .before .before .before .if2 .left), ne-eqb (c .before .before .before .before .before .before .before .before .before .before .before .before .before .before .before .args .letter) 114 (c .before .before .before .before .before .if3 .left), eq-eqb (c .before .before .before .before .before .before .before .before .before .before .before .before .before .before .before .args .letter) 115 (c .before .before .before .before .if4 .taken))) (c .before .before .put-scan .ensures)
+returns-4 c =
+    let args = c .before .before .before .before .before .before .before .before .before .before .before .before .before .before .before .args in
+    puts-as (λ rest. rw (ne-eqb (args .letter) 100 (c .before .before .before .before .before .before .before .if1 .left), ne-eqb (args .letter) 107 (c .before .before .before .before .before .before .if2 .left), ne-eqb (args .letter) 114 (c .before .before .before .before .before .if3 .left), eq-eqb (args .letter) 115 (c .before .before .before .before .if4 .taken))) (c .before .before .put-scan .ensures)
 
 put-touch-requires : tie.Need-put-touch-requires
 put-touch-requires c κs = search needs
@@ -54,7 +60,9 @@ same-length-5 c = search needs
 
 returns-5 : tie.Need-returns-5
 unfolding vectorText
-returns-5 c = puts-as (λ rest. rw (ne-eqb (c .before .before .before .before .before .before .before .before .before .before .before .before .before .before .before .before .args .letter) 100 (c .before .before .before .before .before .before .before .before .if1 .left), ne-eqb (c .before .before .before .before .before .before .before .before .before .before .before .before .before .before .before .before .args .letter) 107 (c .before .before .before .before .before .before .before .if2 .left), ne-eqb (c .before .before .before .before .before .before .before .before .before .before .before .before .before .before .before .before .args .letter) 114 (c .before .before .before .before .before .before .if3 .left), ne-eqb (c .before .before .before .before .before .before .before .before .before .before .before .before .before .before .before .before .args .letter) 115 (c .before .before .before .before .before .if4 .left), eq-eqb (c .before .before .before .before .before .before .before .before .before .before .before .before .before .before .before .before .args .letter) 116 (c .before .before .before .before .if5 .taken))) (c .before .before .put-touch .ensures)
+returns-5 c =
+    let args = c .before .before .before .before .before .before .before .before .before .before .before .before .before .before .before .before .args in
+    puts-as (λ rest. rw (ne-eqb (args .letter) 100 (c .before .before .before .before .before .before .before .before .if1 .left), ne-eqb (args .letter) 107 (c .before .before .before .before .before .before .before .if2 .left), ne-eqb (args .letter) 114 (c .before .before .before .before .before .before .if3 .left), ne-eqb (args .letter) 115 (c .before .before .before .before .before .if4 .left), eq-eqb (args .letter) 116 (c .before .before .before .before .if5 .taken))) (c .before .before .put-touch .ensures)
 
 put-opened-requires : tie.Need-put-opened-requires
 put-opened-requires c κs = search needs
@@ -67,7 +75,9 @@ same-length-7 c = search needs
 
 returns-6 : tie.Need-returns-6
 unfolding vectorText
-returns-6 c = puts-as (λ rest. rw (ne-eqb (c .before .before .before .before .before .before .before .before .before .before .before .before .before .before .before .before .before .before .before .before .args .letter) 100 (c .before .before .before .before .before .before .before .before .before .before .before .before .if1 .left), ne-eqb (c .before .before .before .before .before .before .before .before .before .before .before .before .before .before .before .before .before .before .before .before .args .letter) 107 (c .before .before .before .before .before .before .before .before .before .before .before .if2 .left), ne-eqb (c .before .before .before .before .before .before .before .before .before .before .before .before .before .before .before .before .before .before .before .before .args .letter) 114 (c .before .before .before .before .before .before .before .before .before .before .if3 .left), ne-eqb (c .before .before .before .before .before .before .before .before .before .before .before .before .before .before .before .before .before .before .before .before .args .letter) 115 (c .before .before .before .before .before .before .before .before .before .if4 .left), ne-eqb (c .before .before .before .before .before .before .before .before .before .before .before .before .before .before .before .before .before .before .before .before .args .letter) 116 (c .before .before .before .before .before .before .before .before .if5 .left), eq-eqb (c .before .before .before .before .before .before .before .before .before .before .before .before .before .before .before .before .before .before .before .before .args .letter) 111 (c .before .before .before .before .before .before .before .if6 .taken))) (c .before .before .before .before .put-opened .ensures)
+returns-6 c =
+    let args = c .before .before .before .before .before .before .before .before .before .before .before .before .before .before .before .before .before .before .before .before .args in
+    puts-as (λ rest. rw (ne-eqb (args .letter) 100 (c .before .before .before .before .before .before .before .before .before .before .before .before .if1 .left), ne-eqb (args .letter) 107 (c .before .before .before .before .before .before .before .before .before .before .before .if2 .left), ne-eqb (args .letter) 114 (c .before .before .before .before .before .before .before .before .before .before .if3 .left), ne-eqb (args .letter) 115 (c .before .before .before .before .before .before .before .before .before .if4 .left), ne-eqb (args .letter) 116 (c .before .before .before .before .before .before .before .before .if5 .left), eq-eqb (args .letter) 111 (c .before .before .before .before .before .before .before .if6 .taken))) (c .before .before .before .before .put-opened .ensures)
 
 put-compared-requires : tie.Need-put-compared-requires
 put-compared-requires c κs = search needs
@@ -83,7 +93,9 @@ same-length-10 c = search needs
 
 returns-7 : tie.Need-returns-7
 unfolding vectorText
-returns-7 c = puts-as (λ rest. rw (ne-eqb (c .before .before .before .before .before .before .before .before .before .before .before .before .before .before .before .before .before .before .before .before .before .before .before .before .args .letter) 100 (c .before .before .before .before .before .before .before .before .before .before .before .before .before .before .before .before .if1 .left), ne-eqb (c .before .before .before .before .before .before .before .before .before .before .before .before .before .before .before .before .before .before .before .before .before .before .before .before .args .letter) 107 (c .before .before .before .before .before .before .before .before .before .before .before .before .before .before .before .if2 .left), ne-eqb (c .before .before .before .before .before .before .before .before .before .before .before .before .before .before .before .before .before .before .before .before .before .before .before .before .args .letter) 114 (c .before .before .before .before .before .before .before .before .before .before .before .before .before .before .if3 .left), ne-eqb (c .before .before .before .before .before .before .before .before .before .before .before .before .before .before .before .before .before .before .before .before .before .before .before .before .args .letter) 115 (c .before .before .before .before .before .before .before .before .before .before .before .before .before .if4 .left), ne-eqb (c .before .before .before .before .before .before .before .before .before .before .before .before .before .before .before .before .before .before .before .before .before .before .before .before .args .letter) 116 (c .before .before .before .before .before .before .before .before .before .before .before .before .if5 .left), ne-eqb (c .before .before .before .before .before .before .before .before .before .before .before .before .before .before .before .before .before .before .before .before .before .before .before .before .args .letter) 111 (c .before .before .before .before .before .before .before .before .before .before .before .if6 .left), eq-eqb (c .before .before .before .before .before .before .before .before .before .before .before .before .before .before .before .before .before .before .before .before .before .before .before .before .args .letter) 99 (c .before .before .before .before .before .before .before .before .before .before .if7 .taken))) (c .before .before .before .before .before .before .put-compared .ensures)
+returns-7 c =
+    let args = c .before .before .before .before .before .before .before .before .before .before .before .before .before .before .before .before .before .before .before .before .before .before .before .before .args in
+    puts-as (λ rest. rw (ne-eqb (args .letter) 100 (c .before .before .before .before .before .before .before .before .before .before .before .before .before .before .before .before .if1 .left), ne-eqb (args .letter) 107 (c .before .before .before .before .before .before .before .before .before .before .before .before .before .before .before .if2 .left), ne-eqb (args .letter) 114 (c .before .before .before .before .before .before .before .before .before .before .before .before .before .before .if3 .left), ne-eqb (args .letter) 115 (c .before .before .before .before .before .before .before .before .before .before .before .before .before .if4 .left), ne-eqb (args .letter) 116 (c .before .before .before .before .before .before .before .before .before .before .before .before .if5 .left), ne-eqb (args .letter) 111 (c .before .before .before .before .before .before .before .before .before .before .before .if6 .left), eq-eqb (args .letter) 99 (c .before .before .before .before .before .before .before .before .before .before .if7 .taken))) (c .before .before .before .before .before .before .put-compared .ensures)
 
 put-unfit-requires : tie.Need-put-unfit-requires
 put-unfit-requires c κs = search needs
@@ -96,7 +108,9 @@ same-length-12 c = search needs
 
 returns-8 : tie.Need-returns-8
 unfolding vectorText
-returns-8 c = puts-as (λ rest. rw (ne-eqb (c .before .before .before .before .before .before .before .before .before .before .before .before .before .before .before .before .before .before .before .before .before .before .args .letter) 100 (c .before .before .before .before .before .before .before .before .before .before .before .before .before .before .if1 .left), ne-eqb (c .before .before .before .before .before .before .before .before .before .before .before .before .before .before .before .before .before .before .before .before .before .before .args .letter) 107 (c .before .before .before .before .before .before .before .before .before .before .before .before .before .if2 .left), ne-eqb (c .before .before .before .before .before .before .before .before .before .before .before .before .before .before .before .before .before .before .before .before .before .before .args .letter) 114 (c .before .before .before .before .before .before .before .before .before .before .before .before .if3 .left), ne-eqb (c .before .before .before .before .before .before .before .before .before .before .before .before .before .before .before .before .before .before .before .before .before .before .args .letter) 115 (c .before .before .before .before .before .before .before .before .before .before .before .if4 .left), ne-eqb (c .before .before .before .before .before .before .before .before .before .before .before .before .before .before .before .before .before .before .before .before .before .before .args .letter) 116 (c .before .before .before .before .before .before .before .before .before .before .if5 .left), ne-eqb (c .before .before .before .before .before .before .before .before .before .before .before .before .before .before .before .before .before .before .before .before .before .before .args .letter) 111 (c .before .before .before .before .before .before .before .before .before .if6 .left), ne-eqb (c .before .before .before .before .before .before .before .before .before .before .before .before .before .before .before .before .before .before .before .before .before .before .args .letter) 99 (c .before .before .before .before .before .before .before .before .if7 .left), eq-eqb (c .before .before .before .before .before .before .before .before .before .before .before .before .before .before .before .before .before .before .before .before .before .before .args .letter) 117 (c .before .before .before .before .before .before .before .if8 .taken))) (c .before .before .before .before .put-unfit .ensures)
+returns-8 c =
+    let args = c .before .before .before .before .before .before .before .before .before .before .before .before .before .before .before .before .before .before .before .before .before .before .args in
+    puts-as (λ rest. rw (ne-eqb (args .letter) 100 (c .before .before .before .before .before .before .before .before .before .before .before .before .before .before .if1 .left), ne-eqb (args .letter) 107 (c .before .before .before .before .before .before .before .before .before .before .before .before .before .if2 .left), ne-eqb (args .letter) 114 (c .before .before .before .before .before .before .before .before .before .before .before .before .if3 .left), ne-eqb (args .letter) 115 (c .before .before .before .before .before .before .before .before .before .before .before .if4 .left), ne-eqb (args .letter) 116 (c .before .before .before .before .before .before .before .before .before .before .if5 .left), ne-eqb (args .letter) 111 (c .before .before .before .before .before .before .before .before .before .if6 .left), ne-eqb (args .letter) 99 (c .before .before .before .before .before .before .before .before .if7 .left), eq-eqb (args .letter) 117 (c .before .before .before .before .before .before .before .if8 .taken))) (c .before .before .before .before .put-unfit .ensures)
 
 put-read-requires : tie.Need-put-read-requires
 put-read-requires c κs = search needs
@@ -109,7 +123,9 @@ same-length-14 c = search needs
 
 returns-9 : tie.Need-returns-9
 unfolding vectorText
-returns-9 c = puts-as (λ rest. rw (ne-eqb (c .before .before .before .before .before .before .before .before .before .before .before .before .before .before .before .before .before .before .before .before .before .before .args .letter) 100 (c .before .before .before .before .before .before .before .before .before .before .before .before .before .before .if1 .left), ne-eqb (c .before .before .before .before .before .before .before .before .before .before .before .before .before .before .before .before .before .before .before .before .before .before .args .letter) 107 (c .before .before .before .before .before .before .before .before .before .before .before .before .before .if2 .left), ne-eqb (c .before .before .before .before .before .before .before .before .before .before .before .before .before .before .before .before .before .before .before .before .before .before .args .letter) 114 (c .before .before .before .before .before .before .before .before .before .before .before .before .if3 .left), ne-eqb (c .before .before .before .before .before .before .before .before .before .before .before .before .before .before .before .before .before .before .before .before .before .before .args .letter) 115 (c .before .before .before .before .before .before .before .before .before .before .before .if4 .left), ne-eqb (c .before .before .before .before .before .before .before .before .before .before .before .before .before .before .before .before .before .before .before .before .before .before .args .letter) 116 (c .before .before .before .before .before .before .before .before .before .before .if5 .left), ne-eqb (c .before .before .before .before .before .before .before .before .before .before .before .before .before .before .before .before .before .before .before .before .before .before .args .letter) 111 (c .before .before .before .before .before .before .before .before .before .if6 .left), ne-eqb (c .before .before .before .before .before .before .before .before .before .before .before .before .before .before .before .before .before .before .before .before .before .before .args .letter) 99 (c .before .before .before .before .before .before .before .before .if7 .left), ne-eqb (c .before .before .before .before .before .before .before .before .before .before .before .before .before .before .before .before .before .before .before .before .before .before .args .letter) 117 (c .before .before .before .before .before .before .before .if8 .left))) (c .before .before .before .before .put-read .ensures)
+returns-9 c =
+    let args = c .before .before .before .before .before .before .before .before .before .before .before .before .before .before .before .before .before .before .before .before .before .before .args in
+    puts-as (λ rest. rw (ne-eqb (args .letter) 100 (c .before .before .before .before .before .before .before .before .before .before .before .before .before .before .if1 .left), ne-eqb (args .letter) 107 (c .before .before .before .before .before .before .before .before .before .before .before .before .before .if2 .left), ne-eqb (args .letter) 114 (c .before .before .before .before .before .before .before .before .before .before .before .before .if3 .left), ne-eqb (args .letter) 115 (c .before .before .before .before .before .before .before .before .before .before .before .if4 .left), ne-eqb (args .letter) 116 (c .before .before .before .before .before .before .before .before .before .before .if5 .left), ne-eqb (args .letter) 111 (c .before .before .before .before .before .before .before .before .before .if6 .left), ne-eqb (args .letter) 99 (c .before .before .before .before .before .before .before .before .if7 .left), ne-eqb (args .letter) 117 (c .before .before .before .before .before .before .before .if8 .left))) (c .before .before .before .before .put-read .ensures)
 
 pub put-vector-spec : {M : Type 1} → statement M
 put-vector-spec =

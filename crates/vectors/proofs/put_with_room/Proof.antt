@@ -19,13 +19,17 @@ array-borrow-prefix-space : tie.Need-array-borrow-prefix-space
 array-borrow-prefix-space c = search needs
 
 slice-aggregate-put-in-rooms : tie.Need-slice-aggregate-put-in-rooms
-slice-aggregate-put-in-rooms c = sym (room-length (c .before .asked .result) (c .before .before .before .large-buffer .result) (c .before .before .before .large-buffer .ensures))
+slice-aggregate-put-in-rooms c =
+    let large-buffer = c .before .before .before .large-buffer in
+    sym (room-length (c .before .asked .result) (large-buffer .result) (large-buffer .ensures))
 
 array-borrow-prefix-spare : tie.Need-array-borrow-prefix-spare
 array-borrow-prefix-spare c = search needs
 
 slice-aggregate-put-in-rooms-2 : tie.Need-slice-aggregate-put-in-rooms-2
-slice-aggregate-put-in-rooms-2 c = sym (room-length (c .before .before .asked .result) (c .before .before .before .large-buffer2 .result) (c .before .before .before .large-buffer2 .ensures))
+slice-aggregate-put-in-rooms-2 c =
+    let large-buffer2 = c .before .before .before .large-buffer2 in
+    sym (room-length (c .before .before .asked .result) (large-buffer2 .result) (large-buffer2 .ensures))
 
 put-in-rooms-requires : tie.Need-put-in-rooms-requires
 put-in-rooms-requires c κs = search needs
@@ -34,7 +38,12 @@ same-length : tie.Need-same-length
 same-length c = search needs
 
 returns : tie.Need-returns
-returns c = with-room (c .before .before .before .before .before .before .before .before .before .before .before .before .before .before .before .before .args .letter) (c .before .before .before .before .before .before .before .before .before .before .before .before .before .before .before .before .args .head .now) (c .before .before .before .before .before .before .before .before .before .before .before .before .before .before .before .before .args .message .now) (c .before .before .before .before .before .before .before .before .before .before .before .before .before .before .before .before .args .other .now) (c .before .before .before .before .before .before .before .before .before .before .before .before .before .before .before .before .args .store .now) (c .before .before .before .before .before .before .before .before .asked .ensures) (room-length (c .before .before .before .before .before .before .before .before .asked .result) (c .before .before .before .before .before .before .before .before .before .before .large-buffer .result) (c .before .before .before .before .before .before .before .before .before .before .large-buffer .ensures)) (room-length (c .before .before .before .before .before .before .before .before .asked .result) (c .before .before .before .before .before .before .before .before .before .large-buffer2 .result) (c .before .before .before .before .before .before .before .before .before .large-buffer2 .ensures)) (c .before .before .before .before .put-in-rooms .ensures)
+returns c =
+    let args = c .before .before .before .before .before .before .before .before .before .before .before .before .before .before .before .before .args in
+    let asked = c .before .before .before .before .before .before .before .before .asked in
+    let large-buffer = c .before .before .before .before .before .before .before .before .before .before .large-buffer in
+    let large-buffer2 = c .before .before .before .before .before .before .before .before .before .large-buffer2 in
+    with-room (args .letter) (args .head .now) (args .message .now) (args .other .now) (args .store .now) (asked .ensures) (room-length (asked .result) (large-buffer .result) (large-buffer .ensures)) (room-length (asked .result) (large-buffer2 .result) (large-buffer2 .ensures)) (c .before .before .before .before .put-in-rooms .ensures)
 
 pub put-with-room-spec : {M : Type 1} → statement M
 put-with-room-spec =

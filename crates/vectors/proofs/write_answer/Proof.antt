@@ -21,7 +21,9 @@ load-byte-requires : tie.Need-load-byte-requires
 load-byte-requires c κs = search needs
 
 slice-aggregate-put-parts : tie.Need-slice-aggregate-put-parts
-slice-aggregate-put-parts c = sym (length-take-le (c .before .before .cut .result .at) (c .before .before .before .before .before .before .before .before .before .before .before .before .before .before .args .line .now) (c .before .before .cut .ensures .2))
+slice-aggregate-put-parts c =
+    let cut = c .before .before .cut in
+    sym (length-take-le (cut .result .at) (c .before .before .before .before .before .before .before .before .before .before .before .before .before .before .args .line .now) (cut .ensures .2))
 
 sub-put-parts : tie.Need-sub-put-parts
 sub-put-parts c = omega (arith, c .before .before .cut .ensures .3)
@@ -39,7 +41,10 @@ same-length : tie.Need-same-length
 same-length c = search needs
 
 returns : tie.Need-returns
-returns c = all-put (c .before .before .before .before .before .before .before .before .before .before .before .before .before .before .before .before .before .before .before .args .line .now) (c .before .before .before .before .before .before .before .before .before .before .before .before .before .before .before .before .before .before .before .args .store .now) (c .before .before .before .before .before .before .before .cut .ensures .0) (tail-part (c .before .before .before .before .before .before .before .cut .result .past) (c .before .before .before .before .before .before .before .before .before .before .before .before .before .before .before .before .before .before .before .args .line .now) ∙ c .before .before .before .before .before .before .before .cut .ensures .1) (c .before .before .before .before .before .before .load-byte .ensures) (c .before .before .before .before .before .before .before .before .before .before .before .before .before .before .put-bytes .ensures) (c .before .before .before .before .before .before .before .before .before .before .put .ensures) (c .before .before .put-parts .ensures)
+returns c =
+    let args = c .before .before .before .before .before .before .before .before .before .before .before .before .before .before .before .before .before .before .before .args in
+    let cut = c .before .before .before .before .before .before .before .cut in
+    all-put (args .line .now) (args .store .now) (cut .ensures .0) (tail-part (cut .result .past) (args .line .now) ∙ cut .ensures .1) (c .before .before .before .before .before .before .load-byte .ensures) (c .before .before .before .before .before .before .before .before .before .before .before .before .before .before .put-bytes .ensures) (c .before .before .before .before .before .before .before .before .before .before .put .ensures) (c .before .before .put-parts .ensures)
 
 pub write-answer-spec : {M : Type 1} → statement M
 write-answer-spec =
