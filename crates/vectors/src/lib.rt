@@ -24,7 +24,6 @@ ghost use Rattle.vectors.specs.Believed.Answers.{line as lineOf, bracket
 ghost use Rattle.vectors.specs.Believed.Vectors.{readText, knownText, dateText, chosenText, scanText, touchText, openText, compareText, unfitText, vectorText, vectorWith, partsText, answerOf, keptLists};
 ghost use Rattle.vectors.specs.Ties.Puts.{Puts, shownLimit};
 use dates::read_date;
-use grammar::load_record;
 use header::fields::split;
 use header::names::Known;
 use header::names::holds_addresses;
@@ -41,6 +40,7 @@ use octets::stored::load_byte;
 use octets::stored::load_two;
 use octets::stored::store_byte;
 use plain::write_plain;
+use records::addresses::load;
 use reply::reply_body;
 use scanner::Class;
 use scanner::Next;
@@ -330,7 +330,7 @@ fn put_field(table: &[u8], i: usize, out: &mut [u8], n: usize) -> usize
 fn put_record(table: &[u8], i: usize, out: &mut [u8], n: usize) -> usize
     ensures { λ r. ⌜ Puts (rowLine 12 (now (table .entry)) i) (now (out .entry)) n (now (out .exit)) r ⌝ }
 {
-    let r = load_record(table, i);
+    let r = load(table, i);
     let row = [
         r.kind as u64,
         r.depth as u64,

@@ -4,8 +4,8 @@ use borrow.Author.Needs.{needs}
 use Rattle.vectors.proofs.put_record.Statement.{statement}
 use Rattle.vectors.proofs.put_record.Tie as tie
 
-load-record-requires : tie.Need-load-record-requires
-load-record-requires c κs = search needs
+load-requires : tie.Need-load-requires
+load-requires c κs = search needs
 
 cast-t7 : tie.Need-cast-t7
 cast-t7 c = search needs
@@ -25,13 +25,13 @@ same-length c = search needs
 returns : tie.Need-returns
 returns c =
     let args = c .before .before .before .before .before .before .before .before .before .before .args in
-    address-row (args .table .now) (args .i) (c .before .before .before .before .before .before .before .load-record .ensures) (c .before .before .put-line .ensures)
+    address-row (args .table .now) (args .i) (c .before .before .before .before .before .before .before .load .ensures) (c .before .before .put-line .ensures)
 
 pub put-record-spec : {M : Type 1} → statement M
 put-record-spec =
     tie.close
     (tie.spec
-    load-record-requires
+    load-requires
     cast-t7
     cast-t8
     slice-aggregate-put-line
