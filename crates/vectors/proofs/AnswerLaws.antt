@@ -16,13 +16,14 @@ use lib.ListN.{length, getD, take, drop, replicate, drop-of-length-le}
 use Rattle.octets.proofs.Parts.{from-here}
 use Rattle.octets.specs.Believed.Octets.{lineFeedByte, spaceByte}
 use Rattle.octets.specs.Believed.Stored.{numberAt}
-use Rattle.records.specs.Believed.AddressRecords.{recordBy, recordIn}
+use Rattle.records.specs.Believed.AddressRecords.{recordBy, addressRecordSize, recordIn}
+use Rattle.records.specs.Believed.FieldRecords.{fieldOf, fieldRecordSize, fieldIn}
 use Rattle.listing.specs.Believed.Lines.{decimal, spaced}
 use Rattle.scanner.specs.Believed.Answers.{nextInBody}
 use Rattle.scanner.specs.declared.Class.{Class}
 use Rattle.scanner.specs.declared.Next.{Next}
 use Rattle.scanner.specs.declared.Next.the-variants.{Found, Ended, Fault}
-use Rattle.vectors.specs.Believed.Answers.{line, bracketed, frontText, addressNumbers, counted, keptNote, refusesAt, untouchedByte, untouchedNumber, untouched, rowLine, rows, markOf, symbolThen, symbols}
+use Rattle.vectors.specs.Believed.Answers.{line, bracketed, frontText, addressNumbers, fieldNumbers, counted, keptNote, refusesAt, untouchedByte, untouchedNumber, untouched, rowLine, rows, markOf, symbolThen, symbols}
 
 -- ---- numbers
 
@@ -99,18 +100,17 @@ module _ (size : ℕ) (table : List ℕ) (many from i : ℕ) (rest : List ℕ) w
   rows-none h = let e : many - i ≡ 0 = omega arith in rw e
 
 module _ (table : List ℕ) (i : ℕ) {o p : List ℕ} {n m : ℕ} where
-  pub field-row : {w x y z : ℕ} → w ≡ numberAt 2 table (i * 8) → x ≡ numberAt 2 table (i * 8 + 2) → y ≡ numberAt 2 table (i * 8 + 4) → z ≡ numberAt 2 table (i * 8 + 6)
-      → Puts (line 42 (w ∷ x ∷ y ∷ z ∷ [])) o n p m → Puts (rowLine 8 table i) o n p m
+  pub field-row : {a b c d : ℕ} → fieldOf a b c d ≡ fieldIn table i → Puts (line 42 (a ∷ b ∷ c ∷ d ∷ [])) o n p m → Puts (rowLine fieldRecordSize table i) o n p m
   unfolding rowLine
-  field-row e f g h w = rw (e, f, g, h) at w
+  field-row e w = puts-as (λ rest. ap (λ f. line 42 (fieldNumbers f) rest) e) w
 
-  pub address-row : {a b c d e f g : ℕ} → recordBy a b c d e f g ≡ recordIn table i → Puts (line 42 (a ∷ b ∷ c ∷ d ∷ e ∷ f ∷ g ∷ [])) o n p m → Puts (rowLine 12 table i) o n p m
+  pub address-row : {a b c d e f g : ℕ} → recordBy a b c d e f g ≡ recordIn table i → Puts (line 42 (a ∷ b ∷ c ∷ d ∷ e ∷ f ∷ g ∷ [])) o n p m → Puts (rowLine addressRecordSize table i) o n p m
   unfolding rowLine
   address-row e w = puts-as (λ rest. ap (λ r. line 42 (addressNumbers r) rest) e) w
 
-pub other-size : (size : ℕ) (table : List ℕ) (i : ℕ) {o p : List ℕ} {n m : ℕ} → (size ≡ 8 → ⊥) → Puts (rowLine 12 table i) o n p m → Puts (rowLine size table i) o n p m
+pub other-size : (size : ℕ) (table : List ℕ) (i : ℕ) {o p : List ℕ} {n m : ℕ} → (size ≡ fieldRecordSize → ⊥) → Puts (rowLine addressRecordSize table i) o n p m → Puts (rowLine size table i) o n p m
 unfolding rowLine
-other-size size table i e w = puts-as (λ rest. rw (ne-eqb size 8 e)) w
+other-size size table i e w = puts-as (λ rest. rw (ne-eqb size fieldRecordSize e)) w
 
 module _ (size : ℕ) (table : List ℕ) (many : ℕ) {o p : List ℕ} {n m : ℕ} where
   pub counted-bytes : size ≡ 1 → Puts (frontText table many) o n p m → Puts (counted size table many) o n p m

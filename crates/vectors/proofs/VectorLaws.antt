@@ -27,6 +27,8 @@ use Rattle.dates.specs.declared.DateAnswer.{DateAnswer}
 use Rattle.touch.specs.Believed.Answers as touch
 use Rattle.touch.specs.Believed.Touched.{touched}
 use Rattle.touch.specs.declared.Touched.{Touched}
+use Rattle.records.specs.Believed.AddressRecords.{addressRecordSize}
+use Rattle.records.specs.Believed.FieldRecords.{fieldRecordSize}
 use Rattle.vectors.specs.Believed.Putting.{text as textOf, putting}
 use Rattle.vectors.specs.Believed.Reading.{before, behind, startOf, endOf, editionOf, placeOf, roomOf, decoded}
 use Rattle.vectors.specs.Believed.Answers.{line, answerLine, valueLine, written, counted, keptNote, given, givenBy, refusesAt, symbols, untouchedByte}
@@ -48,21 +50,21 @@ module _ {o p : List ℕ} {n m : ℕ} where
   answered-by size t w = rw (t .answer-is, t .bytes-are) at w
 
   module _ (letter : ℕ) (head message table : List ℕ) where
-    pub run-addresses : letter ≡ 97 → Puts (givenBy 12 (outcome message (startOf head) (endOf head message) table)) o n p m → Puts (readText letter head message table) o n p m
+    pub run-addresses : letter ≡ 97 → Puts (givenBy addressRecordSize (outcome message (startOf head) (endOf head message) table)) o n p m → Puts (readText letter head message table) o n p m
     unfolding readText
     run-addresses a w = puts-as (λ rest. rw (eq-eqb letter 97 a)) w
 
-    pub run-by-table : (letter ≡ 97 → ⊥) → letter ≡ 98 → Puts (givenBy 12 (outcome message (startOf head) (endOf head message) table)) o n p m → Puts (readText letter head message table) o n p m
+    pub run-by-table : (letter ≡ 97 → ⊥) → letter ≡ 98 → Puts (givenBy addressRecordSize (outcome message (startOf head) (endOf head message) table)) o n p m → Puts (readText letter head message table) o n p m
     unfolding readText
     run-by-table a b w = puts-as (λ rest. rw (ne-eqb letter 97 a, eq-eqb letter 98 b)) w
 
     pub run-edition : (letter ≡ 97 → ⊥) → (letter ≡ 98 → ⊥) → letter ≡ 101
-        → Puts (givenBy 12 (outcomeOf (editionOf head) message (startOf head) (endOf head message) table)) o n p m → Puts (readText letter head message table) o n p m
+        → Puts (givenBy addressRecordSize (outcomeOf (editionOf head) message (startOf head) (endOf head message) table)) o n p m → Puts (readText letter head message table) o n p m
     unfolding readText
     run-edition a b c w = puts-as (λ rest. rw (ne-eqb letter 97 a, ne-eqb letter 98 b, eq-eqb letter 101 c)) w
 
     pub run-fields : (letter ≡ 97 → ⊥) → (letter ≡ 98 → ⊥) → (letter ≡ 101 → ⊥) → letter ≡ 102
-        → Puts (given 8 (splitAnswer message table) (splitTable message table)) o n p m → Puts (readText letter head message table) o n p m
+        → Puts (given fieldRecordSize (splitAnswer message table) (splitTable message table)) o n p m → Puts (readText letter head message table) o n p m
     unfolding readText
     run-fields a b c d w = puts-as (λ rest. rw (ne-eqb letter 97 a, ne-eqb letter 98 b, ne-eqb letter 101 c, eq-eqb letter 102 d)) w
 

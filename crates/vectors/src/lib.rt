@@ -22,6 +22,8 @@ ghost use Rattle.vectors.specs.Believed.Putting.{text as textOf, next as
 ghost use Rattle.vectors.specs.Believed.Reading.{before, behind as behindOf, digitsFrom, asked as askedOf, meant as meantOf, copied, times, braced, piece, stays, decoded, startOf, endOf};
 ghost use Rattle.vectors.specs.Believed.Answers.{line as lineOf, bracketed, answerLine, valueLine, untouchedByte, untouchedNumber, written as writtenOf, rowLine, rows, frontText, counted, untouched, keptNote, given, refusesAt, knownNumber, markOf, symbols};
 ghost use Rattle.vectors.specs.Believed.Vectors.{readText, knownText, dateText, chosenText, scanText, touchText, openText, compareText, unfitText, vectorText, vectorWith, partsText, answerOf, keptLists};
+ghost use Rattle.records.specs.Believed.AddressRecords.{addressRecordSize};
+ghost use Rattle.records.specs.Believed.FieldRecords.{fieldRecordSize};
 ghost use Rattle.vectors.specs.Ties.Puts.{Puts, shownLimit};
 use dates::read_date;
 use header::fields::split;
@@ -33,14 +35,12 @@ use octets::answers::count;
 use octets::answers::number;
 use octets::answers::position;
 use octets::letters::same_bytes;
-use octets::numbers::ADDRESS_RECORD_SIZE;
-use octets::numbers::FIELD_RECORD_SIZE;
 use octets::numbers::NO_LIST_GOES_ON;
 use octets::stored::load_byte;
-use octets::stored::load_two;
 use octets::stored::store_byte;
 use plain::write_plain;
-use records::addresses::load;
+use records::addresses::ADDRESS_RECORD_SIZE;
+use records::fields::FIELD_RECORD_SIZE;
 use reply::reply_body;
 use scanner::Class;
 use scanner::Next;
@@ -313,24 +313,23 @@ fn written(answer: Answer) -> usize
 
 // The positions of a field record.
 fn put_field(table: &[u8], i: usize, out: &mut [u8], n: usize) -> usize
-    requires { ⌜ i < shownLimit ⌝ }
-    ensures { λ r. ⌜ Puts (rowLine 8 (now (table .entry)) i) (now (out .entry)) n (now (out .exit)) r ⌝ }
+    ensures { λ r. ⌜ Puts (rowLine fieldRecordSize (now (table .entry)) i) (now (out .entry)) n (now (out .exit)) r ⌝ }
 {
-    let at = i * FIELD_RECORD_SIZE;
+    let field = records::fields::load(table, i);
     let row = [
-        load_two(table, at) as u64,
-        load_two(table, at + 2) as u64,
-        load_two(table, at + 4) as u64,
-        load_two(table, at + 6) as u64,
+        field.name.start as u64,
+        field.name.end as u64,
+        field.body.start as u64,
+        field.body.end as u64,
     ];
     put_line(b'*', &row, out, n)
 }
 
 // The numbers of an address record.
 fn put_record(table: &[u8], i: usize, out: &mut [u8], n: usize) -> usize
-    ensures { λ r. ⌜ Puts (rowLine 12 (now (table .entry)) i) (now (out .entry)) n (now (out .exit)) r ⌝ }
+    ensures { λ r. ⌜ Puts (rowLine addressRecordSize (now (table .entry)) i) (now (out .entry)) n (now (out .exit)) r ⌝ }
 {
-    let r = load(table, i);
+    let r = records::addresses::load(table, i);
     let row = [
         r.kind as u64,
         r.depth as u64,
@@ -345,7 +344,6 @@ fn put_record(table: &[u8], i: usize, out: &mut [u8], n: usize) -> usize
 
 // A record of a size.
 fn put_row(size: usize, table: &[u8], i: usize, out: &mut [u8], n: usize) -> usize
-    requires { ⌜ i < shownLimit ⌝ }
     ensures { λ r. ⌜ Puts (rowLine size (now (table .entry)) i) (now (out .entry)) n (now (out .exit)) r ⌝ }
 {
     if size == FIELD_RECORD_SIZE {
@@ -423,7 +421,7 @@ fn put_kept(table: &[u8], from: usize, out: &mut [u8], n: usize) -> usize
 
 // An answer, and the lent part afterwards, which holds records of a size or bytes.
 fn put_given(size: usize, answer: Answer, table: &[u8], out: &mut [u8], n: usize) -> usize
-    requires { ⌜ size ≤ 12 ⌝ }
+    requires { ⌜ size ≤ addressRecordSize ⌝ }
     ensures { λ r. ⌜ Puts (given size answer (now (table .entry))) (now (out .entry)) n (now (out .exit)) r ⌝ }
 {
     let many = written(answer);

@@ -7,10 +7,9 @@ use lib.IntN.{ℤ, pos, negsuc}
 use lib.ListN.{take, drop}
 use Rattle.octets.specs.Believed.Answers.{numberOf, positionOf, countOf}
 use Rattle.octets.specs.Believed.Choice.{pick, both}
-use Rattle.records.specs.Believed.FieldRecords.{fieldRecordSize}
+use Rattle.records.specs.Believed.FieldRecords.{Field, fieldRecordSize, fieldIn}
 use Rattle.octets.specs.Believed.Numbers.{noListGoesOn}
 use Rattle.octets.specs.Believed.Octets.{lineFeedByte, spaceByte}
-use Rattle.octets.specs.Believed.Stored.{numberAt}
 use Rattle.octets.specs.Believed.Text.{bytes}
 use Rattle.octets.specs.declared.answers.Answer.{Answer}
 use Rattle.octets.specs.declared.answers.Answer.the-variants.{Accepted, Refused, NoRoom}
@@ -64,14 +63,14 @@ written (NoRoom needed) = 0
 abbrev pub addressNumbers : AddressRecord → List ℕ
 addressNumbers r = r .kind ∷ r .depth ∷ r .parent ∷ r .start ∷ r .end ∷ r .nameStart ∷ r .nameEnd ∷ []
 
--- the positions of a field record from a place on
-abbrev pub fieldNumbers : List ℕ → ℕ → List ℕ
-fieldNumbers table at = numberAt 2 table at ∷ numberAt 2 table (at + 2) ∷ numberAt 2 table (at + 4) ∷ numberAt 2 table (at + 6) ∷ []
+-- the positions of a field record
+abbrev pub fieldNumbers : Field → List ℕ
+fieldNumbers f = f .nameStart ∷ f .nameEnd ∷ f .bodyStart ∷ f .bodyEnd ∷ []
 
 -- "*": a record of a size
 unfoldable pub rowLine : ℕ → List ℕ → ℕ → List ℕ → List ℕ
 rowLine size table i rest =
-    line 42 (pick (eqb size fieldRecordSize) (fieldNumbers table (i * fieldRecordSize)) (addressNumbers (recordIn table i))) rest
+    line 42 (pick (eqb size fieldRecordSize) (fieldNumbers (fieldIn table i)) (addressNumbers (recordIn table i))) rest
 
 -- so many records from one on
 unfoldable pub rows : ℕ → List ℕ → ℕ → ℕ → List ℕ → List ℕ
