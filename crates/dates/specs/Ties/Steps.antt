@@ -1,4 +1,4 @@
--- What the functions below the entry point answer. Nothing here needs to be believed.
+-- What the functions below the entry point answer.
 use mathlib.Core.Path.{_≡_}
 use Prim.Native.Nat.{ℕ, suc, _+_, _≤_, _<_}
 use mathlib.Core.Bool.{Bool, true}

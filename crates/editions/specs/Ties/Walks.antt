@@ -1,4 +1,4 @@
--- What the functions of the loop answer. Nothing here needs to be believed.
+-- What the functions of the loop answer.
 use Prim.Native.Nat.{ℕ, _+_, _-_, _*_, _≤_, _<_}
 use mathlib.Core.Path.{_≡_}
 use mathlib.Core.List.{List, [], _∷_}

@@ -1,4 +1,4 @@
--- Where the reader stops, and what could stand there. Nothing here needs to be believed.
+-- Where the reader stops, and what could stand there.
 use Prim.Native.Nat.{ℕ}
 use mathlib.Core.Path.{_≡_}
 use mathlib.Core.Bool.{Bool}

@@ -1,5 +1,4 @@
--- What the reader's numbers and its array stand for: a state of the machine that the laws of the grammar are about. Nothing here
--- needs to be believed.
+-- What the reader's numbers and its array stand for: a state of the machine that the laws of the grammar are about.
 use Prim.Native.Nat.{ℕ, suc, _+_, _*_, _≤_}
 use mathlib.Core.Path.{_≡_}
 use mathlib.Core.List.{List}

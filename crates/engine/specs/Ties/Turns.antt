@@ -1,4 +1,4 @@
--- What the functions of the reader answer. Nothing here needs to be believed.
+-- What the functions of the reader answer.
 -- A function asks that there is a state of the machine for which its arguments stand (`Some..`), and answers for every such state.
 use Prim.Native.Nat.{ℕ, zero, suc, _+_, _*_, _/_, _≤_, _<_}
 use mathlib.Core.Path.{_≡_}

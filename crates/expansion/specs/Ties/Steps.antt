@@ -1,4 +1,4 @@
--- What the functions below the entry point do. Nothing here needs to be believed.
+-- What the functions below the entry point do.
 use Prim.Native.Nat.{ℕ, suc, _+_, _*_, _≤_, _<_}
 use mathlib.Core.Path.{_≡_}
 use lib.ListN.{length}

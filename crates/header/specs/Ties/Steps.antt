@@ -1,4 +1,4 @@
--- What finding one field answers, from what a message holds there. Nothing here needs to be believed.
+-- What finding one field answers, from what a message holds there.
 use mathlib.Core.Path.{_≡_}
 use mathlib.Core.List.{List}
 use Prim.Native.Nat.{ℕ, _≤_}

@@ -1,4 +1,4 @@
--- What the functions below the entry point do. Nothing here needs to be believed.
+-- What the functions below the entry point do.
 use mathlib.Core.Path.{_≡_}
 use Prim.Native.Nat.{ℕ, zero, suc, _+_, _*_, _≤_, _<_}
 use mathlib.Core.List.{List, [], _∷_}

@@ -1,4 +1,4 @@
--- A text written into a lent part from a place on. Nothing here needs to be believed.
+-- A text written into a lent part from a place on.
 use mathlib.Core.Path.{_≡_}
 use mathlib.Core.List.{List}
 use Prim.Native.Nat.{ℕ, _+_, _-_}

@@ -1,4 +1,4 @@
--- What the functions below the entry points do. Nothing here needs to be believed.
+-- What the functions below the entry points do.
 use mathlib.Core.Bool.{Bool, false}
 use mathlib.Core.List.{List}
 use Prim.Native.Nat.{ℕ}

@@ -1,4 +1,4 @@
--- Records one of which gets another end. Nothing here needs to be believed.
+-- Records one of which gets another end.
 use Prim.Native.Nat.{ℕ, zero, suc}
 use mathlib.Core.List.{List, [], _∷_}
 use Rattle.records.specs.Believed.AddressRecords.{AddressRecord, recordBy}

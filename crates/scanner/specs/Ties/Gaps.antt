@@ -1,4 +1,4 @@
--- What the functions that look between symbols answer. Nothing here needs to be believed.
+-- What the functions that look between symbols answer.
 use mathlib.Core.Path.{_≡_}
 use Prim.Native.Nat.{ℕ, _≤_}
 use mathlib.Core.Bool.{Bool}

@@ -1,4 +1,4 @@
--- What the functions below the entry points answer. Nothing here needs to be believed.
+-- What the functions below the entry points answer.
 use mathlib.Core.Path.{_≡_}
 use Prim.Native.Nat.{ℕ, _+_, _≤_}
 use mathlib.Core.Bool.{Bool}

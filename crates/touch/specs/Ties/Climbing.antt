@@ -1,4 +1,4 @@
--- What the functions below the entry point do with the tool's own table. Nothing here needs to be believed.
+-- What the functions below the entry point do with the tool's own table.
 use mathlib.Core.Path.{_≡_}
 use mathlib.Core.List.{List}
 use Prim.Native.Nat.{ℕ, _+_, _≤_, _<_}

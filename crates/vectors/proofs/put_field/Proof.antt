@@ -18,8 +18,8 @@ same-length c = search needs
 
 returns : tie.Need-returns
 returns c =
-    let args = c .before .before .before .before .before .before .before .args in
-    field-row (args .table .now) (args .i) (c .before .before .before .before .load .ensures) (c .before .before .put-line .ensures)
+    let args = c .before .before .before .before .before .before .before .before .args in
+    field-row (args .table .now) (args .i) (c .before .before .before .before .before .load .ensures) (c .before .before .put-line .ensures)
 
 pub put-field-spec : {M : Type 1} → statement M
 put-field-spec = tie.close (tie.spec load-requires slice-aggregate-put-line put-line-requires same-length returns)

@@ -1,4 +1,4 @@
--- A text put before what follows. Nothing here needs to be believed.
+-- A text put before what follows.
 use mathlib.Core.Path.{_≡_}
 use mathlib.Core.List.{List}
 use Prim.Native.Nat.{ℕ}
