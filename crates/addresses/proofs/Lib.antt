@@ -15,4 +15,3 @@ pub mod WithinLaws
 pub mod BodyRecords
 pub mod RecordsRead
 pub mod Told
-pub mod TableRows

@@ -6,7 +6,7 @@ use mathlib.Core.Bool.{Bool, true, false}
 use lib.Dec.{eqb}
 use lib.ListN.{getD, List·getD-eq-default}
 use Rattle.octets.specs.Believed.Choice.{pick, both}
-use Rattle.addresses.proofs.TableRows.{cell-at}
+use Rattle.octets.proofs.TableRows.{cell-at}
 use Rattle.scanner.specs.declared.Class.{Class}
 use Rattle.grammar.specs.Believed.Rfc733.{classNumber}
 use Rattle.editions.specs.Ties.Places.{Row, Effect, nothing, firstWord, furtherWord, mailboxRecord, mailboxEnd, angleRecord, angleEnd, groupRecord, groupEnd, refuse, no, rows, rowAt, nextPlace, effectOf, endsAt, effectNumber, cells, slotCount, columns, placeTable, noGroup, oneIf, parentOf}

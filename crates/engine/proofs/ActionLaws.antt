@@ -4,7 +4,7 @@ use mathlib.Core.Path.{_≡_, refl, sym, ap, _∙_}
 use mathlib.Core.List.{[], _∷_}
 use lib.ListN.{getD}
 use native.Mathlib.Omega.{arith}
-use Rattle.addresses.proofs.TableRows.{cell-at}
+use Rattle.octets.proofs.TableRows.{cell-at}
 use Rattle.grammar.specs.Believed.Rfc733.{classNumber}
 use Rattle.grammar.specs.Executable.Trees733.{Class, Atom, Quoted, At, LessThan, GreaterThan, Comma, Semicolon, Colon, Stray, Dot, Literal}
 use Rattle.engine.specs.Ties.Actions.{Mode, atPlace, atStart, atFirstAtom, wanting, atAtom, atQuoted, atWords, afterAt, atNode, afterAddress, modeNumber, Act, refuses, begins, adds, passes, opens, opensNamed, turnsTyped, endsAtComma, closes, endsAndCloses, finishes, endsAndFinishes, actNumber, no, entry, Row, rowOf, onClass, actionOf, columns, cells, endColumn, modeCount, modes, actionTable}

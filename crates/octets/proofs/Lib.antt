@@ -2,6 +2,7 @@
 pub mod ChoiceLaws
 pub mod AnswerLaws
 pub mod Tables
+pub mod TableRows
 pub mod ClassLaws
 pub mod LetterLaws
 pub mod LineLaws
