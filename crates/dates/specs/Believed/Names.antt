@@ -30,7 +30,7 @@ place (full ∷ names) name = pick (called full name) 0 (suc (place names name))
 abbrev pub ahead : ℕ → ℕ → ℤ
 ahead hours minutes = pos (hours * 60 + minutes)
 
--- local time after GMT
+-- local time behind GMT
 abbrev pub behind : ℕ → ℕ → ℤ
 behind hours minutes = negℤ (ahead hours minutes)
 
