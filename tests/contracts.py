@@ -17,7 +17,7 @@ LIMIT, TABLE = 40, "tests/contracts.txt"
 READERS = "addresses::read_addresses", "engine::read_addresses"
 ABOVE = """\
 # FUNCTION CLAUSE DEFINITION..: each clause of each function that other modules can call, and the definitions that it cites, as
-# CRATE.FILE.NAME, in the order of its text."""
+# CRATE.FOLDER.FILE.NAME, in the order of its text."""
 # comments, texts and bytes; a function up to its name; a type's block; what stands before the brace of a clause
 UNREAD = re.compile(r"""//[^\n]*|/\*.*?\*/|b?r(#*)".*?"\1|b?"(?:\\.|[^"\\])*"|b?'(?:\\[^\n']*.|[^'\\\n])'""", re.DOTALL)
 HEAD = re.compile(r"(?:\b(pub(?:\([^)]*\))?)\s+)?(?:(?:const|unsafe|(extern))\s+)*\bfn\s+(\w+)")

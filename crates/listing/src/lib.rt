@@ -31,6 +31,8 @@ use octets::writing::store_bytes_in;
 use records::addresses::ADDRESS_RECORD_SIZE;
 use records::fields::FIELD_RECORD_SIZE;
 
+pub mod printing;
+
 // The bytes of a table of field records, and of one of address records.
 const FIELD_TABLE_SIZE: usize = TABLE_RECORDS * FIELD_RECORD_SIZE;
 

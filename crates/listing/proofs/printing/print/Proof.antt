@@ -1,9 +1,9 @@
--- `rfc733::print` is safe and ends. Assumes nothing.
+-- `listing::printing::print` is safe and ends. Assumes nothing.
 use mathlib.Core.Path.{sym}
 use lib.Seq.{length-take-le}
 use borrow.Author.Needs.{needs}
-use Rattle.rfc733.proofs.print.Statement.{statement}
-use Rattle.rfc733.proofs.print.Tie as tie
+use Rattle.listing.proofs.printing.print.Statement.{statement}
+use Rattle.listing.proofs.printing.print.Tie as tie
 
 slice-aggregate-write-all : tie.Need-slice-aggregate-write-all
 slice-aggregate-write-all c = sym (length-take-le _ _ (c .before .if1 .taken))

@@ -1,11 +1,11 @@
--- `rfc733::print_listing` is safe and ends: each window starts after the one before. Assumes nothing.
+-- `listing::printing::print_windows` meets its contract: each window starts after the one before. Assumes nothing.
 use mathlib.Core.Path.{_≡_, refl, _∙_}
 use Prim.Native.Nat.{_-_}
 use borrow.Author.Needs.{needs}
 use lib.ListN.{length}
 use Rattle.listing.specs.Believed.Listing.{listing}
-use Rattle.rfc733.proofs.print_listing.Statement.{statement}
-use Rattle.rfc733.proofs.print_listing.Tie as tie
+use Rattle.listing.proofs.printing.print_windows.Statement.{statement}
+use Rattle.listing.proofs.printing.print_windows.Tie as tie
 
 abbrev Inv-loop : tie.InvT-loop
 Inv-loop message edition window₀ from₀ window from = length window ≡ length window₀
@@ -49,8 +49,8 @@ loop-less c = search needs
 loop-again : tie.Need-loop-again Inv-loop μ-loop
 loop-again c = search needs
 
-pub print-listing-spec : {M : Type 1} → statement M
-print-listing-spec =
+pub print-windows-spec : {M : Type 1} → statement M
+print-windows-spec =
     tie.close
     (tie.spec
     Inv-loop
