@@ -54,7 +54,7 @@ reread text at {k} d =
     let q : meaning k ≡ listOf w = m ∙ sym f in
     (rw q (reread-writable w), ap levels e ∙ forest-levels l ∙ list-depth l ∙ ap addressesDepth (sym m))
 
--- a plain text of at most 32,768 bytes is accepted, with the same addresses, nesting, words and nodes, and written again it is the same bytes
+-- a plain text within the message limit is accepted, with the same addresses, nesting, words and nodes, and written again it is the same bytes
 pub round-trip : {message : List ℕ} {start end : ℕ} {k : Derivation} → AcceptedBody message start end k → length (plainText k) ≤ messageLimit → RoundTrip k
 round-trip {message} {start} {end} {k} a h =
     let (r, n) = reread (take end message) start (a .list .derived) in

@@ -171,7 +171,7 @@ pub record Onward (from to : Continuation → Trail) (out : List ℕ) (n : ℕ) 
   pub same : (following : Continuation) → from following ≡ before put (to following)
   pub wrote : Wrote put out n after′ m
 
--- the most that is written of one text of at most 32,768 bytes: twice its length and 3 for each symbol, of which there are no more than bytes
+-- the most that is written of one text within the message limit: twice its length and 3 for each symbol, of which there are no more than bytes
 abbrev pub symbolShare : ℕ
 symbolShare = 2 * messageLimit + 3
 

@@ -18,7 +18,7 @@ use Rattle.plain.specs.Believed.RoundTrip.{AcceptedBody, RoundTrip}
 pub record Condition2 (message : List ℕ) (start end : ℕ) (lent : List ℕ) (r : Answer) (after : List ℕ) : Type 0 where
   -- of an accepted body its plain text is written, if it fits, and nothing else changes
   pub writes : (k : Derivation) → AcceptedBody message start end k → (told r ≡ told (fittingAnswer (plainText k) lent)) × (after ≡ fittingText (plainText k) lent)
-  -- and that text, if it is at most 32,768 bytes, reads back the same and writes back the same bytes
+  -- and that text, if it is within the message limit, reads back the same and writes back the same bytes
   pub round-trip : (k : Derivation) → AcceptedBody message start end k → length (plainText k) ≤ messageLimit → RoundTrip k
   -- a body that scans without fault and is no list is refused with 8, 9 or 10, as condition 3 has it, and the lent text is unchanged
   pub no-list : bodyScanned message start end ≡ Accepted 0 → ((k : Derivation) → AcceptedBody message start end k → ⊥)
