@@ -30,10 +30,10 @@ use octets::numbers::EDITION_UNKNOWN;
 use octets::numbers::ENDS_TOO_SOON;
 use octets::numbers::NO_LIST_GOES_ON;
 use records::Span;
-use records::addresses::ADDRESS_RECORD_SIZE;
-use records::addresses::AddressRecord;
-use records::addresses::store;
-use records::addresses::store_end;
+use records::address::ADDRESS_RECORD_SIZE;
+use records::address::AddressRecord;
+use records::address::store;
+use records::address::store_end;
 use scanner::Class;
 use scanner::Next;
 

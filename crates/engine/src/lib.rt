@@ -50,9 +50,9 @@ use octets::numbers::LEVEL_LIMIT;
 use octets::numbers::NO_LIST_GOES_ON;
 use octets::numbers::TOO_MANY_LEVELS;
 use records::Span;
-use records::addresses::ADDRESS_RECORD_SIZE;
-use records::addresses::AddressRecord;
-use records::addresses::store;
+use records::address::ADDRESS_RECORD_SIZE;
+use records::address::AddressRecord;
+use records::address::store;
 use scanner::Class;
 use scanner::Next;
 

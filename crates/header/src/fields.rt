@@ -18,9 +18,9 @@ use octets::numbers::MESSAGE_LIMIT;
 use octets::numbers::MESSAGE_TOO_LONG;
 use octets::numbers::NAME_FAULT;
 use records::Span;
-use records::fields::FIELD_RECORD_SIZE;
-use records::fields::FieldRecord;
-use records::fields::store;
+use records::field::FIELD_RECORD_SIZE;
+use records::field::FieldRecord;
+use records::field::store;
 
 // What stands at a line start.
 enum Next {

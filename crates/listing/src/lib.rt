@@ -28,8 +28,8 @@ use octets::numbers::TABLE_RECORDS;
 use octets::numbers::TOO_LITTLE_ROOM;
 use octets::writing::store_byte_in;
 use octets::writing::store_bytes_in;
-use records::addresses::ADDRESS_RECORD_SIZE;
-use records::fields::FIELD_RECORD_SIZE;
+use records::address::ADDRESS_RECORD_SIZE;
+use records::field::FIELD_RECORD_SIZE;
 
 pub mod printing;
 
@@ -128,7 +128,7 @@ fn put_address(table: &[u8], i: usize, from: usize, out: &mut [u8], n: usize) ->
     requires { ⌜ n + lineLimit ≤ countLimit ⌝ }
     ensures { λ r. ⌜ WroteBy (inWindow from) (addressLine (recordIn (now (table .entry)) i)) (now (out .entry)) n (now (out .exit)) r × (r ≤ n + lineLimit) ⌝ }
 {
-    let address = records::addresses::load(table, i);
+    let address = records::address::load(table, i);
     let a = put_bytes(b"address", from, out, n);
     let b = put_number(address.kind as usize, from, out, a);
     let c = put_number(address.depth as usize, from, out, b);
@@ -247,7 +247,7 @@ fn put_field(
     requires { ⌜ Named (now message) (fieldIn (now fields) i) × (n + fieldLimit ≤ countLimit) ⌝ }
     ensures { λ r. ⌜ WroteBy (inWindow from) (fieldText edition (now (message .entry)) (fieldIn (now (fields .entry)) i)) (now (out .entry)) n (now (out .exit)) r × (r ≤ n + fieldLimit) ⌝ }
 {
-    let field = records::fields::load(fields, i);
+    let field = records::field::load(fields, i);
     let a = put_bytes(b"field", from, out, n);
     let name = field.name;
     let body = field.body;

@@ -1,6 +1,6 @@
 // Records of a table: their layout, and each stored and loaded by value.
-pub mod addresses;
-pub mod fields;
+pub mod address;
+pub mod field;
 pub mod positions;
 
 // Where a name, a body or an address starts and ends.

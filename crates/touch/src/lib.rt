@@ -19,8 +19,8 @@ use octets::numbers::BODY_OUT_OF_ORDER;
 use octets::numbers::TABLE_RECORDS;
 use octets::numbers::TOO_LITTLE_ROOM;
 use octets::stored::store_number;
-use records::addresses::ADDRESS_RECORD_SIZE;
-use records::addresses::load;
+use records::address::ADDRESS_RECORD_SIZE;
+use records::address::load;
 use scanner::Category;
 
 // The bytes of the tool's own table.

@@ -39,8 +39,8 @@ use octets::numbers::NO_LIST_GOES_ON;
 use octets::stored::load_byte;
 use octets::stored::store_byte;
 use plain::write_plain;
-use records::addresses::ADDRESS_RECORD_SIZE;
-use records::fields::FIELD_RECORD_SIZE;
+use records::address::ADDRESS_RECORD_SIZE;
+use records::field::FIELD_RECORD_SIZE;
 use reply::reply_body;
 use scanner::Class;
 use scanner::Next;
@@ -315,7 +315,7 @@ fn written(answer: Answer) -> usize
 fn put_field(table: &[u8], i: usize, out: &mut [u8], n: usize) -> usize
     ensures { λ r. ⌜ Puts (rowLine fieldRecordSize (now (table .entry)) i) (now (out .entry)) n (now (out .exit)) r ⌝ }
 {
-    let field = records::fields::load(table, i);
+    let field = records::field::load(table, i);
     let row = [
         field.name.start as u64,
         field.name.end as u64,
@@ -329,7 +329,7 @@ fn put_field(table: &[u8], i: usize, out: &mut [u8], n: usize) -> usize
 fn put_record(table: &[u8], i: usize, out: &mut [u8], n: usize) -> usize
     ensures { λ r. ⌜ Puts (rowLine addressRecordSize (now (table .entry)) i) (now (out .entry)) n (now (out .exit)) r ⌝ }
 {
-    let r = records::addresses::load(table, i);
+    let r = records::address::load(table, i);
     let row = [
         r.kind as u64,
         r.depth as u64,

@@ -9,7 +9,7 @@ use borrow.Fn.PlainCycle.{Measures, is, falls, and}
 use Rattle.touch.proofs.climb.Reads as climb
 use Rattle.touch.proofs.climb.Kinds as climb-kinds
 use Rattle.touch.proofs.+climb.Lts-climb as climb-lts
-use Rattle.records.proofs.addresses.load.Reads as load-reads
+use Rattle.records.proofs.address.load.Reads as load-reads
 use Rattle.octets.proofs.stored.store_number.Reads as store-number-reads
 use Rattle.records.specs.Believed.AddressRecords.{AddressRecord}
 use Rattle.touch.proofs.+climb.{statement}

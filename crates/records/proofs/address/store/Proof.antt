@@ -1,4 +1,4 @@
--- `records::addresses::store` meets its contract. Assumes nothing.
+-- `records::address::store` meets its contract. Assumes nothing.
 use mathlib.Core.Path.{refl, sym}
 use Prim.Native.Nat.{_*_}
 use native.Mathlib.Omega.{arith}
@@ -6,8 +6,8 @@ use Rattle.octets.proofs.Parts.{sets-out}
 use Rattle.records.specs.Believed.AddressRecords.{recordBy, addressLayout, addressRecordSize, recordBytes}
 use Rattle.records.proofs.LayoutLaws.{stored-by}
 use borrow.Author.Needs.{needs}
-use Rattle.records.proofs.addresses.store.Statement.{statement}
-use Rattle.records.proofs.addresses.store.Tie as tie
+use Rattle.records.proofs.address.store.Statement.{statement}
+use Rattle.records.proofs.address.store.Tie as tie
 
 returns : tie.Need-returns
 returns c =

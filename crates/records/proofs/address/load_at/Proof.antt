@@ -1,7 +1,7 @@
--- `records::addresses::load_at` meets its contract. Assumes nothing.
+-- `records::address::load_at` meets its contract. Assumes nothing.
 use borrow.Author.Needs.{needs}
-use Rattle.records.proofs.addresses.load_at.Statement.{statement}
-use Rattle.records.proofs.addresses.load_at.Tie as tie
+use Rattle.records.proofs.address.load_at.Statement.{statement}
+use Rattle.records.proofs.address.load_at.Tie as tie
 
 add-load-position : tie.Need-add-load-position
 add-load-position c = search needs

@@ -1,4 +1,4 @@
--- `records::fields::load` meets its contract. Assumes nothing.
+-- `records::field::load` meets its contract. Assumes nothing.
 use mathlib.Core.Path.{ap, _∙_}
 use Prim.Native.Nat.{_*_}
 use native.Mathlib.Omega.{arith}
@@ -6,8 +6,8 @@ use lib.ListN.{length}
 use Rattle.records.specs.Believed.FieldRecords.{fieldLayout, fieldRecordSize}
 use Rattle.records.proofs.LayoutLaws.{same-out}
 use borrow.Author.Needs.{needs}
-use Rattle.records.proofs.fields.load.Statement.{statement}
-use Rattle.records.proofs.fields.load.Tie as tie
+use Rattle.records.proofs.field.load.Statement.{statement}
+use Rattle.records.proofs.field.load.Tie as tie
 
 load-at-requires : tie.Need-load-at-requires
 load-at-requires c κs = search needs

@@ -1,4 +1,4 @@
--- `records::addresses::store_end` meets its contract. Assumes nothing.
+-- `records::address::store_end` meets its contract. Assumes nothing.
 use mathlib.Core.Path.{sym}
 use Prim.Native.Nat.{_+_, _*_}
 use native.Mathlib.Omega.{arith}
@@ -7,8 +7,8 @@ use Rattle.octets.specs.Believed.Stored.{bytesOf}
 use Rattle.octets.proofs.Parts.{sets-out}
 use Rattle.records.specs.Believed.AddressRecords.{addressRecordSize, endOffset}
 use borrow.Author.Needs.{needs}
-use Rattle.records.proofs.addresses.store_end.Statement.{statement}
-use Rattle.records.proofs.addresses.store_end.Tie as tie
+use Rattle.records.proofs.address.store_end.Statement.{statement}
+use Rattle.records.proofs.address.store_end.Tie as tie
 
 returns : tie.Need-returns
 returns c =

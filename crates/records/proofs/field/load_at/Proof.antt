@@ -1,7 +1,7 @@
--- `records::fields::load_at` meets its contract. Assumes nothing.
+-- `records::field::load_at` meets its contract. Assumes nothing.
 use borrow.Author.Needs.{needs}
-use Rattle.records.proofs.fields.load_at.Statement.{statement}
-use Rattle.records.proofs.fields.load_at.Tie as tie
+use Rattle.records.proofs.field.load_at.Statement.{statement}
+use Rattle.records.proofs.field.load_at.Tie as tie
 
 add-load-position : tie.Need-add-load-position
 add-load-position c = search needs
