@@ -17,11 +17,12 @@ use Rattle.octets.specs.Believed.Text.{bytes, part}
 use Rattle.scanner.specs.Believed.Kinds.{kindOfClass, kindOf, characterKind}
 use Rattle.scanner.specs.Believed.Characters.{charactersAt}
 use Rattle.scanner.specs.Believed.Scanning.{ended, next, faultAt, outside, inQuoted, takingInQuoted, inLiteral, takingInLiteral, inComment, takingInComment, go, halt, symbol, atomClass, scanFrom, scanBy}
-use Rattle.scanner.specs.Believed.Answers.{nextOf, unlessFault, faultOf}
+use Rattle.scanner.specs.Believed.Answers.{foundAt, nextOf, unlessFault, faultOf}
 use Rattle.scanner.specs.Ties.Steps.{FirstCharacter, AtomEnds, CommentEnds, Faultless}
 use Rattle.scanner.specs.declared.Class.{Class}
 use Rattle.scanner.specs.declared.Class.the-variants.{Atom, Quoted, At, LessThan, GreaterThan, Comma, Semicolon, Colon, Stray, Dot, Literal}
-use Rattle.scanner.specs.declared.Next.the-variants.{Found, Ended, Fault}
+use Rattle.scanner.specs.declared.Symbol.{Symbol as Placed}
+use Rattle.scanner.specs.declared.Next.the-variants.{Ended, Fault}
 use Rattle.scanner.specs.declared.ByteKind.{ByteKind}
 use Rattle.scanner.specs.declared.ByteKind.the-variants.{White, Control, Return, Plain, Open, Close, Quote, Backslash, Mark, Above, OpenBracket, CloseBracket}
 use Rattle.scanner.proofs.CharacterLaws.{View, over, one, view}
@@ -452,17 +453,15 @@ module _ (classes text : List ℕ) where
   unfolded at = outside-run (length text) at (omega arith)
 
   -- the symbol that the next-symbol step finds
-  pub found : (at : ℕ) {class : Class} {start end : ℕ} → Found class start end ≡ nextOf (scanBy classes text at) → SymbolAt classes text at class start end
+  pub found : (at : ℕ) {class : Class} {start end : ℕ} → foundAt class start end ≡ nextOf (scanBy classes text at) → SymbolAt classes text at class start end
   found at {class} {start} {end} e = by (unfolded at)
     where
       by : Unfolded classes text at → SymbolAt classes text at class start end
       by (no-symbol f) = absurd (let z : _≡_ {A = ℕ} 0 1 = cc (ap nextOf f) in omega arith)
       by (a-symbol {class = c} {start = s} {end = n} x) =
-          let f : Found class start end ≡ Found c s n = e ∙ ap nextOf (x .same) in
-          let p : class ≡ c = cc in
-          let q : start ≡ s = cc in
-          let r : end ≡ n = cc in
-          rw (p, q, r) x
+          let f : foundAt class start end ≡ foundAt c s n = e ∙ ap nextOf (x .same) in
+          let g : _≡_ {A = Placed} record { class = class; start = start; end = end } record { class = c; start = s; end = n } = cc in
+          rw (ap (λ (y : Placed). y .class) g, ap (λ (y : Placed). y .start) g, ap (λ (y : Placed). y .end) g) x
       by (a-fault f) = absurd (let z : _≡_ {A = ℕ} 0 1 = cc (ap nextOf f) in omega arith)
 
   -- the end, and the fault

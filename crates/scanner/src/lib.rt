@@ -44,9 +44,16 @@ pub enum Class {
     Literal,
 }
 
-// The next symbol: its class and its place, from its first byte to the position after its last.
+// A symbol: its class and its place, from its first byte to the position after its last.
+pub struct Symbol {
+    pub class: Class,
+    pub start: usize,
+    pub end: usize,
+}
+
+// The next symbol, the end of the text, or a fault: its number and its place.
 pub enum Next {
-    Found(Class, usize, usize),
+    Found(Symbol),
     Ended,
     Fault(u8, usize),
 }
@@ -212,7 +219,11 @@ fn quoted_end(classes: &[u8; 256], text: &[u8], start: usize, at: usize) -> Next
             return Next::Fault(QUOTED_NOT_CLOSED, start);
         };
         match kind {
-            ByteKind::Quote => return Next::Found(Class::Quoted, start, q),
+            ByteKind::Quote => return Next::Found(Symbol {
+                class: Class::Quoted,
+                start,
+                end: q,
+            }),
             ByteKind::Return => return Next::Fault(STRAY_CONTROL, here),
             ByteKind::Above => return Next::Fault(BYTE_ABOVE_127, here),
             ByteKind::Backslash => {
@@ -259,7 +270,11 @@ fn literal_end(classes: &[u8; 256], text: &[u8], start: usize, at: usize) -> Nex
             return Next::Fault(LITERAL_NOT_CLOSED, start);
         };
         match kind {
-            ByteKind::CloseBracket => return Next::Found(Class::Literal, start, q),
+            ByteKind::CloseBracket => return Next::Found(Symbol {
+                class: Class::Literal,
+                start,
+                end: q,
+            }),
             ByteKind::Return => return Next::Fault(STRAY_CONTROL, here),
             ByteKind::Above => return Next::Fault(BYTE_ABOVE_127, here),
             ByteKind::Backslash => {
@@ -334,14 +349,24 @@ pub fn next_by(classes: &[u8; 256], text: &[u8], at: usize) -> Next
             ByteKind::Quote => return quoted_end(classes, text, here, q),
             ByteKind::Plain => {
                 let end = atom_end(classes, text, here, q);
-                return Next::Found(atom_class(text, here, end), here, end);
+                let class = atom_class(text, here, end);
+                return Next::Found(Symbol {
+                    class,
+                    start: here,
+                    end,
+                });
             }
-            ByteKind::Mark(class) => return Next::Found(class, here, q),
-            ByteKind::Close | ByteKind::Backslash | ByteKind::CloseBracket => return Next::Found(
-                Class::Stray,
-                here,
-                q,
-            ),
+            ByteKind::Mark(class) => return Next::Found(Symbol {
+                class,
+                start: here,
+                end: q,
+            }),
+            ByteKind::Close | ByteKind::Backslash | ByteKind::CloseBracket =>
+                return Next::Found(Symbol {
+                    class: Class::Stray,
+                    start: here,
+                    end: q,
+                }),
             ByteKind::Control | ByteKind::Return => return Next::Fault(STRAY_CONTROL, here),
             ByteKind::Above => return Next::Fault(BYTE_ABOVE_127, here),
             ByteKind::OpenBracket => return literal_end(classes, text, here, q),
@@ -402,7 +427,7 @@ pub fn fault_by(classes: &[u8; 256], text: &[u8], at: usize) -> Answer
     loop {
         p = past_harmless(classes, text, p);
         match next_by(classes, text, p) {
-            Next::Found(_, _, end) => p = end,
+            Next::Found(symbol) => p = symbol.end,
             Next::Ended => return Answer::Accepted(0),
             Next::Fault(number, place) => return Answer::Refused(number, place),
         }
@@ -427,11 +452,14 @@ pub fn scan_body(message: &[u8], start: usize, end: usize) -> Answer
     scan_by(classes, message, start, end)
 }
 
-// What each byte of the symbol is that stands from start to end.
-fn symbol_category(text: &[u8], class: Class, start: usize, end: usize) -> Category
-    requires { ⌜ (start ≤ end) × (end ≤ length (now text)) ⌝ }
-    ensures { λ r. ⌜ r ≡ ofSymbol class (part (now (text .entry)) start end) ⌝ }
+// What each byte of a symbol is.
+fn symbol_category(text: &[u8], symbol: Symbol) -> Category
+    requires { ⌜ (symbol .start ≤ symbol .end) × (symbol .end ≤ length (now text)) ⌝ }
+    ensures { λ r. ⌜ r ≡ ofSymbol (symbol .class) (part (now (text .entry)) (symbol .start) (symbol .end)) ⌝ }
 {
+    let start = symbol.start;
+    let end = symbol.end;
+    let class = symbol.class;
     match class {
         Class::Atom | Class::Quoted => Category::Word,
         Class::At => {
@@ -528,14 +556,14 @@ fn category_by(classes: &[u8; 256], text: &[u8], at: usize, place: usize) -> Cat
     let mut p = at;
     loop {
         match next_by(classes, text, p) {
-            Next::Found(class, start, end) => {
-                if place < start {
+            Next::Found(symbol) => {
+                if place < symbol.start {
                     return between_by(classes, text, p, place);
                 }
-                if place < end {
-                    return symbol_category(text, class, start, end);
+                if place < symbol.end {
+                    return symbol_category(text, symbol);
                 }
-                p = end;
+                p = symbol.end;
             }
             Next::Ended => return between_by(classes, text, p, place),
             Next::Fault(_, _) => return Category::Nothing,

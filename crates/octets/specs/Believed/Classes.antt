@@ -7,66 +7,66 @@ use lib.ListN.{length}
 use Rattle.octets.specs.Believed.Choice.{pick, both, either}
 use Rattle.octets.specs.Believed.Tests.{every}
 
--- the class numbers: first the four that name many bytes, ..
-abbrev pub white : ℕ
-white = 0
-
+-- the class numbers, in an order in which few comparisons tell what matters: first the bytes at which a fault, a comment, a quoted-string or a domain literal may begin, ..
 abbrev pub control : ℕ
-control = 1
+control = 0
 
-abbrev pub letter : ℕ
-letter = 2
-
-abbrev pub digit : ℕ
-digit = 3
-
--- .. then the specials ( ) < > @ , ; : \ " in this order, ..
 abbrev pub openParenthesis : ℕ
-openParenthesis = 4
-
-abbrev pub closeParenthesis : ℕ
-closeParenthesis = 5
-
-abbrev pub lessThan : ℕ
-lessThan = 6
-
-abbrev pub greaterThan : ℕ
-greaterThan = 7
-
-abbrev pub atSign : ℕ
-atSign = 8
-
-abbrev pub comma : ℕ
-comma = 9
-
-abbrev pub semicolon : ℕ
-semicolon = 10
-
-abbrev pub colon : ℕ
-colon = 11
-
-abbrev pub backslash : ℕ
-backslash = 12
+openParenthesis = 1
 
 abbrev pub quote : ℕ
-quote = 13
-
--- .. then every other byte up to 127, and the bytes above, ..
-abbrev pub other : ℕ
-other = 14
-
-abbrev pub above127 : ℕ
-above127 = 15
-
--- .. then the specials of RFC 822 alone: . [ ]
-abbrev pub dot : ℕ
-dot = 16
+quote = 2
 
 abbrev pub openBracket : ℕ
-openBracket = 17
+openBracket = 3
+
+abbrev pub above127 : ℕ
+above127 = 4
+
+-- .. then SPACE and HTAB, ..
+abbrev pub white : ℕ
+white = 5
+
+-- .. then the specials that are symbols by themselves, . and ] in RFC 822 alone: ) ] < > @ , ; : . \, ..
+abbrev pub closeParenthesis : ℕ
+closeParenthesis = 6
 
 abbrev pub closeBracket : ℕ
-closeBracket = 18
+closeBracket = 7
+
+abbrev pub lessThan : ℕ
+lessThan = 8
+
+abbrev pub greaterThan : ℕ
+greaterThan = 9
+
+abbrev pub atSign : ℕ
+atSign = 10
+
+abbrev pub comma : ℕ
+comma = 11
+
+abbrev pub semicolon : ℕ
+semicolon = 12
+
+abbrev pub colon : ℕ
+colon = 13
+
+abbrev pub dot : ℕ
+dot = 14
+
+abbrev pub backslash : ℕ
+backslash = 15
+
+-- .. then what atoms are made of
+abbrev pub letter : ℕ
+letter = 16
+
+abbrev pub digit : ℕ
+digit = 17
+
+abbrev pub other : ℕ
+other = 18
 
 -- the byte lies in a range, both ends in it
 abbrev pub within : ℕ → ℕ → ℕ → Bool

@@ -21,10 +21,10 @@ abbrev μ-loop : tie.MeasureT-loop
 μ-loop classes text at place p₀ p = length text - p
 
 -- the symbol that was found
-symbol-found : (c : tie.After-class Inv-loop μ-loop) → (let f = c .class .given .0 in let a = c .before .before .before .before .before .args in SymbolAt (a .classes .now) (a .text .now) (c .before .before .before .loop .p) (f .0) (f .1 .0) (f .1 .1 .0))
+symbol-found : (c : tie.After-symbol Inv-loop μ-loop) → (let f = c .symbol .given .0 .0 in let a = c .before .before .before .before .before .args in SymbolAt (a .classes .now) (a .text .now) (c .before .before .before .loop .p) (f .class) (f .start) (f .end))
 symbol-found c =
     let a = c .before .before .before .before .before .args in
-    found (a .classes .now) (a .text .now) (c .before .before .before .loop .p) (rw (c .class .given .1) at (c .before .before .next-by .ensures))
+    found (a .classes .now) (a .text .now) (c .before .before .before .loop .p) (rw (c .symbol .given .1) at (c .before .before .next-by .ensures))
 
 loop-holds : tie.Need-loop-holds Inv-loop μ-loop
 loop-holds c = (c .before .pre .0, c .before .pre .1, refl)
@@ -32,28 +32,28 @@ loop-holds c = (c .before .pre .0, c .before .pre .1, refl)
 next-by-requires : tie.Need-next-by-requires Inv-loop μ-loop
 next-by-requires c κs = search needs
 
-enum-known-class : tie.Need-enum-known-class Inv-loop μ-loop
-enum-known-class c = search needs
+enum-known-symbol : tie.Need-enum-known-symbol Inv-loop μ-loop
+enum-known-symbol c = search needs
 
 between-by-requires : tie.Need-between-by-requires Inv-loop μ-loop
 between-by-requires c κs = search needs
 
 returns : tie.Need-returns Inv-loop μ-loop
-returns c = c .between-by .ensures ∙ sym (c .before .before .before .before .before .before .loop .inv .2 ∙ category-before (symbol-found (c .before .before .before)) _ (omega arith))
+returns c = c .between-by .ensures ∙ sym (c .before .before .before .before .before .before .before .loop .inv .2 ∙ category-before (symbol-found (c .before .before .before .before)) _ (omega arith))
 
 symbol-category-requires : tie.Need-symbol-category-requires Inv-loop μ-loop
-symbol-category-requires c κs = let x = symbol-found (c .before .before .before) in (omega (arith, x .starts), x .within)
+symbol-category-requires c κs = let x = symbol-found (c .before .before .before .before .before) in (omega (arith, x .starts), x .within)
 
 returns-2 : tie.Need-returns-2 Inv-loop μ-loop
-returns-2 c = c .symbol-category .ensures ∙ sym (c .before .before .before .before .before .before .before .loop .inv .2 ∙ category-in (symbol-found (c .before .before .before .before)) _ (omega arith) (omega arith))
+returns-2 c = c .symbol-category .ensures ∙ sym (c .before .before .before .before .before .before .before .before .before .loop .inv .2 ∙ category-in (symbol-found (c .before .before .before .before .before .before)) _ (omega arith) (omega arith))
 
 loop-less : tie.Need-loop-less Inv-loop μ-loop
-loop-less c = let x = symbol-found (c .before .before .before) in omega (arith, x .from, x .starts, x .within)
+loop-less c = let x = symbol-found (c .before .before .before .before .before) in omega (arith, x .from, x .starts, x .within)
 
 loop-again : tie.Need-loop-again Inv-loop μ-loop
 loop-again c =
-    let i = c .before .before .before .before .before .before .loop .inv in
-    let x = symbol-found (c .before .before .before) in
+    let i = c .before .before .before .before .before .before .before .before .loop .inv in
+    let x = symbol-found (c .before .before .before .before .before) in
     (omega arith, faultless-on _ _ (i .1) x, i .2 ∙ category-behind x _ (omega arith))
 
 enum-told : tie.Need-enum-told Inv-loop μ-loop
@@ -85,7 +85,7 @@ category-by-spec =
     μ-loop
     loop-holds
     next-by-requires
-    enum-known-class
+    enum-known-symbol
     between-by-requires
     returns
     symbol-category-requires

@@ -18,10 +18,10 @@ abbrev μ-loop : tie.MeasureT-loop
 μ-loop classes text at p₀ p = length text - p
 
 -- the symbol that was found
-symbol-found : (c : tie.After-end Inv-loop μ-loop) → (let f = c .end .given .0 in let a = c .before .before .before .before .before .before .args in SymbolAt (a .classes .now) (a .text .now) (c .before .before .before .past-harmless .result) (f .0) (f .1 .0) (f .1 .1 .0))
+symbol-found : (c : tie.After-symbol Inv-loop μ-loop) → (let f = c .symbol .given .0 .0 in let a = c .before .before .before .before .before .before .args in SymbolAt (a .classes .now) (a .text .now) (c .before .before .before .past-harmless .result) (f .class) (f .start) (f .end))
 symbol-found c =
     let a = c .before .before .before .before .before .before .args in
-    found (a .classes .now) (a .text .now) (c .before .before .before .past-harmless .result) (rw (c .end .given .1) at (c .before .before .next-by .ensures))
+    found (a .classes .now) (a .text .now) (c .before .before .before .past-harmless .result) (rw (c .symbol .given .1) at (c .before .before .next-by .ensures))
 
 loop-holds : tie.Need-loop-holds Inv-loop μ-loop
 loop-holds c = refl
@@ -32,8 +32,8 @@ past-harmless-requires c κs = search needs
 next-by-requires : tie.Need-next-by-requires Inv-loop μ-loop
 next-by-requires c κs = search needs
 
-enum-known-end : tie.Need-enum-known-end Inv-loop μ-loop
-enum-known-end c = search needs
+enum-known-symbol : tie.Need-enum-known-symbol Inv-loop μ-loop
+enum-known-symbol c = search needs
 
 loop-less : tie.Need-loop-less Inv-loop μ-loop
 loop-less c = let x = symbol-found (c .before) in omega (arith, c .before .before .before .before .past-harmless .ensures .from, x .from, x .starts, x .within)
@@ -72,7 +72,7 @@ fault-by-spec =
     loop-holds
     past-harmless-requires
     next-by-requires
-    enum-known-end
+    enum-known-symbol
     loop-less
     loop-again
     enum-told

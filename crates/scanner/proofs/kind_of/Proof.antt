@@ -83,22 +83,22 @@ returns-18 c =
     let r = c .match .rest in
     class-kind (c .before .before .before .args .classes .now) (c .before .before .before .args .b) (c .before .before .if1 .left) (c .before .class-in .ensures)
     (simp (
-      ne-eqb x 0 (r .0 .0 .0 .0 .0 .0 .0 .0 .0 .0 .0 .0 .0 .0 .0 .1),
-      ne-eqb x 1 (r .0 .0 .0 .0 .0 .0 .0 .0 .0 .0 .0 .0 .0 .0 .1),
-      ne-eqb x 4 (r .0 .0 .0 .0 .0 .0 .0 .0 .0 .0 .0 .0 .0 .1),
-      ne-eqb x 5 (r .0 .0 .0 .0 .0 .0 .0 .0 .0 .0 .0 .0 .1),
-      ne-eqb x 6 (r .0 .0 .0 .0 .0 .0 .0 .0 .0 .0 .0 .1),
-      ne-eqb x 7 (r .0 .0 .0 .0 .0 .0 .0 .0 .0 .0 .1),
-      ne-eqb x 8 (r .0 .0 .0 .0 .0 .0 .0 .0 .0 .1),
-      ne-eqb x 9 (r .0 .0 .0 .0 .0 .0 .0 .0 .1),
-      ne-eqb x 10 (r .0 .0 .0 .0 .0 .0 .0 .1),
-      ne-eqb x 11 (r .0 .0 .0 .0 .0 .0 .1),
-      ne-eqb x 12 (r .0 .0 .0 .0 .0 .1),
-      ne-eqb x 13 (r .0 .0 .0 .0 .1),
-      ne-eqb x 15 (r .0 .0 .0 .1),
-      ne-eqb x 16 (r .0 .0 .1),
-      ne-eqb x 17 (r .0 .1),
-      ne-eqb x 18 (r .1),
+      ne-eqb x 5 (r .0 .0 .0 .0 .0 .0 .0 .0 .0 .0 .0 .0 .0 .0 .0 .1),
+      ne-eqb x 0 (r .0 .0 .0 .0 .0 .0 .0 .0 .0 .0 .0 .0 .0 .0 .1),
+      ne-eqb x 1 (r .0 .0 .0 .0 .0 .0 .0 .0 .0 .0 .0 .0 .0 .1),
+      ne-eqb x 6 (r .0 .0 .0 .0 .0 .0 .0 .0 .0 .0 .0 .0 .1),
+      ne-eqb x 8 (r .0 .0 .0 .0 .0 .0 .0 .0 .0 .0 .0 .1),
+      ne-eqb x 9 (r .0 .0 .0 .0 .0 .0 .0 .0 .0 .0 .1),
+      ne-eqb x 10 (r .0 .0 .0 .0 .0 .0 .0 .0 .0 .1),
+      ne-eqb x 11 (r .0 .0 .0 .0 .0 .0 .0 .0 .1),
+      ne-eqb x 12 (r .0 .0 .0 .0 .0 .0 .0 .1),
+      ne-eqb x 13 (r .0 .0 .0 .0 .0 .0 .1),
+      ne-eqb x 15 (r .0 .0 .0 .0 .0 .1),
+      ne-eqb x 2 (r .0 .0 .0 .0 .1),
+      ne-eqb x 4 (r .0 .0 .0 .1),
+      ne-eqb x 14 (r .0 .0 .1),
+      ne-eqb x 3 (r .0 .1),
+      ne-eqb x 7 (r .1),
     ))
 
 pub kind-of-spec : {M : Type 1} → statement M

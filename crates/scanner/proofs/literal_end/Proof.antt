@@ -7,10 +7,9 @@ use Prim.Native.Nat.{_-_, _≤_}
 use lib.ListN.{length}
 use Rattle.octets.specs.Believed.Numbers.{byteAbove127, strayControl, literalNotClosed}
 use Rattle.scanner.specs.Believed.Scanning.{takingInLiteral, go, halt}
-use Rattle.scanner.specs.Believed.Answers.{nextOf}
+use Rattle.scanner.specs.Believed.Answers.{foundAt, nextOf}
 use Rattle.scanner.specs.Ties.Steps.{FirstCharacter}
 use Rattle.scanner.specs.declared.Class.the-variants.{Literal}
-use Rattle.scanner.specs.declared.Next.the-variants.{Found}
 use Rattle.scanner.proofs.MoveLaws.{at-end, InLiteral, literal-moves, literal-on, literal-taking, literal-taken}
 use Rattle.scanner.proofs.literal_end.Statement.{statement}
 use Rattle.scanner.proofs.literal_end.Tie as tie
@@ -55,7 +54,7 @@ returns-2 : tie.Need-returns-2 Inv-loop μ-loop
 returns-2 c =
     let x = rw (c .enum-told2 .given .1) at (first (c .before .before .before)) in
     let l = c .before .before .before .before .before .before .loop in
-    sym (ap nextOf (literal-moves (l .inv .1) x _ refl) ∙ ap (Found Literal (c .before .before .before .before .before .before .before .before .args .start)) (sym (x .behind)))
+    sym (ap nextOf (literal-moves (l .inv .1) x _ refl) ∙ ap (foundAt Literal (c .before .before .before .before .before .before .before .before .args .start)) (sym (x .behind)))
 
 enum-told-3 : tie.Need-enum-told-3 Inv-loop μ-loop
 enum-told-3 c = search needs

@@ -29,7 +29,7 @@ enum-told-2 : tie.Need-enum-told-2
 enum-told-2 c = search needs
 
 returns : tie.Need-returns
-returns c = word-symbol (c .before .before .args .class) _ (c .match .keys1)
+returns c = word-symbol (c .before .before .args .symbol .class) _ (c .match .keys1)
 
 returns-2 : tie.Need-returns-2
 returns-2 c = rw (c .before .before .before .before .enum-told .given .1) (sym (ap (λ test. pick test At Mark) (sym (c .before .same-letters .ensures) ∙ c .if1 .taken)))
@@ -41,7 +41,7 @@ returns-4 : tie.Need-returns-4
 returns-4 c = search needs
 
 returns-5 : tie.Need-returns-5
-returns-5 c = mark-symbol (c .before .before .args .class) _ (c .match .keys4)
+returns-5 c = mark-symbol (c .before .before .args .symbol .class) _ (c .match .keys4)
 
 pub symbol-category-spec : {M : Type 1} → statement M
 symbol-category-spec =

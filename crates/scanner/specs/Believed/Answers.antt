@@ -11,6 +11,7 @@ use Rattle.octets.specs.declared.answers.Answer.{Answer}
 use Rattle.octets.specs.declared.answers.Answer.the-variants.{Accepted, Refused}
 use Rattle.scanner.specs.Believed.Scanning.{Scanned, ended, next, faultAt, scanBy, scan}
 use Rattle.scanner.specs.declared.Class.{Class}
+use Rattle.scanner.specs.declared.Symbol.{Symbol}
 use Rattle.scanner.specs.declared.Next.{Next}
 use Rattle.scanner.specs.declared.Next.the-variants.{Found, Ended, Fault}
 
@@ -37,26 +38,24 @@ scannedBy classes message start end = bodyChecked Refused message start end (fau
 abbrev pub bodyScanned : List ℕ → ℕ → ℕ → Answer
 bodyScanned message start end = scannedBy classTable message start end
 
+-- a symbol that was found, by its class and its place
+abbrev pub foundAt : Class → ℕ → ℕ → Next
+foundAt class start end = Found (record { class = class; start = start; end = end })
+
 -- the first symbol, the end or the fault
 abbrev pub nextOf : Scanned → Next
 nextOf ended = Ended
-nextOf (next x rest) = Found (x .class) (x .lexeme .start) (x .lexeme .end)
+nextOf (next x rest) = foundAt (x .class) (x .lexeme .start) (x .lexeme .end)
 nextOf (faultAt number p) = Fault number p
 
--- a symbol, by its class and its place
-pub record Placed : Type 0 where
-  pub class : Class
-  pub start : ℕ
-  pub end : ℕ
-
--- what is told of it: the number and position of a fault, 0 and 0 without one; and the symbol, if there is one
+-- what is told of the next symbol: the number and position of a fault, 0 and 0 without one; and the symbol, if there is one
 pub record NextTold : Type 0 where
   pub number : ℕ
   pub position : ℕ
-  pub symbol : Option Placed
+  pub symbol : Option Symbol
 
 abbrev pub nextTold : Next → NextTold
-nextTold (Found class start end) = record { number = accepted; position = 0; symbol = some (record { class = class; start = start; end = end }) }
+nextTold (Found symbol) = record { number = accepted; position = 0; symbol = some symbol }
 nextTold Ended = record { number = accepted; position = 0; symbol = none }
 nextTold (Fault number position) = record { number = number; position = position; symbol = none }
 
