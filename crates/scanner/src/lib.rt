@@ -18,6 +18,9 @@ ghost use Rattle.scanner.specs.Ties.Gaps.{gapDepth, GapCategoryIs, Passe
 ghost use Rattle.scanner.specs.declared.Gap.the-variants.{Comment as commentGap};
 ghost use Rattle.octets.specs.Believed.Text.{part};
 ghost use Rattle.octets.specs.Ties.Writing.{countLimit};
+
+pub mod cursor;
+
 use octets::answers::Answer;
 use octets::classes::CLASSES;
 use octets::numbers::BODY_OUT_OF_ORDER;

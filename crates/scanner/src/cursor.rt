@@ -1,0 +1,112 @@
+// A cursor: the symbol ahead of a walk, held in place and moved on in place.
+//
+// It is an array with named places, for a reference to a struct is beyond the prover's walk (docs/DECISIONS.md).
+ghost use mathlib.Core.Path.{_≡_};
+ghost use lib.ListN.{getD};
+ghost use Rattle.scanner.specs.Believed.Scanning.{scanBy};
+ghost use Rattle.scanner.specs.Believed.Answers.{nextOf};
+ghost use Rattle.scanner.specs.Ties.Cursors.{classNumber, placed, moved, aheadOf};
+use crate::Class;
+use crate::Next;
+use crate::next_by;
+use octets::classes::AT_SIGN;
+use octets::classes::BACKSLASH;
+use octets::classes::COLON;
+use octets::classes::COMMA;
+use octets::classes::DOT;
+use octets::classes::GREATER_THAN;
+use octets::classes::LESS_THAN;
+use octets::classes::LETTER;
+use octets::classes::OPEN_BRACKET;
+use octets::classes::QUOTE;
+use octets::classes::SEMICOLON;
+
+// What comes next: the number of its class, its start and its end. The other places are the walk's own.
+pub const CLASS: usize = 0;
+
+pub const START: usize = 1;
+
+pub const END: usize = 2;
+
+// The numbers of the end of the text, and of a fault: its place is at START and its number at END.
+pub const ENDED: usize = 19;
+
+pub const FAULT: usize = 20;
+
+// What stands ahead.
+pub enum Ahead {
+    Symbol(Class),
+    End,
+    Faulty,
+}
+
+// What a number at CLASS tells.
+pub fn ahead_of(number: usize) -> Ahead
+    ensures { λ r. ⌜ r ≡ aheadOf number ⌝ }
+{
+    match number {
+        16 => Ahead::Symbol(Class::Atom),
+        2 => Ahead::Symbol(Class::Quoted),
+        10 => Ahead::Symbol(Class::At),
+        8 => Ahead::Symbol(Class::LessThan),
+        9 => Ahead::Symbol(Class::GreaterThan),
+        11 => Ahead::Symbol(Class::Comma),
+        12 => Ahead::Symbol(Class::Semicolon),
+        13 => Ahead::Symbol(Class::Colon),
+        14 => Ahead::Symbol(Class::Dot),
+        3 => Ahead::Symbol(Class::Literal),
+        ENDED => Ahead::End,
+        FAULT => Ahead::Faulty,
+        _ => Ahead::Symbol(Class::Stray),
+    }
+}
+
+// The number of a class of symbols.
+pub fn class_number(class: Class) -> usize
+    ensures { λ r. ⌜ r ≡ classNumber class ⌝ }
+{
+    match class {
+        Class::Atom => LETTER as usize,
+        Class::Quoted => QUOTE as usize,
+        Class::At => AT_SIGN as usize,
+        Class::LessThan => LESS_THAN as usize,
+        Class::GreaterThan => GREATER_THAN as usize,
+        Class::Comma => COMMA as usize,
+        Class::Semicolon => SEMICOLON as usize,
+        Class::Colon => COLON as usize,
+        Class::Stray => BACKSLASH as usize,
+        Class::Dot => DOT as usize,
+        Class::Literal => OPEN_BRACKET as usize,
+    }
+}
+
+// Put what stands ahead into its places.
+pub fn put(cursor: &mut [usize; 5], number: usize, start: usize, end: usize)
+    ensures { λ _. ⌜ now (cursor .exit) ≡ placed number start end (now (cursor .entry)) ⌝ }
+{
+    cursor[CLASS] = number;
+    cursor[START] = start;
+    cursor[END] = end;
+}
+
+// Move on to the first symbol at or after a position, whatever stands there.
+fn step_any(classes: &[u8; 256], text: &[u8], at: usize, cursor: &mut [usize; 5])
+    ensures { λ _. ⌜ now (cursor .exit) ≡ moved (nextOf (scanBy (now (classes .entry)) (now (text .entry)) at)) (now (cursor .entry)) ⌝ }
+{
+    match next_by(classes, text, at) {
+        Next::Found(symbol) => {
+            let class = symbol.class;
+            put(cursor, class_number(class), symbol.start, symbol.end)
+        }
+        Next::Ended => put(cursor, ENDED, 0, 0),
+        Next::Fault(number, place) => put(cursor, FAULT, place, number as usize),
+    }
+}
+
+// Move on to the symbol that comes after the one ahead.
+pub fn step(classes: &[u8; 256], text: &[u8], cursor: &mut [usize; 5])
+    ensures { λ _. ⌜ now (cursor .exit) ≡ moved (nextOf (scanBy (now (classes .entry)) (now (text .entry)) (getD (now (cursor .entry)) 2 0))) (now (cursor .entry)) ⌝ }
+{
+    let at = cursor[END];
+    step_any(classes, text, at, cursor);
+}
