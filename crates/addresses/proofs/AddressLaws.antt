@@ -8,9 +8,10 @@ use Prim.Native.Nat.{ℕ, _+_, _*_, _-_}
 use native.Mathlib.Omega.{arith}
 use lib.ListN.{length}
 use lib.Seq.{sets}
-use Rattle.octets.specs.Believed.Numbers.{noListGoesOn, levelLimit}
+use Rattle.octets.specs.Believed.Numbers.{noListGoesOn, endsTooSoon, levelLimit}
 use Rattle.records.specs.Believed.AddressRecords.{recordBy, recordBytes, addressRecordSize}
 use Rattle.scanner.specs.declared.Next.{Next}
+use Rattle.scanner.specs.Believed.Answers.{foundAt}
 use Rattle.scanner.specs.declared.Next.the-variants.{Found, Ended, Fault}
 use Rattle.grammar.specs.Believed.Language.{unfit, unfinished, refused, number}
 use Rattle.grammar.specs.Executable.Trees733.{Class, At, GreaterThan, Comma, Semicolon, Lexeme, Sym, of, atomWord, quotedWord, Phrase, one, more, mailbox, quoted}
@@ -20,20 +21,20 @@ use Rattle.grammar.specs.Executable.Machine733.{Here, phrase, firstAt, lone, le
 use Rattle.grammar.proofs.Rfc733.Complete.{begin, run-phrase, run-mailbox}
 use Rattle.grammar.proofs.Symbols.{each-of, each-other}
 use Rattle.grammar.proofs.Rfc733.Readers.{AddressEnds, endsAddress, at-unfit}
-use Rattle.addresses.specs.Ties.Steps.{endsAddressNext, refusedNext, loneQuoted, symbolsFrom, lexemeAt, symbolsAhead, Ahead, NodesEnd, Stops, NodesContext, AddressRead, AddressStops, AddressIs, Opened, Named, NoMark, followsPhrase, Lone}
+use Rattle.addresses.specs.Ties.Steps.{endsAddressNext, refusedNext, loneQuoted, symbolsFrom, lexemeAt, symbolsAhead, Comes, NodesEnd, Stops, NodesContext, AddressRead, AddressStops, AddressIs, Opened, Named, NoMark, followsPhrase, Lone}
 use Rattle.addresses.specs.declared.Frame.{Frame}
 use Rattle.records.specs.declared.Span.{Span}
 
 -- what ends an address, of what comes next
-pub ends-next : (classes text : List ℕ) (low : ℕ) (ahead : Next) → Ahead classes text low ahead → endsAddressNext ahead ≡ true → AddressEnds (symbolsAhead classes text ahead)
-ends-next classes text low (Found class start end) o e = e
+pub ends-next : (classes text : List ℕ) (low : ℕ) (ahead : Next) → Comes classes text low ahead → endsAddressNext ahead ≡ true → AddressEnds (symbolsAhead classes text ahead)
+ends-next classes text low (Found symbol) o e = e
 ends-next classes text low Ended o e = tt
-ends-next classes text low (Fault number p) o e = absurd o
+ends-next classes text low (Fault number p) o e = tt
 
 module _ (classes text : List ℕ) where
   -- ---- a mailbox
 
-  pub mailbox-read : {xs : List Sym} {p : Phrase} {a b last : ℕ} {span : Span} {frame : Frame} (table after : List ℕ) (ahead : Next) → Named classes text xs span p (Found At a b) → NodesEnd classes text a b ahead last
+  pub mailbox-read : {xs : List Sym} {p : Phrase} {a b last : ℕ} {span : Span} {frame : Frame} (table after : List ℕ) (ahead : Next) → Named classes text xs span p (foundAt At a b) → NodesEnd classes text a b ahead last
       → Opened classes text a b span frame → after ≡ sets table (frame .number * addressRecordSize) (recordBytes (recordBy 1 (levelLimit - frame .levels) (frame .parent) (span .start) last (span .start) (span .end)))
       → AddressRead classes text xs frame (span .start) table after ahead last (frame .number + 1)
   mailbox-read {xs} {p} {a} {b} {last} {span} {frame} table after ahead n m o e =
@@ -50,7 +51,7 @@ module _ (classes text : List ℕ) where
         free-low = omega (arith, o .behind, o .stands .starts, m .from, o .ready .number-low);
       }
 
-  pub mailbox-stops : {xs : List Sym} {p : Phrase} {a b number-told place : ℕ} {span : Span} (frame : Frame) → Named classes text xs span p (Found At a b)
+  pub mailbox-stops : {xs : List Sym} {p : Phrase} {a b number-told place : ℕ} {span : Span} (frame : Frame) → Named classes text xs span p (foundAt At a b)
       → Stops classes text (λ (c : NodesContext classes text) why rest. judge (run (c .limit) (firstAt (c .here) (c .phrase) (lexemeAt classes text At a b)) (symbolsFrom classes text b)) ≡ refused why rest) number-told place
       → AddressStops classes text xs frame number-told place
   mailbox-stops {xs} {p} frame n s =
@@ -103,27 +104,32 @@ module _ (classes text : List ℕ) where
   end-phrase : (n : ℕ) (h : Here) (p : Phrase) → loneQuoted p ≡ false → judge (run n (phrase h p) []) ≡ refused unfinished []
   end-phrase n h p e = rw (not-lone h p e)
 
-  pub lone-stops : {xs : List Sym} (p : Phrase) {span : Span} (frame : Frame) (start : ℕ) (table after : List ℕ) (ahead : Next) → Named classes text xs span p ahead → NoMark classes text ahead
-      → (loneQuoted p ≡ false) ⊎ (endsAddressNext ahead ≡ false) → AddressIs classes text xs frame start table after (refusedNext (length text) ahead)
-  lone-stops {xs} p frame start table after (Found class a b) n f o =
-      record {
-        why = unfit;
-        rest = symbolsAhead classes text (Found class a b);
-        number-is = refl;
-        place-is = refl;
-        stops = λ h c. ap judge (ap (run (levelsHere h + frame .levels) (begin h)) (n .yields) ∙ run-phrase (levelsHere h + frame .levels) h p _)
-            ∙ behind-phrase (levelsHere h + frame .levels) h p class (lexemeAt classes text class a b) (symbolsFrom classes text b) f o;
-      }
-  lone-stops p frame start table after Ended n f (inr e) = absurd (true≢false e)
-  lone-stops {xs} p frame start table after Ended n f (inl e) =
+  -- .. with no symbol after it
+  lone-ends : {xs : List Sym} (p : Phrase) (frame : Frame) → xs ≡ phraseThen p [] → loneQuoted p ≡ false → AddressStops classes text xs frame endsTooSoon (length text)
+  lone-ends p frame y e =
       record {
         why = unfinished;
         rest = [];
         number-is = refl;
         place-is = refl;
-        stops = λ h c. ap judge (ap (run (levelsHere h + frame .levels) (begin h)) (n .yields) ∙ run-phrase (levelsHere h + frame .levels) h p []) ∙ end-phrase (levelsHere h + frame .levels) h p e;
+        stops = λ h c. ap judge (ap (run (levelsHere h + frame .levels) (begin h)) y ∙ run-phrase (levelsHere h + frame .levels) h p []) ∙ end-phrase (levelsHere h + frame .levels) h p e;
       }
-  lone-stops p frame start table after (Fault number q) n f o = absurd f
+
+  pub lone-stops : {xs : List Sym} (p : Phrase) {span : Span} (frame : Frame) (start : ℕ) (table after : List ℕ) (ahead : Next) → Named classes text xs span p ahead → NoMark classes text ahead
+      → (loneQuoted p ≡ false) ⊎ (endsAddressNext ahead ≡ false) → AddressIs classes text xs frame start table after (refusedNext (length text) ahead)
+  lone-stops {xs} p frame start table after (Found x) n f o =
+      record {
+        why = unfit;
+        rest = symbolsAhead classes text (Found x);
+        number-is = refl;
+        place-is = refl;
+        stops = λ h c. ap judge (ap (run (levelsHere h + frame .levels) (begin h)) (n .yields) ∙ run-phrase (levelsHere h + frame .levels) h p _)
+            ∙ behind-phrase (levelsHere h + frame .levels) h p (x .class) (lexemeAt classes text (x .class) (x .start) (x .end)) (symbolsFrom classes text (x .end)) f o;
+      }
+  lone-stops p frame start table after Ended n f (inr e) = absurd (true≢false e)
+  lone-stops p frame start table after Ended n f (inl e) = lone-ends p frame (n .yields) e
+  lone-stops p frame start table after (Fault number q) n f (inr e) = absurd (true≢false e)
+  lone-stops p frame start table after (Fault number q) n f (inl e) = lone-ends p frame (n .yields) e
 
   -- ---- a symbol that begins no address
 
@@ -132,11 +138,11 @@ module _ (classes text : List ℕ) where
   begins-none n h class t ys o =
       each-of (λ c. judge (run n (begin h) (of c t ∷ ys)) ≡ refused unfit (of c t ∷ ys)) beginsNone (ap judge (at-unfit n t ys h), (refl, (refl, (refl, tt)))) class o
 
-  pub none-begins : (class : Class) (a b : ℕ) (frame : Frame) → beginsNone class ≡ true → AddressStops classes text (symbolsAhead classes text (Found class a b)) frame noListGoesOn a
+  pub none-begins : (class : Class) (a b : ℕ) (frame : Frame) → beginsNone class ≡ true → AddressStops classes text (symbolsAhead classes text (foundAt class a b)) frame noListGoesOn a
   none-begins class a b frame o =
       record {
         why = unfit;
-        rest = symbolsAhead classes text (Found class a b);
+        rest = symbolsAhead classes text (foundAt class a b);
         number-is = refl;
         place-is = refl;
         stops = λ h c. begins-none (levelsHere h + frame .levels) h class (lexemeAt classes text class a b) (symbolsFrom classes text b) o;

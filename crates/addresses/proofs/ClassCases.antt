@@ -12,6 +12,9 @@ use Rattle.octets.specs.Believed.Choice.{either}
 use Rattle.octets.specs.Believed.Tests.{every}
 use Rattle.scanner.proofs.Class as class-declared
 use Rattle.scanner.proofs.Next as next-declared
+use Rattle.scanner.proofs.cursor.Ahead as ahead-declared
+use Rattle.scanner.specs.declared.cursor.Ahead.{Ahead}
+use Rattle.scanner.specs.declared.cursor.Ahead.the-variants.{Symbol, End, Faulty}
 use Rattle.scanner.specs.declared.Next.{Next}
 use Rattle.scanner.specs.declared.Next.the-variants.{Found, Ended, Fault}
 use Rattle.grammar.proofs.Rfc733.Readers.{endsAddress}
@@ -60,9 +63,15 @@ by-class-not ks test t class o = is-false (test class) (by-class ks (λ c. not (
 
 -- what comes next is no symbol
 pub no-symbol : {A : Type 0} (f : Next → A) (a : A) → f Ended ≡ a → ((number p : ℕ) → f (Fault number p) ≡ a) → (r : Next) → OneOf (1 ∷ 2 ∷ []) (tagOf next-declared.the-type r) → f r ≡ a
-no-symbol f a e g (Found class start end) o = absurd (miss (1 ∷ 2 ∷ []) 0 tt o)
+no-symbol f a e g (Found symbol) o = absurd (miss (1 ∷ 2 ∷ []) 0 tt o)
 no-symbol f a e g Ended o = e
 no-symbol f a e g (Fault number p) o = g number p
+
+-- .. of what stands ahead
+pub no-symbol-ahead : {A : Type 0} (f : Ahead → A) (a : A) → f End ≡ a → f Faulty ≡ a → (r : Ahead) → OneOf (1 ∷ 2 ∷ []) (tagOf ahead-declared.the-type r) → f r ≡ a
+no-symbol-ahead f a e g (Symbol class) o = absurd (miss (1 ∷ 2 ∷ []) 0 tt o)
+no-symbol-ahead f a e g End o = e
+no-symbol-ahead f a e g Faulty o = g
 
 -- a class that begins no address and does not end one: "at", or what fits no rule
 abbrev pub beginsNone : Class → Bool
@@ -70,3 +79,9 @@ beginsNone c = oneOf (At ∷ Stray ∷ Dot ∷ Literal ∷ []) c
 
 pub at-or-stray : (class : Class) → OneOf (2 ∷ 4 ∷ 5 ∷ 6 ∷ 8 ∷ 9 ∷ 10 ∷ []) (tag class) → endsAddress class ≡ false → beginsNone class ≡ true
 at-or-stray class o e = rw e at (by-class (2 ∷ 4 ∷ 5 ∷ 6 ∷ 8 ∷ 9 ∷ 10 ∷ []) (λ c. either (endsAddress c) (beginsNone c)) tt class o)
+
+-- a class that does not end an address, and is not "at", does not follow a node
+pub not-follows : (class : Class) → OneOf (0 ∷ 1 ∷ 3 ∷ 4 ∷ 5 ∷ 6 ∷ 7 ∷ 8 ∷ 9 ∷ 10 ∷ []) (tag class) → endsAddress class ≡ false → oneOf (At ∷ GreaterThan ∷ Comma ∷ Semicolon ∷ []) class ≡ false
+not-follows class o e =
+    let b = by-class (0 ∷ 1 ∷ 3 ∷ 4 ∷ 5 ∷ 6 ∷ 7 ∷ 8 ∷ 9 ∷ 10 ∷ []) (λ c. either (endsAddress c) (not (oneOf (At ∷ GreaterThan ∷ Comma ∷ Semicolon ∷ []) c))) tt class o in
+    rw e (is-false _ (rw e at b))

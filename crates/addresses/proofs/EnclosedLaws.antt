@@ -7,11 +7,12 @@ use Prim.Native.Nat.{ℕ, suc, _+_, _*_, _-_, _≤_, _<_}
 use native.Mathlib.Omega.{arith}
 use lib.ListN.{length}
 use lib.Seq.{sets}
-use Rattle.octets.specs.Believed.Numbers.{tooManyLevels, levelLimit}
+use Rattle.octets.specs.Believed.Numbers.{endsTooSoon, tooManyLevels, levelLimit}
 use Rattle.octets.specs.Believed.Text.{part}
 use Rattle.records.specs.Believed.AddressRecords.{AddressRecord, recordBy, recordBytes, tableBytes, addressRecordSize, addressLayout}
 use Rattle.records.proofs.TableLaws.{stored-in-front}
 use Rattle.scanner.specs.declared.Next.{Next}
+use Rattle.scanner.specs.Believed.Answers.{foundAt}
 use Rattle.scanner.specs.declared.Next.the-variants.{Found, Ended, Fault}
 use Rattle.grammar.specs.Believed.Language.{unfit, unfinished, tooDeep, refused, number}
 use Rattle.grammar.specs.Believed.Rfc733.{sameClass, kindNumber, typedKind}
@@ -22,7 +23,7 @@ use Rattle.grammar.specs.Executable.Machine733.{Here, inTyped, inAngle, inGroup
 use Rattle.grammar.proofs.Rfc733.Complete.{begin, doneAddress, doneList, Clear, complete-doneList, run-angle, run-group}
 use Rattle.grammar.proofs.Rfc733.Readers.{ListEnds, endsAddress, endsList, deep-angle, deep-group, closed-unfit, clear-colon, run-typed}
 use Rattle.grammar.proofs.Rfc733.TreeRecords.{nameStart, nameEnd, addressEnd, addressRecords, listRecords}
-use Rattle.addresses.specs.Ties.Steps.{endsAddressNext, refusedNext, opening, closing, enclosureKind, levelIn, enclosed, House, symbolsFrom, lexemeAt, symbolAt, symbolsAhead, Standing, AddressRead, AddressStops, AddressIs, Opening, Opened, ListRead, ListStops, inner, TypedFirst}
+use Rattle.addresses.specs.Ties.Steps.{endsAddressNext, closesNext, refusedNext, opening, closing, enclosureKind, levelIn, enclosed, House, symbolsFrom, lexemeAt, symbolAt, symbolsAhead, Standing, AddressRead, AddressStops, AddressIs, Opening, Opened, ListRead, ListStops, inner, TypedFirst}
 use Rattle.addresses.specs.declared.Frame.{Frame}
 use Rattle.records.specs.declared.Span.{Span}
 use Rattle.addresses.specs.declared.Enclosure.{Enclosure}
@@ -147,31 +148,36 @@ module _ (classes text : List ℕ) where
           let q : levelsAt (levelIn e h (o .name) mark) + (frame .levels - 1) ≡ levelsHere h + frame .levels = omega (arith, levels-in e h (o .name) mark) in
           comes-in h c ∙ l .reads (levelIn e h (o .name) mark) (clear-in h) ∙ ap (λ (i : ℕ). run i (doneList (levelIn e h (o .name) mark) (l .tree)) (symbolsAhead classes text ahead)) q
 
-  -- the list is not closed
-  pub unclosed-stops : (e : Enclosure) {xs : List Sym} {a b : ℕ} {span : Span} (frame : Frame) → Opening classes text e xs a b span → (frame .levels ≡ 0 → ⊥) → {table between : List ℕ} (ahead : Next) {low free : ℕ}
-      → ListRead classes text b (inner classes text frame) table between ahead low free → (start : ℕ) (after : List ℕ) → ((class : Class) (i j : ℕ) → ahead ≡ Found class i j → sameClass (closing e) class ≡ false)
-      → AddressIs classes text xs frame start table after (refusedNext (length text) ahead)
-  unclosed-stops e {xs} {a} {b} frame o n (Found class i j) l start after f =
-      record {
-        why = unfit;
-        rest = symbolsAhead classes text (Found class i j);
-        number-is = refl;
-        place-is = refl;
-        stops = λ h c. ap judge (comes-through e frame o n l h c)
-            ∙ run-other e (levelsHere h + frame .levels) h (o .name) (lexemeAt classes text (opening e) a b) (l .tree) class (lexemeAt classes text class i j) (symbolsFrom classes text j) (l .ends) (f class i j refl);
-      }
-  unclosed-stops e {xs} {a} {b} frame o n Ended l start after f =
+  -- no symbol is left that could close the list
+  never-closed : (e : Enclosure) {xs : List Sym} {a b : ℕ} {span : Span} (frame : Frame) → Opening classes text e xs a b span → (frame .levels ≡ 0 → ⊥) → {table between : List ℕ} {ahead : Next} {low free : ℕ}
+      → ListRead classes text b (inner classes text frame) table between ahead low free → symbolsAhead classes text ahead ≡ [] → AddressStops classes text xs frame endsTooSoon (length text)
+  never-closed e {xs} {a} {b} frame o n l z =
       record {
         why = unfinished;
         rest = [];
         number-is = refl;
         place-is = refl;
-        stops = λ h c. ap judge (comes-through e frame o n l h c) ∙ run-unclosed e (levelsHere h + frame .levels) h (o .name) (lexemeAt classes text (opening e) a b) (l .tree);
+        stops = λ h c. ap judge (comes-through e frame o n l h c ∙ ap (run (levelsHere h + frame .levels) _) z) ∙ run-unclosed e (levelsHere h + frame .levels) h (o .name) (lexemeAt classes text (opening e) a b) (l .tree);
       }
-  unclosed-stops e frame o n (Fault number p) l start after f = absurd (l .ahead-ok)
+
+  -- the list is not closed
+  pub unclosed-stops : (e : Enclosure) {xs : List Sym} {a b : ℕ} {span : Span} (frame : Frame) → Opening classes text e xs a b span → (frame .levels ≡ 0 → ⊥) → {table between : List ℕ} (ahead : Next) {low free : ℕ}
+      → ListRead classes text b (inner classes text frame) table between ahead low free → (start : ℕ) (after : List ℕ) → closesNext e ahead ≡ false
+      → AddressIs classes text xs frame start table after (refusedNext (length text) ahead)
+  unclosed-stops e {xs} {a} {b} frame o n (Found x) l start after f =
+      record {
+        why = unfit;
+        rest = symbolsAhead classes text (Found x);
+        number-is = refl;
+        place-is = refl;
+        stops = λ h c. ap judge (comes-through e frame o n l h c)
+            ∙ run-other e (levelsHere h + frame .levels) h (o .name) (lexemeAt classes text (opening e) a b) (l .tree) (x .class) (lexemeAt classes text (x .class) (x .start) (x .end)) (symbolsFrom classes text (x .end)) (l .ends) f;
+      }
+  unclosed-stops e frame o n Ended l start after f = never-closed e frame o n l refl
+  unclosed-stops e frame o n (Fault number p) l start after f = never-closed e frame o n l refl
 
   module _ (e : Enclosure) {xs : List Sym} {a b : ℕ} {span : Span} (frame : Frame) (o : Opening classes text e xs a b span) (n : frame .levels ≡ 0 → ⊥)
-      {table between : List ℕ} {class : Class} {i j low free : ℕ} (l : ListRead classes text b (inner classes text frame) table between (Found class i j) low free) (q : sameClass (closing e) class ≡ true) where
+      {table between : List ℕ} {class : Class} {i j low free : ℕ} (l : ListRead classes text b (inner classes text frame) table between (foundAt class i j) low free) (q : sameClass (closing e) class ≡ true) where
     abbrev closed-by : Lexeme
     closed-by = lexemeAt classes text class i j
 
@@ -185,14 +191,14 @@ module _ (classes text : List ℕ) where
 
     -- something after it that does not end the address
     pub behind-stops : (behind : Next) → NextIs classes text j behind → endsAddressNext behind ≡ false → (start : ℕ) (after : List ℕ) → AddressIs classes text xs frame start table after (refusedNext (length text) behind)
-    behind-stops (Found other s t) x f start after =
+    behind-stops (Found y) x f start after =
         record {
           why = unfit;
-          rest = symbolsAhead classes text (Found other s t);
+          rest = symbolsAhead classes text (Found y);
           number-is = refl;
           place-is = refl;
           stops = λ h c. ap judge (comes-behind h c ∙ ap (run (levelsHere h + frame .levels) _) (x .same))
-              ∙ run-behind e (levelsHere h + frame .levels) h (o .name) (lexemeAt classes text (opening e) a b) (l .tree) closed-by other (lexemeAt classes text other s t) (symbolsFrom classes text t) f;
+              ∙ run-behind e (levelsHere h + frame .levels) h (o .name) (lexemeAt classes text (opening e) a b) (l .tree) closed-by (y .class) (lexemeAt classes text (y .class) (y .start) (y .end)) (symbolsFrom classes text (y .end)) f;
         }
     behind-stops Ended x f start after = absurd (true≢false f)
     behind-stops (Fault number p) x f start after = absurd (true≢false f)
@@ -231,19 +237,19 @@ module _ (classes text : List ℕ) where
     abbrev the-atom : Lexeme
     the-atom = lexemeAt classes text Atom (atom .start) (atom .end)
 
-    pub typed-deep : frame .levels ≡ 0 → AddressStops classes text (symbolsAhead classes text (Found Colon start end)) frame tooManyLevels start
+    pub typed-deep : frame .levels ≡ 0 → AddressStops classes text (symbolsAhead classes text (foundAt Colon start end)) frame tooManyLevels start
     typed-deep z =
         record {
           why = tooDeep;
-          rest = symbolsAhead classes text (Found Colon start end);
+          rest = symbolsAhead classes text (foundAt Colon start end);
           number-is = refl;
           place-is = refl;
-          stops = λ h c. rw z (deep-enclosed Group h none first-colon (symbolsAhead classes text (Found Colon start end)) (symbolsFrom classes text end) refl c);
+          stops = λ h c. rw z (deep-enclosed Group h none first-colon (symbolsAhead classes text (foundAt Colon start end)) (symbolsFrom classes text end) refl c);
         }
 
     module _ (n : frame .levels ≡ 0 → ⊥) where
       -- the machine comes after the second colon
-      comes-typed : (h : Here) → run (levelsHere h + frame .levels) (begin h) (symbolsAhead classes text (Found Colon start end))
+      comes-typed : (h : Here) → run (levelsHere h + frame .levels) (begin h) (symbolsAhead classes text (foundAt Colon start end))
           ≡ run (levelsHere (inTyped h first-colon the-atom (t .follows .colon)) + inner classes text frame .levels) (want h first-colon the-atom (t .follows .colon)) (symbolsFrom classes text behind)
       comes-typed h =
           let q : levelsHere h + suc (frame .levels - 1) ≡ levelsHere h + frame .levels = omega arith in
@@ -251,37 +257,39 @@ module _ (classes text : List ℕ) where
           ap (λ (ys : List Sym). run (levelsHere h + frame .levels) (begin h) (of Colon first-colon ∷ ys)) (t .follows .yields)
           ∙ rw (p, ← q) (run-typed (frame .levels - 1) first-colon the-atom (t .follows .colon) (symbolsFrom classes text behind) h)
 
-      -- what is wanted does not begin
-      pub typed-wanted : (ahead : Next) → NextIs classes text behind ahead → (start′ : ℕ) (table after : List ℕ) → ((class : Class) (i j : ℕ) → ahead ≡ Found class i j → endsAddress class ≡ true)
-          → AddressIs classes text (symbolsAhead classes text (Found Colon start end)) frame start′ table after (refusedNext (length text) ahead)
-      typed-wanted (Found class i j) x start′ table after f =
-          record {
-            why = unfit;
-            rest = symbolsAhead classes text (Found class i j);
-            number-is = refl;
-            place-is = refl;
-            stops = λ h c. ap judge (comes-typed h ∙ ap (run _ (want h first-colon the-atom (t .follows .colon))) (x .same)) ∙ want-ends class (f class i j refl) h;
-          }
-        where
-          want-ends : (k : Class) → endsAddress k ≡ true → (h : Here)
-              → judge (run (levelsHere (inTyped h first-colon the-atom (t .follows .colon)) + inner classes text frame .levels) (want h first-colon the-atom (t .follows .colon)) (of k (lexemeAt classes text class i j) ∷ symbolsFrom classes text j))
-              ≡ refused unfit (of k (lexemeAt classes text class i j) ∷ symbolsFrom classes text j)
-          want-ends k e h =
-              each-of (λ c. judge (run (levelsHere (inTyped h first-colon the-atom (t .follows .colon)) + inner classes text frame .levels) (want h first-colon the-atom (t .follows .colon)) (of c (lexemeAt classes text class i j) ∷ symbolsFrom classes text j))
-              ≡ refused unfit (of c (lexemeAt classes text class i j) ∷ symbolsFrom classes text j)) endsAddress (refl, (refl, (refl, tt))) k e
-      typed-wanted Ended x start′ table after f =
+      want-ends : (k : Class) → endsAddress k ≡ true → (u : Lexeme) (ys : List Sym) (h : Here)
+          → judge (run (levelsHere (inTyped h first-colon the-atom (t .follows .colon)) + inner classes text frame .levels) (want h first-colon the-atom (t .follows .colon)) (of k u ∷ ys)) ≡ refused unfit (of k u ∷ ys)
+      want-ends k e u ys h =
+          each-of (λ c. judge (run (levelsHere (inTyped h first-colon the-atom (t .follows .colon)) + inner classes text frame .levels) (want h first-colon the-atom (t .follows .colon)) (of c u ∷ ys)) ≡ refused unfit (of c u ∷ ys)) endsAddress
+          (refl, (refl, (refl, tt))) k e
+
+      typed-ends : symbolsFrom classes text behind ≡ [] → AddressStops classes text (symbolsAhead classes text (foundAt Colon start end)) frame endsTooSoon (length text)
+      typed-ends e =
           record {
             why = unfinished;
             rest = [];
             number-is = refl;
             place-is = refl;
-            stops = λ h c. ap judge (comes-typed h ∙ ap (run _ (want h first-colon the-atom (t .follows .colon))) (x .same));
+            stops = λ h c. ap judge (comes-typed h ∙ ap (run _ (want h first-colon the-atom (t .follows .colon))) e);
           }
-      typed-wanted (Fault number p) x start′ table after f = absurd (x .ok)
 
-      module _ {class : Class} {i j : ℕ} (x : NextIs classes text behind (Found class i j)) where
-        pub typed-stops : {number-told place : ℕ} → AddressStops classes text (symbolsAhead classes text (Found class i j)) (inner classes text frame) number-told place
-            → AddressStops classes text (symbolsAhead classes text (Found Colon start end)) frame number-told place
+      -- what is wanted does not begin
+      pub typed-wanted : (ahead : Next) → NextIs classes text behind ahead → (start′ : ℕ) (table after : List ℕ) → endsAddressNext ahead ≡ true
+          → AddressIs classes text (symbolsAhead classes text (foundAt Colon start end)) frame start′ table after (refusedNext (length text) ahead)
+      typed-wanted (Found y) x start′ table after f =
+          record {
+            why = unfit;
+            rest = symbolsAhead classes text (Found y);
+            number-is = refl;
+            place-is = refl;
+            stops = λ h c. ap judge (comes-typed h ∙ ap (run _ (want h first-colon the-atom (t .follows .colon))) (x .same)) ∙ want-ends (y .class) f (lexemeAt classes text (y .class) (y .start) (y .end)) (symbolsFrom classes text (y .end)) h;
+          }
+      typed-wanted Ended x start′ table after f = typed-ends (x .same)
+      typed-wanted (Fault number p) x start′ table after f = typed-ends (x .same)
+
+      module _ {class : Class} {i j : ℕ} (x : NextIs classes text behind (foundAt class i j)) where
+        pub typed-stops : {number-told place : ℕ} → AddressStops classes text (symbolsAhead classes text (foundAt class i j)) (inner classes text frame) number-told place
+            → AddressStops classes text (symbolsAhead classes text (foundAt Colon start end)) frame number-told place
         typed-stops s =
             record {
               why = s .why;
@@ -291,9 +299,9 @@ module _ (classes text : List ℕ) where
               stops = λ h c. ap judge (comes-typed h ∙ ap (run _ (want h first-colon the-atom (t .follows .colon))) (x .same)) ∙ s .stops (inTyped h first-colon the-atom (t .follows .colon)) tt;
             }
 
-        pub typed-read : {ahead : Next} {last free : ℕ} (table between after : List ℕ) → AddressRead classes text (symbolsAhead classes text (Found class i j)) (inner classes text frame) i table between ahead last free
+        pub typed-read : {ahead : Next} {last free : ℕ} (table between after : List ℕ) → AddressRead classes text (symbolsAhead classes text (foundAt class i j)) (inner classes text frame) i table between ahead last free
             → after ≡ sets between (frame .number * addressRecordSize) (recordBytes (recordBy (kindNumber (typedKind (part text (atom .start) (atom .end)))) (levelLimit - frame .levels) (frame .parent) start last (atom .start) (atom .end)))
-            → AddressRead classes text (symbolsAhead classes text (Found Colon start end)) frame start table after ahead last free
+            → AddressRead classes text (symbolsAhead classes text (foundAt Colon start end)) frame start table after ahead last free
         typed-read {ahead} {last} {free} table between after r w =
             let p : (h : Here) → suc (levelsHere h) + (frame .levels - 1) ≡ levelsHere h + frame .levels = λ h. omega arith in
             record {
@@ -306,16 +314,8 @@ module _ (classes text : List ℕ) where
               count = omega (arith, r .count);
               stored =
                   rw (← (r .last-is))
-                  (stored-in table between after (frame .number) (frame .levels) _ (λ d m. addressRecords (r .tree) d m m) n (t .first .ready .levels-low) (r .stored) w);
-              from = omega (arith, t .first .stands .starts, t .follows .from, t .follows .atom-starts, t .follows .end-before, x .ok .0, r .from);
+                  (stored-in table between after (frame .number) (frame .levels) _ (λ d m. addressRecords (r .tree) d m m) n (t .ready .levels-low) (r .stored) w);
+              from = omega (arith, t .stands .starts, t .follows .from, t .follows .atom-starts, t .follows .end-before, x .ok .0, r .from);
               within = r .within;
               free-low = r .free-low;
             }
-
--- what comes next is no symbol
-pub not-found : {A : Type 0} (r : Next) → OneOf (1 ∷ 2 ∷ []) (tagOf next-declared.the-type r) → (class : Class) (i j : ℕ) → r ≡ Found class i j → A
-not-found r o class i j e = absurd (miss (1 ∷ 2 ∷ []) 0 tt (rw e at o))
-
--- the class of a symbol that was found
-pub class-found : {c d : Class} {i j k l : ℕ} → Found c i j ≡ Found d k l → d ≡ c
-class-found e = cc

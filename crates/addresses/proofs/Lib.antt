@@ -1,15 +1,19 @@
 -- Laws of reading addresses.
 pub mod ClassCases
 pub mod NextLaws
+pub mod CursorSteps
 pub mod PhraseLaws
 pub mod NodesLaws
 pub mod TypedLaws
 pub mod AddressLaws
 pub mod EnclosedLaws
 pub mod ListLaws
+pub mod CursorReads
 pub mod NamedLaws
+pub mod CursorCycle
 pub mod AnyEdition
 pub mod WholeLaws
+pub mod FirstLaws
 pub mod Judgements
 pub mod WithinLaws
 pub mod BodyRecords

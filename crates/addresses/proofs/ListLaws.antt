@@ -7,7 +7,7 @@ use native.Mathlib.Omega.{arith}
 use lib.ListN.{length}
 use lib.Seq.{sets}
 use Rattle.scanner.specs.declared.Next.{Next}
-use Rattle.scanner.specs.declared.Next.the-variants.{Found}
+use Rattle.scanner.specs.Believed.Answers.{foundAt}
 use Rattle.records.specs.Believed.AddressRecords.{tableBytes, addressRecordSize}
 use Rattle.octets.specs.Believed.Numbers.{levelLimit}
 use Rattle.grammar.specs.Executable.Trees733.{Class, Comma, Lexeme, Sym, of, empty, comma, AddressList, idle, full}
@@ -17,7 +17,7 @@ use Rattle.grammar.proofs.Rfc733.Complete.{doneList, Clear, complete-doneList}
 use Rattle.grammar.proofs.Rfc733.Readers.{AddressEnds, ListEnds, endsAddress}
 use Rattle.grammar.proofs.Rfc733.TreeRecords.{listCount, listRecords}
 use Rattle.grammar.proofs.RecordLaws.{stored-behind}
-use Rattle.addresses.specs.Ties.Steps.{symbolsFrom, lexemeAt, symbolsAhead, Ahead, AddressRead, AddressStops, ListRead, ListStops, Entered}
+use Rattle.addresses.specs.Ties.Steps.{symbolsFrom, lexemeAt, symbolsAhead, Comes, AddressRead, AddressStops, ListRead, ListStops}
 use Rattle.addresses.specs.declared.Frame.{Frame}
 use Rattle.addresses.proofs.NextLaws.{NextIs}
 
@@ -43,15 +43,15 @@ module _ (classes text : List ℕ) where
     pub reads : (k : Level) → Clear (nameless k) (atomColon (symbolsFrom classes text at)) → run (levelsAt k + frame .levels) (list k (idle empty)) (symbolsFrom classes text at) ≡ run (levelsAt k + frame .levels) (doneList k tree) (symbolsAhead classes text ahead)
     pub clear : (k : Level) → Clear (nameless k) (atomColon (symbolsFrom classes text at)) → ClearAt k tree (symbolsAhead classes text ahead)
     pub behind : Behind tree (symbolsAhead classes text ahead)
-    pub ahead-ok : Ahead classes text last ahead
+    pub ahead-ok : Comes classes text last ahead
     pub count : free ≡ frame .number + listCount tree
     pub stored : after ≡ sets table (frame .number * addressRecordSize) (tableBytes (listRecords tree (levelLimit - frame .levels) (frame .parent) (frame .number)))
     pub from : at ≤ last
     pub within : last ≤ length text
     pub free-low : free ≤ last
 
-  pub list-start : {at : ℕ} {frame : Frame} (table : List ℕ) (ahead : Next) → Entered classes text at frame → NextIs classes text at ahead → ListSoFar at frame table table ahead at (frame .number)
-  list-start {at} {frame} table ahead e x =
+  pub list-start : {at : ℕ} {frame : Frame} (table : List ℕ) (ahead : Next) → at ≤ length text → frame .number ≤ at → NextIs classes text at ahead → ListSoFar at frame table table ahead at (frame .number)
+  list-start {at} {frame} table ahead inside low x =
       record {
         tree = idle empty;
         reads = λ k c. ap (run (levelsAt k + frame .levels) (list k (idle empty))) (x .same);
@@ -61,12 +61,12 @@ module _ (classes text : List ℕ) where
         count = omega arith;
         stored = refl;
         from = omega arith;
-        within = e .inside;
-        free-low = e .ready .number-low;
+        within = inside;
+        free-low = low;
       }
 
   module _ {at : ℕ} {frame : Frame} {table now : List ℕ} where
-    pub list-comma : {a b last free : ℕ} (ahead : Next) → ListSoFar at frame table now (Found Comma a b) last free → NextIs classes text b ahead → ListSoFar at frame table now ahead b free
+    pub list-comma : {a b last free : ℕ} (ahead : Next) → ListSoFar at frame table now (foundAt Comma a b) last free → NextIs classes text b ahead → ListSoFar at frame table now ahead b free
     list-comma {a} {b} ahead w x =
         record {
           tree = idle (comma (w .tree) (lexemeAt classes text Comma a b));
@@ -83,15 +83,15 @@ module _ (classes text : List ℕ) where
         }
 
     -- one address more
-    pub list-address : {class : Class} {a b last free last′ free′ : ℕ} (after : List ℕ) (ahead : Next) → ListSoFar at frame table now (Found class a b) last free → endsAddress class ≡ false
-        → AddressRead classes text (symbolsAhead classes text (Found class a b)) record { levels = frame .levels; parent = frame .parent; number = free } a now after ahead last′ free′
+    pub list-address : {class : Class} {a b last free last′ free′ : ℕ} (after : List ℕ) (ahead : Next) → ListSoFar at frame table now (foundAt class a b) last free → endsAddress class ≡ false
+        → AddressRead classes text (symbolsAhead classes text (foundAt class a b)) record { levels = frame .levels; parent = frame .parent; number = free } a now after ahead last′ free′
         → ListSoFar at frame table after ahead last′ free′
     list-address {class} {a} {b} {last} {free} {last′} {free′} after ahead w f r = by (w .tree) (w .reads) (w .clear) (w .behind) (w .count) (w .stored)
       where
         by : (l : AddressList)
-            → ((k : Level) → Clear (nameless k) (atomColon (symbolsFrom classes text at)) → run (levelsAt k + frame .levels) (list k (idle empty)) (symbolsFrom classes text at) ≡ run (levelsAt k + frame .levels) (doneList k l) (symbolsAhead classes text (Found class a b)))
-            → ((k : Level) → Clear (nameless k) (atomColon (symbolsFrom classes text at)) → ClearAt k l (symbolsAhead classes text (Found class a b)))
-            → Behind l (symbolsAhead classes text (Found class a b)) → free ≡ frame .number + listCount l
+            → ((k : Level) → Clear (nameless k) (atomColon (symbolsFrom classes text at)) → run (levelsAt k + frame .levels) (list k (idle empty)) (symbolsFrom classes text at) ≡ run (levelsAt k + frame .levels) (doneList k l) (symbolsAhead classes text (foundAt class a b)))
+            → ((k : Level) → Clear (nameless k) (atomColon (symbolsFrom classes text at)) → ClearAt k l (symbolsAhead classes text (foundAt class a b)))
+            → Behind l (symbolsAhead classes text (foundAt class a b)) → free ≡ frame .number + listCount l
             → now ≡ sets table (frame .number * addressRecordSize) (tableBytes (listRecords l (levelLimit - frame .levels) (frame .parent) (frame .number))) → ListSoFar at frame table after ahead last′ free′
         by (idle p) reads clear behind count stored =
             record {
@@ -108,13 +108,13 @@ module _ (classes text : List ℕ) where
             }
         by (full p x) reads clear behind count stored = absurd (true≢false (sym behind ∙ f))
 
-    pub list-stops : {class : Class} {a b last free number-told place : ℕ} → ListSoFar at frame table now (Found class a b) last free → endsAddress class ≡ false
-        → AddressStops classes text (symbolsAhead classes text (Found class a b)) record { levels = frame .levels; parent = frame .parent; number = free } number-told place → ListStops classes text at frame number-told place
+    pub list-stops : {class : Class} {a b last free number-told place : ℕ} → ListSoFar at frame table now (foundAt class a b) last free → endsAddress class ≡ false
+        → AddressStops classes text (symbolsAhead classes text (foundAt class a b)) record { levels = frame .levels; parent = frame .parent; number = free } number-told place → ListStops classes text at frame number-told place
     list-stops {class} {a} {b} {last} {free} {number-told} {place} w f s =
         record { why = s .why; rest = s .rest; number-is = s .number-is; place-is = s .place-is; stops = λ k c. by k (w .tree) (w .reads k c) (w .clear k c) (w .behind) }
       where
-        by : (k : Level) (l : AddressList) → run (levelsAt k + frame .levels) (list k (idle empty)) (symbolsFrom classes text at) ≡ run (levelsAt k + frame .levels) (doneList k l) (symbolsAhead classes text (Found class a b))
-            → ClearAt k l (symbolsAhead classes text (Found class a b)) → Behind l (symbolsAhead classes text (Found class a b))
+        by : (k : Level) (l : AddressList) → run (levelsAt k + frame .levels) (list k (idle empty)) (symbolsFrom classes text at) ≡ run (levelsAt k + frame .levels) (doneList k l) (symbolsAhead classes text (foundAt class a b))
+            → ClearAt k l (symbolsAhead classes text (foundAt class a b)) → Behind l (symbolsAhead classes text (foundAt class a b))
             → judge (run (levelsAt k + frame .levels) (list k (idle empty)) (symbolsFrom classes text at)) ≡ Rattle.grammar.specs.Believed.Language.refused (s .why) (s .rest)
         by k (idle p) reads clear behind = ap judge reads ∙ s .stops (inList k p) clear
         by k (full p x) reads clear behind = absurd (true≢false (sym behind ∙ f))

@@ -9,11 +9,11 @@ use denote.Enum.Declared.{tagOf}
 use Rattle.scanner.proofs.Next as next-declared
 use Rattle.octets.specs.Believed.Choice.{either}
 use Rattle.scanner.specs.declared.Next.{Next}
+use Rattle.scanner.specs.Believed.Answers.{foundAt}
 use Rattle.scanner.specs.declared.Next.the-variants.{Found, Ended, Fault}
 use Rattle.grammar.specs.Executable.Trees733.{Class, Lexeme, Sym, Phrase, one}
 use Rattle.grammar.proofs.Rfc733.Trees.{phraseThen}
-use Rattle.addresses.specs.Ties.Steps.{isWord, isQuoted, followsPhrase, loneQuoted, opening, House, symbolsFrom, lexemeAt, symbolsAhead, Ahead, FirstWord, WordsIs, NoMark, Named, Opening}
-use Rattle.addresses.specs.declared.Words.{Words}
+use Rattle.addresses.specs.Ties.Steps.{isWord, isQuoted, followsPhrase, loneQuoted, opening, House, symbolsFrom, lexemeAt, symbolsAhead, Comes, FirstWord, Words, WordsIs, NoMark, Named, Opening}
 use Rattle.records.specs.declared.Span.{Span}
 use Rattle.addresses.specs.declared.Enclosure.{Enclosure}
 use Rattle.addresses.specs.declared.Enclosure.the-variants.{Angle, Group}
@@ -27,17 +27,17 @@ no-mark-found classes text class o e =
     is-false (followsPhrase classes text class) (rw e at b)
 
 module _ (classes text : List ℕ) where
-  pub no-mark-left : (low : ℕ) (r : Next) → Ahead classes text low r → OneOf (1 ∷ 2 ∷ []) (tagOf next-declared.the-type r) → NoMark classes text r
-  no-mark-left low (Found class start end) a o = absurd (miss (1 ∷ 2 ∷ []) 0 tt o)
+  pub no-mark-left : (low : ℕ) (r : Next) → Comes classes text low r → OneOf (1 ∷ 2 ∷ []) (tagOf next-declared.the-type r) → NoMark classes text r
+  no-mark-left low (Found symbol) a o = absurd (miss (1 ∷ 2 ∷ []) 0 tt o)
   no-mark-left low Ended a o = tt
-  no-mark-left low (Fault number p) a o = a
+  no-mark-left low (Fault number p) a o = tt
 
   -- the phrase that begins with a word
   abbrev pub phraseOf : (class : Class) (start end : ℕ) {lone : Bool} {r : Words} → WordsIs classes text end lone r → Phrase
   phraseOf class start end w = w .grow (one (wordOf class (lexemeAt classes text class start end)))
 
   pub named-is : (class : Class) {start end : ℕ} {lone : Bool} {r : Words} → FirstWord classes text class start end → (w : WordsIs classes text end lone r)
-      → Named classes text (symbolsAhead classes text (Found class start end)) record { start = start; end = r .end } (phraseOf class start end w) (r .ahead)
+      → Named classes text (symbolsAhead classes text (foundAt class start end)) record { start = start; end = r .end } (phraseOf class start end w) (r .ahead)
   named-is class {start} {end} f w =
       let t = lexemeAt classes text class start end in
       let q = one (wordOf class t) in
@@ -55,7 +55,7 @@ module _ (classes text : List ℕ) where
   house-named Group p ys = tt
 
   -- a phrase before the mark of an enclosed list is its name
-  pub named-opening : (e : Enclosure) {xs : List Sym} {span : Span} {p : Phrase} {a b : ℕ} → Named classes text xs span p (Found (opening e) a b) → Opening classes text e xs a b span
+  pub named-opening : (e : Enclosure) {xs : List Sym} {span : Span} {p : Phrase} {a b : ℕ} → Named classes text xs span p (foundAt (opening e) a b) → Opening classes text e xs a b span
   named-opening e {p = p} {b = b} n =
       record { name = some p; yields = n .yields; start-is = sym (n .start-is); end-is = sym (n .end-is); house = house-named e p (symbolsFrom classes text b) }
 
@@ -63,5 +63,5 @@ module _ (classes text : List ℕ) where
   pub named-before : {xs : List Sym} {span : Span} {p : Phrase} {r s : Next} → Named classes text xs span p r → r ≡ s → Named classes text xs span p s
   named-before {p = p} n e = record { yields = n .yields ∙ ap (λ (a : Next). phraseThen p (symbolsAhead classes text a)) e; start-is = n .start-is; end-is = n .end-is }
 
-  pub named-mark : {xs : List Sym} {span : Span} {p : Phrase} {r : Next} {c d : Class} {a b : ℕ} → Named classes text xs span p r → r ≡ Found c a b → c ≡ d → Named classes text xs span p (Found d a b)
-  named-mark {a = a} {b = b} n e f = named-before n (e ∙ ap (λ (m : Class). Found m a b) f)
+  pub named-mark : {xs : List Sym} {span : Span} {p : Phrase} {r : Next} {c d : Class} {a b : ℕ} → Named classes text xs span p r → r ≡ foundAt c a b → c ≡ d → Named classes text xs span p (foundAt d a b)
+  named-mark {a = a} {b = b} n e f = named-before n (e ∙ ap (λ (m : Class). foundAt m a b) f)

@@ -7,7 +7,7 @@ use native.Mathlib.Omega.{arith}
 use lib.ListN.{length}
 use Rattle.octets.specs.Believed.Numbers.{noListGoesOn, endsTooSoon}
 use Rattle.scanner.specs.declared.Next.{Next}
-use Rattle.scanner.specs.declared.Next.the-variants.{Found}
+use Rattle.scanner.specs.Believed.Answers.{foundAt}
 use Rattle.grammar.specs.Believed.Language.{unfit, unfinished, refused}
 use Rattle.grammar.specs.Executable.Trees733.{Class, At, GreaterThan, Comma, Semicolon, Lexeme, Sym, of, oneOf, Word, Phrase, Nodes, first, next}
 use Rattle.grammar.proofs.Rfc733.Trees.{wordSymbol, nodesThen}
@@ -16,8 +16,7 @@ use Rattle.grammar.proofs.Rfc733.Complete.{run-word}
 use Rattle.grammar.proofs.Symbols.{each-other}
 use Rattle.grammar.proofs.Rfc733.Readers.{AddressEnds}
 use Rattle.grammar.proofs.Rfc733.TreeRecords.{wordLexeme, nodesEnd}
-use Rattle.addresses.specs.Ties.Steps.{isWord, symbolsFrom, lexemeAt, symbolAt, symbolsAhead, Standing, NodesEnd, Stops, NodesContext}
-use Rattle.scanner.specs.Ties.Steps.{Faultless}
+use Rattle.addresses.specs.Ties.Steps.{isWord, symbolsFrom, lexemeAt, symbolAt, symbolsAhead, faultFrom, NodesEnd, Stops, NodesContext}
 use Rattle.addresses.proofs.NextLaws.{NextIs}
 use Rattle.addresses.proofs.PhraseLaws.{wordOf, word-symbol, word-lexeme}
 
@@ -81,10 +80,10 @@ module _ (classes text : List ℕ) where
     pub yields : symbolAt classes text At start at ∷ symbolsFrom classes text at ≡ openThen open-nodes (symbolsFrom classes text p)
     pub comes : (c : NodesContext classes text) → run (c .limit) (firstAt (c .here) (c .phrase) (lexemeAt classes text At start at)) (symbolsFrom classes text at) ≡ run (c .limit) (openState (c .here) (c .phrase) open-nodes) (symbolsFrom classes text p)
     pub from : at ≤ p
-    pub faultless : Faultless classes text p
+    pub faults : faultFrom classes text at ≡ faultFrom classes text p
 
-  pub nodes-start : {start at : ℕ} → Standing classes text start at → NodesSoFar start at at
-  nodes-start {start} {at} s = record { open-nodes = first-open (lexemeAt classes text At start at); yields = refl; comes = λ c. refl; from = omega arith; faultless = s .faultless }
+  pub nodes-start : {start at : ℕ} → NodesSoFar start at at
+  nodes-start {start} {at} = record { open-nodes = first-open (lexemeAt classes text At start at); yields = refl; comes = λ c. refl; from = omega arith; faults = refl }
 
   -- one node more, up to its end
   pub record NodeRead (start at last : ℕ) : Type 0 where
@@ -94,9 +93,9 @@ module _ (classes text : List ℕ) where
     pub end-is : nodesEnd nodes ≡ last
     pub from : at < last
     pub within : last ≤ length text
-    pub faultless : Faultless classes text last
+    pub faults : faultFrom classes text at ≡ faultFrom classes text last
 
-  pub node-read : {start at p a b : ℕ} {class : Class} → NodesSoFar start at p → NextIs classes text p (Found class a b) → isWord class ≡ true → NodeRead start at b
+  pub node-read : {start at p a b : ℕ} {class : Class} → NodesSoFar start at p → NextIs classes text p (foundAt class a b) → isWord class ≡ true → NodeRead start at b
   node-read {start} {at} {p} {a} {b} {class} w x o =
       let t = lexemeAt classes text class a b in
       let word = wordOf class t in
@@ -108,18 +107,18 @@ module _ (classes text : List ℕ) where
         end-is = node-end (w .open-nodes) word ∙ ap (λ (l : Lexeme). l .end) (word-lexeme class t);
         from = omega (arith, w .from, x .ok .0, x .ok .1 .starts);
         within = x .ok .1 .within;
-        faultless = x .ok .1 .faultless;
+        faults = w .faults ∙ x .faults;
       }
 
   -- another "at"
-  pub nodes-again : {start at last a b : ℕ} → NodeRead start at last → NextIs classes text last (Found At a b) → NodesSoFar start at b
+  pub nodes-again : {start at last a b : ℕ} → NodeRead start at last → NextIs classes text last (foundAt At a b) → NodesSoFar start at b
   nodes-again {a = a} {b = b} w x =
       record {
         open-nodes = next-open (w .nodes) (lexemeAt classes text At a b);
         yields = w .yields ∙ ap (nodesThen (w .nodes)) (x .same);
         comes = λ c. w .comes c ∙ ap (run (c .limit) (node (c .here) (c .phrase) (w .nodes))) (x .same);
         from = omega (arith, w .from, x .ok .0, x .ok .1 .starts);
-        faultless = x .ok .1 .faultless;
+        faults = w .faults ∙ x .faults;
       }
 
   -- the end of the address
@@ -133,11 +132,11 @@ module _ (classes text : List ℕ) where
   NodesStop start at number-told place =
       Stops classes text (λ (c : NodesContext classes text) why rest. judge (run (c .limit) (firstAt (c .here) (c .phrase) (lexemeAt classes text At start at)) (symbolsFrom classes text at)) ≡ refused why rest) number-told place
 
-  pub stops-no-node : {start at p a b : ℕ} {class : Class} → NodesSoFar start at p → NextIs classes text p (Found class a b) → isWord class ≡ false → NodesStop start at noListGoesOn a
+  pub stops-no-node : {start at p a b : ℕ} {class : Class} → NodesSoFar start at p → NextIs classes text p (foundAt class a b) → isWord class ≡ false → NodesStop start at noListGoesOn a
   stops-no-node {a = a} {b = b} {class = class} w x o =
       record {
         why = unfit;
-        rest = symbolsAhead classes text (Found class a b);
+        rest = symbolsAhead classes text (foundAt class a b);
         number-is = refl;
         place-is = refl;
         stops = λ c. ap judge (w .comes c ∙ ap (run (c .limit) (openState (c .here) (c .phrase) (w .open-nodes))) (x .same))
@@ -154,11 +153,11 @@ module _ (classes text : List ℕ) where
         stops = λ c. ap judge (w .comes c ∙ ap (run (c .limit) (openState (c .here) (c .phrase) (w .open-nodes))) e) ∙ node-wanted (c .limit) (c .here) (c .phrase) (w .open-nodes);
       }
 
-  pub stops-behind-node : {start at last a b : ℕ} {class : Class} → NodeRead start at last → NextIs classes text last (Found class a b) → followsNode class ≡ false → NodesStop start at noListGoesOn a
+  pub stops-behind-node : {start at last a b : ℕ} {class : Class} → NodeRead start at last → NextIs classes text last (foundAt class a b) → followsNode class ≡ false → NodesStop start at noListGoesOn a
   stops-behind-node {a = a} {b = b} {class = class} w x o =
       record {
         why = unfit;
-        rest = symbolsAhead classes text (Found class a b);
+        rest = symbolsAhead classes text (foundAt class a b);
         number-is = refl;
         place-is = refl;
         stops = λ c. ap judge (w .comes c ∙ ap (run (c .limit) (node (c .here) (c .phrase) (w .nodes))) (x .same))

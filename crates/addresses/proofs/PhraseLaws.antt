@@ -7,14 +7,13 @@ use native.Mathlib.Omega.{arith}
 use lib.ListN.{length}
 use Rattle.octets.specs.Believed.Choice.{pick}
 use Rattle.scanner.specs.declared.Next.{Next}
-use Rattle.scanner.specs.declared.Next.the-variants.{Found}
+use Rattle.scanner.specs.Believed.Answers.{foundAt}
 use Rattle.grammar.specs.Believed.Rfc733.{sameClass}
 use Rattle.grammar.proofs.Symbols.{each-of}
 use Rattle.grammar.specs.Executable.Trees733.{Class, Quoted, Lexeme, Sym, of, Word, atomWord, quotedWord, Phrase, one, more}
 use Rattle.grammar.proofs.Rfc733.Trees.{wordSymbol, phraseThen}
 use Rattle.grammar.proofs.Rfc733.TreeRecords.{wordLexeme, phraseStart, phraseEnd}
-use Rattle.addresses.specs.Ties.Steps.{isWord, isQuoted, loneQuoted, symbolsFrom, lexemeAt, symbolsAhead, Reached, NoWord, WordsIs}
-use Rattle.scanner.specs.Ties.Steps.{Faultless}
+use Rattle.addresses.specs.Ties.Steps.{isWord, isQuoted, loneQuoted, symbolsFrom, lexemeAt, symbolsAhead, faultFrom, faultAhead, NoWord, WordsIs}
 use Rattle.addresses.proofs.NextLaws.{NextIs}
 
 -- the word of a class
@@ -49,13 +48,13 @@ module _ (classes text : List ℕ) where
     pub lone-is : (q : Phrase) → first ≡ loneQuoted q → lone ≡ loneQuoted (grow q)
     pub from : end ≤ last
     pub within : last ≤ length text
-    pub faultless : Faultless classes text last
+    pub faults : faultFrom classes text end ≡ faultFrom classes text last
 
-  pub words-start : {end : ℕ} {lone : Bool} → Reached classes text end → WordsSoFar end lone end lone
+  pub words-start : {end : ℕ} {lone : Bool} → end ≤ length text → WordsSoFar end lone end lone
   words-start r =
-      record { grow = λ q. q; yields = λ q. refl; start-is = λ q. refl; end-is = λ q e. e; lone-is = λ q e. e; from = omega arith; within = r .inside; faultless = r .faultless }
+      record { grow = λ q. q; yields = λ q. refl; start-is = λ q. refl; end-is = λ q e. e; lone-is = λ q e. e; from = omega arith; within = r; faults = refl }
 
-  pub words-more : {other : Class} {end last a b : ℕ} {first lone : Bool} → WordsSoFar end first last lone → NextIs classes text last (Found other a b) → isWord other ≡ true → WordsSoFar end first b false
+  pub words-more : {other : Class} {end last a b : ℕ} {first lone : Bool} → WordsSoFar end first last lone → NextIs classes text last (foundAt other a b) → isWord other ≡ true → WordsSoFar end first b false
   words-more {other} {end} {last} {a} {b} w x o =
       let t = lexemeAt classes text other a b in
       let e : symbolsFrom classes text last ≡ wordSymbol (wordOf other t) ∷ symbolsFrom classes text b = x .same ∙ ap (λ (y : Sym). y ∷ symbolsFrom classes text b) (sym (word-symbol other t o)) in
@@ -67,7 +66,7 @@ module _ (classes text : List ℕ) where
         lone-is = λ q f. refl;
         from = omega (arith, w .from, x .ok .0, x .ok .1 .starts);
         within = x .ok .1 .within;
-        faultless = x .ok .1 .faultless;
+        faults = w .faults ∙ x .faults;
       }
 
   pub words-done : {end last : ℕ} {first lone : Bool} (ahead : Next) → WordsSoFar end first last lone → NextIs classes text last ahead → NoWord classes text (symbolsAhead classes text ahead)

@@ -4,7 +4,7 @@ use mathlib.Core.Bool.{false}
 use mathlib.Core.List.{List, [], _∷_}
 use Prim.Native.Nat.{ℕ}
 use native.Mathlib.Omega.{arith}
-use Rattle.scanner.specs.declared.Next.the-variants.{Found}
+use Rattle.scanner.specs.Believed.Answers.{foundAt}
 use Rattle.grammar.specs.Believed.Rfc733.{sameClass}
 use Rattle.grammar.specs.Executable.Trees733.{Class, Atom, Colon}
 use Rattle.grammar.proofs.Rfc733.Trees.{atomColon}
@@ -15,16 +15,16 @@ module _ (classes text : List ℕ) where
   pub nothing : (at : ℕ) → symbolsFrom classes text at ≡ [] → atomColon (symbolsFrom classes text at) ≡ false
   nothing at e = ap atomColon e
 
-  pub no-atom : {at a b : ℕ} {class : Class} → NextIs classes text at (Found class a b) → sameClass Atom class ≡ false → atomColon (symbolsFrom classes text at) ≡ false
+  pub no-atom : {at a b : ℕ} {class : Class} → NextIs classes text at (foundAt class a b) → sameClass Atom class ≡ false → atomColon (symbolsFrom classes text at) ≡ false
   no-atom {at} {a} {b} {class} x f = ap atomColon (x .same) ∙ rw f
 
-  pub nothing-behind : {at a b : ℕ} → NextIs classes text at (Found Atom a b) → symbolsFrom classes text b ≡ [] → atomColon (symbolsFrom classes text at) ≡ false
+  pub nothing-behind : {at a b : ℕ} → NextIs classes text at (foundAt Atom a b) → symbolsFrom classes text b ≡ [] → atomColon (symbolsFrom classes text at) ≡ false
   nothing-behind x e = ap atomColon (x .same) ∙ rw e
 
-  pub no-colon : {at a b i j : ℕ} {class : Class} → NextIs classes text at (Found Atom a b) → NextIs classes text b (Found class i j) → sameClass Colon class ≡ false → atomColon (symbolsFrom classes text at) ≡ false
+  pub no-colon : {at a b i j : ℕ} {class : Class} → NextIs classes text at (foundAt Atom a b) → NextIs classes text b (foundAt class i j) → sameClass Colon class ≡ false → atomColon (symbolsFrom classes text at) ≡ false
   no-colon x y f = ap atomColon (x .same) ∙ rw (y .same, f)
 
-  pub typed-follows : {at a b i j : ℕ} → NextIs classes text at (Found Atom a b) → NextIs classes text b (Found Colon i j) → TypedFollows classes text at a b j
+  pub typed-follows : {at a b i j : ℕ} → NextIs classes text at (foundAt Atom a b) → NextIs classes text b (foundAt Colon i j) → TypedFollows classes text at a b j
   typed-follows {at} {a} {b} {i} {j} x y =
       record {
         colon = lexemeAt classes text Colon i j;
@@ -33,5 +33,4 @@ module _ (classes text : List ℕ) where
         atom-starts = x .ok .1 .starts;
         end-before = omega (arith, y .ok .0, y .ok .1 .starts);
         within = y .ok .1 .within;
-        faultless = y .ok .1 .faultless;
       }

@@ -15,7 +15,7 @@ use Rattle.records.specs.Believed.AddressRecords.{tableBytes}
 use Rattle.scanner.specs.Believed.Answers.{bodyScanned}
 use Rattle.scanner.proofs.BodyChecks.{Clean, when-refused}
 use Rattle.scanner.specs.declared.Next.{Next}
-use Rattle.scanner.specs.declared.Next.the-variants.{Found}
+use Rattle.scanner.specs.Believed.Answers.{foundAt}
 use Rattle.grammar.specs.Believed.Language.{unfit, accepted, refused}
 use Rattle.grammar.specs.Believed.Records.{count}
 use Rattle.grammar.specs.Executable.Machine733.{asForests, answer, top, run, judge}
@@ -56,7 +56,7 @@ module _ (classes text : List ℕ) where
     pub verdict-stops : {number-told place : ℕ} (s : ListStops classes text at (outermost limit) number-told place) → answer limit (symbolsFrom classes text at) ≡ refused (s .why) (s .rest)
     verdict-stops s = ap asForests (rw (zero-add limit) at (s .stops top tt))
 
-    pub verdict-closed : {last free a b : ℕ} {class : Class} {table after : List ℕ} → ListRead classes text at (outermost limit) table after (Found class a b) last free → answer limit (symbolsFrom classes text at) ≡ refused unfit (symbolsAhead classes text (Found class a b))
+    pub verdict-closed : {last free a b : ℕ} {class : Class} {table after : List ℕ} → ListRead classes text at (outermost limit) table after (foundAt class a b) last free → answer limit (symbolsFrom classes text at) ≡ refused unfit (symbolsAhead classes text (foundAt class a b))
     verdict-closed {a = a} {b = b} {class = class} l = ap asForests (ap judge (rw (zero-add limit) at (l .reads top tt)) ∙ not-closed limit (l .tree) class (lexemeAt classes text class a b) (symbolsFrom classes text b) (l .ends))
 
   pub whole-listed : {at last free : ℕ} {table after : List ℕ} (ahead : Next) → ListRead classes text at (outermost levelLimit) table after ahead last free → symbolsAhead classes text ahead ≡ [] → IsListed (answer levelLimit) classes text at table after free
@@ -71,7 +71,7 @@ module _ (classes text : List ℕ) where
   pub whole-stops : {at number-told place : ℕ} → ListStops classes text at (outermost levelLimit) number-told place → IsRefused (answer levelLimit) classes text at number-told place
   whole-stops {at} s = record { why = s .why; rest = s .rest; verdict-is = verdict-stops levelLimit at s; number-is = s .number-is; place-is = s .place-is }
 
-  pub whole-closed : {at last free a b : ℕ} {class : Class} {table after : List ℕ} → ListRead classes text at (outermost levelLimit) table after (Found class a b) last free → IsRefused (answer levelLimit) classes text at noListGoesOn a
+  pub whole-closed : {at last free a b : ℕ} {class : Class} {table after : List ℕ} → ListRead classes text at (outermost levelLimit) table after (foundAt class a b) last free → IsRefused (answer levelLimit) classes text at noListGoesOn a
   whole-closed {at} l = record { why = unfit; rest = _; verdict-is = verdict-closed levelLimit at l; number-is = refl; place-is = refl }
 
 -- ---- condition 3

@@ -4,23 +4,25 @@
 // Two of the calls go down one level, read_enclosed's of the list reader and read_typed's of the address reader; the others keep the level. So at most 64 are open.
 ghost use mathlib.Core.Path.{_≡_};
 ghost use Prim.Native.Nat.{_+_, _*_, _-_, _≤_, _<_};
-ghost use lib.ListN.{length};
+ghost use lib.ListN.{length, getD};
 ghost use lib.Seq.{sets};
 ghost use Rattle.octets.specs.Believed.Numbers.{messageLimit, levelLimit};
+ghost use Rattle.octets.specs.declared.answers.Answer.the-variants.{Refused};
 ghost use Rattle.records.specs.Believed.AddressRecords.{recordBy, recordBytes, addressRecordSize};
+ghost use Rattle.scanner.specs.Believed.Scanning.{scanBy};
+ghost use Rattle.scanner.specs.Believed.Answers.{unlessFault};
+ghost use Rattle.scanner.specs.Ties.Cursors.{cursorSize, nextIn};
 ghost use Rattle.grammar.specs.Executable.Machine733.{answer};
-ghost use Rattle.scanner.specs.Ties.Steps.{Faultless};
-ghost use Rattle.addresses.specs.Ties.Steps.{isWord, isQuoted, endsAddressNext, refusedNext, closing, enclosureKind, Standing, Reached, WordsIs, NodesIs, TypedAtomIs, Opened, MailboxIs, Lone, LoneIs, CloseIs, Entered, ListIs, BeginsAddress, AddressAt, NamedFirst, EnclosedIs, ColonFirst, TypedFirst};
-ghost use Rattle.addresses.specs.Ties.Whole.{Body, WholeIs, endsWithin, TwiceIs};
+ghost use Rattle.addresses.specs.Ties.Steps.{wordAhead, endsAhead, closesAhead, reading, refusedNext, enclosureKind, PhraseIs, NodesAre, TypedAtomIs, MarkAhead, MailboxIs, LoneAhead, LoneIs, CloseIs, Entered, ListIs, BeginsAddress, AddressAhead, NamedFirst, EnclosedIs, ColonFirst, TypedAhead, TypedIs};
+ghost use Rattle.addresses.specs.Ties.Whole.{Fitting, WholeFirst, FaultFirst, EndsWithin};
 ghost use Rattle.addresses.specs.Believed.Outcome.{AnsweredBy, outcome};
 ghost use Rattle.addresses.specs.Believed.Within.{listWithin};
 ghost use Rattle.addresses.specs.Believed.Condition3.{Condition3};
-ghost use Rattle.grammar.specs.Believed.Rfc733.{sameClass};
-ghost use Rattle.scanner.specs.declared.Class.the-variants.{Colon};
 use grammar::Whole;
 use grammar::typed_kind;
 use octets::answers::Answer;
 use octets::classes::CLASSES;
+use octets::classes::COLON;
 use octets::numbers::ENDS_TOO_SOON;
 use octets::numbers::LEVEL_LIMIT;
 use octets::numbers::NO_LIST_GOES_ON;
@@ -30,7 +32,20 @@ use records::address::ADDRESS_RECORD_SIZE;
 use records::address::AddressRecord;
 use records::address::store;
 use scanner::Class;
-use scanner::Next;
+use scanner::cursor::Ahead;
+use scanner::cursor::CLASS;
+use scanner::cursor::END;
+use scanner::cursor::ENDED;
+use scanner::cursor::FAULT;
+use scanner::cursor::START;
+use scanner::cursor::ahead_of;
+use scanner::cursor::put;
+use scanner::cursor::step;
+
+// The places of a cursor that are this walk's own: the next free record number, and the end of the last symbol read.
+const FREE: usize = 3;
+
+const LAST: usize = 4;
 
 // What encloses a list.
 enum Enclosure {
@@ -45,28 +60,9 @@ struct Frame {
     number: usize,
 }
 
-// What reading gives: the symbol after, the end of the last symbol read and the next free record number; or a refusal.
-enum Reading {
-    Read(Next, usize, usize),
-    Refused(u8, usize),
-}
-
-// The words of a phrase: the symbol after them, the end of the last, and whether they are one quoted-string.
-struct Words {
-    ahead: Next,
-    end: usize,
-    lone: bool,
-}
-
-// The nodes of a mailbox: the symbol after and the end of the last node; or a refusal.
-enum NodesRead {
-    Behind(Next, usize),
-    Stopped(u8, usize),
-}
-
-// An atom and ":" that follow a ":": the atom's span and the position after the second ":".
+// Whether an atom and ":" follow a ":", and the atom's span.
 enum TypedAtom {
-    Typed(usize, usize, usize),
+    Typed(usize, usize),
     Nameless,
 }
 
@@ -87,146 +83,139 @@ fn put_record(table: &mut [u8], frame: Frame, kind: u8, end: usize, start: usize
     store(table, frame.number, address);
 }
 
-// Whether a symbol of a class is a word.
-fn is_word(class: Class) -> bool
-    ensures { λ r. ⌜ r ≡ isWord class ⌝ }
+// Whether a word stands ahead.
+fn is_word(ahead: Ahead) -> bool
+    ensures { λ r. ⌜ r ≡ wordAhead ahead ⌝ }
 {
-    match class {
-        Class::Atom | Class::Quoted => true,
+    match ahead {
+        Ahead::Symbol(class) => match class {
+            Class::Atom | Class::Quoted => true,
+            _ => false,
+        },
         _ => false,
     }
 }
 
-// Whether a symbol of a class is a quoted-string.
-fn is_quoted(class: Class) -> bool
-    ensures { λ r. ⌜ r ≡ isQuoted class ⌝ }
+// Whether what stands ahead may stand after an address.
+fn ends_address(ahead: Ahead) -> bool
+    ensures { λ r. ⌜ r ≡ endsAhead ahead ⌝ }
 {
-    match class {
-        Class::Quoted => true,
-        _ => false,
+    match ahead {
+        Ahead::Symbol(class) => match class {
+            Class::Comma | Class::GreaterThan | Class::Semicolon => true,
+            _ => false,
+        },
+        _ => true,
     }
 }
 
-// Whether what comes next may stand after an address.
-fn ends_address(ahead: Next) -> bool
-    ensures { λ r. ⌜ r ≡ endsAddressNext ahead ⌝ }
+// The refusal of what stands ahead: 8 at a symbol, 9 at the end of the text.
+fn refuse(text: &[u8], cursor: &mut [usize; 5]) -> bool
+    requires { ⌜ length (now cursor) ≡ cursorSize ⌝ }
+    ensures { λ r. ⌜ reading r (now (cursor .exit)) ≡ refusedNext (length (now (text .entry))) (nextIn (now (cursor .entry))) ⌝ }
 {
-    let Next::Found(class, _, _) = ahead else {
-        return true;
-    };
-    match class {
-        Class::Comma | Class::GreaterThan | Class::Semicolon => true,
-        _ => false,
+    match ahead_of(cursor[CLASS]) {
+        Ahead::Symbol(_) => {
+            let place = cursor[START];
+            put(cursor, FAULT, place, NO_LIST_GOES_ON as usize);
+        }
+        _ => put(cursor, FAULT, text.len(), ENDS_TOO_SOON as usize),
     }
+    false
 }
 
-// The refusal of what comes next: 8 at a symbol, 9 at the end of the text.
-fn refuse(text: &[u8], ahead: Next) -> Reading
-    ensures { λ r. ⌜ r ≡ refusedNext (length (now (text .entry))) ahead ⌝ }
+// The words of a phrase whose first stands ahead, and whether they are one quoted-string; lone: whether the first is one.
+fn read_words(classes: &[u8; 256], text: &[u8], cursor: &mut [usize; 5], lone: bool) -> bool
+    requires { ⌜ (length (now cursor) ≡ cursorSize) × (getD (now cursor) 2 0 ≤ length (now text)) ⌝ }
+    ensures { λ r. ⌜ PhraseIs (now (classes .entry)) (now (text .entry)) (now (cursor .entry)) lone r (now (cursor .exit)) ⌝ }
 {
-    let Next::Found(_, start, _) = ahead else {
-        return Reading::Refused(ENDS_TOO_SOON, text.len());
-    };
-    Reading::Refused(NO_LIST_GOES_ON, start)
-}
-
-// The further words of a phrase whose first ends at a position; lone: whether that is a quoted-string.
-fn read_words(classes: &[u8; 256], text: &[u8], end: usize, lone: bool) -> Words
-    requires { ⌜ Reached (now classes) (now text) end ⌝ }
-    ensures { λ r. ⌜ WordsIs (now (classes .entry)) (now (text .entry)) end lone r ⌝ }
-{
-    let mut last = end;
     let mut single = lone;
     loop {
-        let ahead = scanner::next_by(classes, text, last);
-        let Next::Found(class, _, behind) = ahead else {
-            return Words {
-                ahead,
-                end: last,
-                lone: single,
-            };
-        };
-        if is_word(class) {
-            last = behind;
-            single = false;
-        } else {
-            return Words {
-                ahead,
-                end: last,
-                lone: single,
-            };
+        let last = cursor[END];
+        step(classes, text, cursor);
+        if !is_word(ahead_of(cursor[CLASS])) {
+            cursor[LAST] = last;
+            return single;
         }
+        single = false;
     }
 }
 
-// The nodes after the "at" that stands from start to at, to the end of the address.
-fn read_nodes(classes: &[u8; 256], text: &[u8], start: usize, at: usize) -> NodesRead
-    requires { ⌜ Standing (now classes) (now text) start at ⌝ }
-    ensures { λ r. ⌜ NodesIs (now (classes .entry)) (now (text .entry)) start at r ⌝ }
+// The nodes after the "at" that stands ahead, to the end of the address.
+fn read_nodes(classes: &[u8; 256], text: &[u8], cursor: &mut [usize; 5]) -> bool
+    requires { ⌜ length (now cursor) ≡ cursorSize ⌝ }
+    ensures { λ r. ⌜ NodesAre (now (classes .entry)) (now (text .entry)) (now (cursor .entry)) r (now (cursor .exit)) ⌝ }
 {
-    let mut p = at;
     loop {
-        let Next::Found(class, place, last) = scanner::next_by(classes, text, p) else {
-            return NodesRead::Stopped(ENDS_TOO_SOON, text.len());
-        };
-        if !is_word(class) {
-            return NodesRead::Stopped(NO_LIST_GOES_ON, place);
+        step(classes, text, cursor);
+        if !is_word(ahead_of(cursor[CLASS])) {
+            return refuse(text, cursor);
         }
-        let ahead = scanner::next_by(classes, text, last);
-        let Next::Found(mark, other, behind) = ahead else {
-            return NodesRead::Behind(ahead, last);
-        };
-        match mark {
-            Class::At => p = behind,
-            Class::Comma | Class::GreaterThan | Class::Semicolon => return NodesRead::Behind(
-                ahead,
-                last,
-            ),
-            _ => return NodesRead::Stopped(NO_LIST_GOES_ON, other),
+        let last = cursor[END];
+        step(classes, text, cursor);
+        let ahead = ahead_of(cursor[CLASS]);
+        if ends_address(ahead) {
+            cursor[LAST] = last;
+            return true;
         }
+        let Ahead::Symbol(class) = ahead else {
+            return refuse(text, cursor);
+        };
+        let Class::At = class else {
+            return refuse(text, cursor);
+        };
     }
 }
 
-// The atom and ":" that make a typed address of a ":" which ends at a position.
-fn typed_atom(classes: &[u8; 256], text: &[u8], at: usize) -> TypedAtom
-    requires { ⌜ Faultless (now classes) (now text) at ⌝ }
-    ensures { λ r. ⌜ TypedAtomIs (now (classes .entry)) (now (text .entry)) at r ⌝ }
+// The atom and ":" that make a typed address of the ":" that stands ahead; after them the second ":" stands ahead.
+fn typed_atom(classes: &[u8; 256], text: &[u8], cursor: &mut [usize; 5]) -> TypedAtom
+    requires { ⌜ length (now cursor) ≡ cursorSize ⌝ }
+    ensures { λ r. ⌜ TypedAtomIs (now (classes .entry)) (now (text .entry)) (now (cursor .entry)) r (now (cursor .exit)) ⌝ }
 {
-    let Next::Found(class, start, end) = scanner::next_by(classes, text, at) else {
+    step(classes, text, cursor);
+    let Ahead::Symbol(class) = ahead_of(cursor[CLASS]) else {
         return TypedAtom::Nameless;
     };
     let Class::Atom = class else {
         return TypedAtom::Nameless;
     };
-    let Next::Found(mark, _, behind) = scanner::next_by(classes, text, end) else {
+    let start = cursor[START];
+    let end = cursor[END];
+    step(classes, text, cursor);
+    let Ahead::Symbol(mark) = ahead_of(cursor[CLASS]) else {
         return TypedAtom::Nameless;
     };
     let Class::Colon = mark else {
         return TypedAtom::Nameless;
     };
-    TypedAtom::Typed(start, end, behind)
+    TypedAtom::Typed(start, end)
 }
 
-// A mailbox, after its phrase and the "at" that stands from start to end.
+// A mailbox, after its phrase; the "at" stands ahead.
 fn read_mailbox(
     classes: &[u8; 256],
     text: &[u8],
     table: &mut [u8],
-    start: usize,
-    end: usize,
+    cursor: &mut [usize; 5],
+    levels: usize,
+    parent: usize,
     name: Span,
-    frame: Frame,
-) -> Reading
-    requires { ⌜ Opened (now classes) (now text) start end name frame ⌝ }
-    ensures { λ r. ⌜ MailboxIs (now (classes .entry)) (now (text .entry)) start end name frame (now (table .entry)) (now (table .exit)) r ⌝ }
+) -> bool
+    requires { ⌜ MarkAhead (now classes) (now text) (now cursor) levels parent name ⌝ }
+    ensures { λ r. ⌜ MailboxIs (now (classes .entry)) (now (text .entry)) (now (cursor .entry)) levels parent name (now (table .entry)) (now (table .exit)) r (now (cursor .exit)) ⌝ }
 {
-    match read_nodes(classes, text, start, end) {
-        NodesRead::Stopped(number, place) => Reading::Refused(number, place),
-        NodesRead::Behind(ahead, last) => {
-            put_record(table, frame, 1, last, name.start, name);
-            Reading::Read(ahead, last, frame.number + 1)
-        }
+    if !read_nodes(classes, text, cursor) {
+        return false;
     }
+    let number = cursor[FREE];
+    let frame = Frame {
+        levels,
+        parent,
+        number,
+    };
+    put_record(table, frame, 1, cursor[LAST], name.start, name);
+    cursor[FREE] = number + 1;
+    true
 }
 
 // A phrase that no mark follows: one quoted-string alone is an address.
@@ -234,28 +223,39 @@ fn read_lone(
     classes: &[u8; 256],
     text: &[u8],
     table: &mut [u8],
-    ahead: Next,
+    cursor: &mut [usize; 5],
+    levels: usize,
+    parent: usize,
     lone: bool,
     name: Span,
-    frame: Frame,
-) -> Reading
-    requires { ⌜ Lone (now classes) (now text) ahead name frame ⌝ }
-    ensures { λ r. ⌜ LoneIs (now (classes .entry)) (now (text .entry)) ahead lone name frame (now (table .entry)) (now (table .exit)) r ⌝ }
+) -> bool
+    requires { ⌜ LoneAhead (now classes) (now text) (now cursor) levels parent name ⌝ }
+    ensures { λ r. ⌜ LoneIs (now (classes .entry)) (now (text .entry)) (now (cursor .entry)) levels parent lone name (now (table .entry)) (now (table .exit)) r (now (cursor .exit)) ⌝ }
 {
     if !lone {
-        return refuse(text, ahead);
+        return refuse(text, cursor);
     }
-    if !ends_address(ahead) {
-        return refuse(text, ahead);
+    if !ends_address(ahead_of(cursor[CLASS])) {
+        return refuse(text, cursor);
     }
+    let number = cursor[FREE];
+    let frame = Frame {
+        levels,
+        parent,
+        number,
+    };
     put_record(table, frame, 4, name.end, name.start, name);
-    Reading::Read(ahead, name.end, frame.number + 1)
+    cursor[FREE] = number + 1;
+    true
 }
 
-// Whether a mark closes an enclosed list.
-fn closes(enclosure: Enclosure, mark: Class) -> bool
-    ensures { λ r. ⌜ r ≡ sameClass (closing enclosure) mark ⌝ }
+// Whether what stands ahead closes an enclosed list.
+fn closes(enclosure: Enclosure, ahead: Ahead) -> bool
+    ensures { λ r. ⌜ r ≡ closesAhead enclosure ahead ⌝ }
 {
+    let Ahead::Symbol(mark) = ahead else {
+        return false;
+    };
     match enclosure {
         Enclosure::Angle => match mark {
             Class::GreaterThan => true,
@@ -283,24 +283,21 @@ fn close_list(
     classes: &[u8; 256],
     text: &[u8],
     table: &mut [u8],
-    enclosure: Enclosure,
-    ahead: Next,
-    free: usize,
-    name: Span,
+    cursor: &mut [usize; 5],
     frame: Frame,
-) -> Reading
-    requires { ⌜ (frame .levels ≤ levelLimit) × (frame .number ≤ messageLimit) ⌝ }
-    ensures { λ r. ⌜ CloseIs (now (classes .entry)) (now (text .entry)) enclosure ahead free name frame (now (table .entry)) (now (table .exit)) r ⌝ }
+    enclosure: Enclosure,
+    name: Span,
+) -> bool
+    requires { ⌜ (frame .levels ≤ levelLimit) × (frame .number ≤ messageLimit) × (length (now cursor) ≡ cursorSize) ⌝ }
+    ensures { λ r. ⌜ CloseIs (now (classes .entry)) (now (text .entry)) (now (cursor .entry)) frame enclosure name (now (table .entry)) (now (table .exit)) r (now (cursor .exit)) ⌝ }
 {
-    let Next::Found(mark, _, end) = ahead else {
-        return refuse(text, ahead);
-    };
-    if !closes(enclosure, mark) {
-        return refuse(text, ahead);
+    if !closes(enclosure, ahead_of(cursor[CLASS])) {
+        return refuse(text, cursor);
     }
-    let behind = scanner::next_by(classes, text, end);
-    if !ends_address(behind) {
-        return refuse(text, behind);
+    let end = cursor[END];
+    step(classes, text, cursor);
+    if !ends_address(ahead_of(cursor[CLASS])) {
+        return refuse(text, cursor);
     }
     put_record(
         table,
@@ -310,150 +307,153 @@ fn close_list(
         name.start,
         name,
     );
-    Reading::Read(behind, end, free)
+    cursor[LAST] = end;
+    true
 }
 
-// A list from a position on, up to what may stand after it.
-fn read_list(classes: &[u8; 256], text: &[u8], table: &mut [u8], at: usize, frame: Frame) -> Reading
-    requires { ⌜ Entered (now classes) (now text) at frame ⌝ }
-    ensures { λ r. ⌜ ListIs (now (classes .entry)) (now (text .entry)) at frame (now (table .entry)) (now (table .exit)) r ⌝ }
+// A list from the end of what stands ahead on, up to what may stand after it.
+fn read_list(
+    classes: &[u8; 256],
+    text: &[u8],
+    table: &mut [u8],
+    cursor: &mut [usize; 5],
+    levels: usize,
+    parent: usize,
+) -> bool
+    requires { ⌜ Entered (now classes) (now text) (now cursor) levels parent ⌝ }
+    ensures { λ r. ⌜ ListIs (now (classes .entry)) (now (text .entry)) (now (cursor .entry)) levels parent (now (table .entry)) (now (table .exit)) r (now (cursor .exit)) ⌝ }
 {
-    let levels = frame.levels;
-    let parent = frame.parent;
-    let mut ahead = scanner::next_by(classes, text, at);
-    let mut last = at;
-    let mut free = frame.number;
+    step(classes, text, cursor);
     loop {
-        let Next::Found(class, start, end) = ahead else {
-            return Reading::Read(ahead, last, free);
+        let Ahead::Symbol(class) = ahead_of(cursor[CLASS]) else {
+            return true;
         };
         match class {
-            Class::Comma => {
-                ahead = scanner::next_by(classes, text, end);
-                last = end;
-            }
-            Class::GreaterThan | Class::Semicolon => return Reading::Read(ahead, last, free),
+            Class::Comma => step(classes, text, cursor),
+            Class::GreaterThan | Class::Semicolon => return true,
             _ => {
-                let place = Frame {
-                    levels,
-                    parent,
-                    number: free,
-                };
-                match read_address(classes, text, table, class, start, end, place) {
-                    Reading::Refused(number, place) => return Reading::Refused(number, place),
-                    Reading::Read(behind, stop, after) => {
-                        ahead = behind;
-                        last = stop;
-                        free = after;
-                    }
+                if !read_address(classes, text, table, cursor, levels, parent) {
+                    return false;
                 }
             }
         }
     }
 }
 
-// An address whose first symbol stands from start to end.
+// An address whose first symbol stands ahead.
 fn read_address(
     classes: &[u8; 256],
     text: &[u8],
     table: &mut [u8],
-    class: Class,
-    start: usize,
-    end: usize,
-    frame: Frame,
-) -> Reading
-    requires { ⌜ BeginsAddress (now classes) (now text) class start end frame ⌝ }
-    ensures { λ r. ⌜ AddressAt (now (classes .entry)) (now (text .entry)) class start end frame (now (table .entry)) (now (table .exit)) r ⌝ }
+    cursor: &mut [usize; 5],
+    levels: usize,
+    parent: usize,
+) -> bool
+    requires { ⌜ BeginsAddress (now classes) (now text) (now cursor) levels parent ⌝ }
+    ensures { λ r. ⌜ AddressAhead (now (classes .entry)) (now (text .entry)) (now (cursor .entry)) levels parent (now (table .entry)) (now (table .exit)) r (now (cursor .exit)) ⌝ }
 {
+    let Ahead::Symbol(class) = ahead_of(cursor[CLASS]) else {
+        return refuse(text, cursor);
+    };
     match class {
-        Class::Atom | Class::Quoted => read_named(classes, text, table, class, start, end, frame),
+        Class::Atom => read_named(classes, text, table, cursor, levels, parent, false),
+        Class::Quoted => read_named(classes, text, table, cursor, levels, parent, true),
         Class::LessThan => {
+            let start = cursor[START];
             let name = Span { start, end: start };
             read_enclosed(
                 classes,
                 text,
                 table,
+                cursor,
+                levels,
+                parent,
                 Enclosure::Angle,
-                start,
-                end,
                 name,
-                frame,
             )
         }
-        Class::Colon => read_colon(classes, text, table, start, end, frame),
-        _ => Reading::Refused(NO_LIST_GOES_ON, start),
+        Class::Colon => read_colon(classes, text, table, cursor, levels, parent),
+        _ => refuse(text, cursor),
     }
 }
 
-// An address that begins with a word.
+// An address that begins with a word; quoted: whether that is a quoted-string.
 fn read_named(
     classes: &[u8; 256],
     text: &[u8],
     table: &mut [u8],
-    class: Class,
-    start: usize,
-    end: usize,
-    frame: Frame,
-) -> Reading
-    requires { ⌜ NamedFirst (now classes) (now text) class start end frame ⌝ }
-    ensures { λ r. ⌜ AddressAt (now (classes .entry)) (now (text .entry)) class start end frame (now (table .entry)) (now (table .exit)) r ⌝ }
+    cursor: &mut [usize; 5],
+    levels: usize,
+    parent: usize,
+    quoted: bool,
+) -> bool
+    requires { ⌜ NamedFirst (now classes) (now text) (now cursor) levels parent quoted ⌝ }
+    ensures { λ r. ⌜ AddressAhead (now (classes .entry)) (now (text .entry)) (now (cursor .entry)) levels parent (now (table .entry)) (now (table .exit)) r (now (cursor .exit)) ⌝ }
 {
-    let words = read_words(classes, text, end, is_quoted(class));
-    let ahead = words.ahead;
-    let name = Span {
-        start,
-        end: words.end,
-    };
-    let Next::Found(mark, at, to) = ahead else {
-        return read_lone(classes, text, table, ahead, words.lone, name, frame);
+    let start = cursor[START];
+    let lone = read_words(classes, text, cursor, quoted);
+    let end = cursor[LAST];
+    let name = Span { start, end };
+    let Ahead::Symbol(mark) = ahead_of(cursor[CLASS]) else {
+        return read_lone(classes, text, table, cursor, levels, parent, lone, name);
     };
     match mark {
-        Class::At => read_mailbox(classes, text, table, at, to, name, frame),
+        Class::At => read_mailbox(classes, text, table, cursor, levels, parent, name),
         Class::LessThan => read_enclosed(
             classes,
             text,
             table,
+            cursor,
+            levels,
+            parent,
             Enclosure::Angle,
-            at,
-            to,
             name,
-            frame,
         ),
-        Class::Colon => read_enclosed(classes, text, table, Enclosure::Group, at, to, name, frame),
-        _ => read_lone(classes, text, table, ahead, words.lone, name, frame),
+        Class::Colon => read_enclosed(
+            classes,
+            text,
+            table,
+            cursor,
+            levels,
+            parent,
+            Enclosure::Group,
+            name,
+        ),
+        _ => read_lone(classes, text, table, cursor, levels, parent, lone, name),
     }
 }
 
-// An angle list or a group, after its name, if it has one; its opening mark stands from start to end.
+// An angle list or a group, after its name, if it has one; its opening mark stands ahead.
 fn read_enclosed(
     classes: &[u8; 256],
     text: &[u8],
     table: &mut [u8],
+    cursor: &mut [usize; 5],
+    levels: usize,
+    parent: usize,
     enclosure: Enclosure,
-    start: usize,
-    end: usize,
     name: Span,
-    frame: Frame,
-) -> Reading
-    requires { ⌜ Opened (now classes) (now text) start end name frame ⌝ }
-    ensures { λ r. ⌜ EnclosedIs (now (classes .entry)) (now (text .entry)) enclosure start end name frame (now (table .entry)) (now (table .exit)) r ⌝ }
+) -> bool
+    requires { ⌜ MarkAhead (now classes) (now text) (now cursor) levels parent name ⌝ }
+    ensures { λ r. ⌜ EnclosedIs (now (classes .entry)) (now (text .entry)) (now (cursor .entry)) levels parent enclosure name (now (table .entry)) (now (table .exit)) r (now (cursor .exit)) ⌝ }
 {
-    let levels = frame.levels;
     if levels == 0 {
-        return Reading::Refused(TOO_MANY_LEVELS, start); // at its opening mark
+        let place = cursor[START];
+        put(cursor, FAULT, place, TOO_MANY_LEVELS as usize); // at its opening mark
+        return false;
     }
-    let below = frame.number + 1;
-    let inner = Frame {
-        levels: levels - 1,
-        parent: below,
-        number: below,
+    let number = cursor[FREE];
+    let below = number + 1;
+    cursor[FREE] = below;
+    if !read_list(classes, text, table, cursor, levels - 1, below) {
+        return false;
+    }
+    let frame = Frame {
+        levels,
+        parent,
+        number,
     };
-    match read_list(classes, text, table, end, inner) {
-        Reading::Refused(number, place) => Reading::Refused(number, place),
-        Reading::Read(ahead, _, free) => {
-            close_list(classes, text, table, enclosure, ahead, free, name, frame)
-        }
-    }
+    close_list(classes, text, table, cursor, frame, enclosure, name)
 }
 
 // An address that begins with ":": a typed address, or a nameless group.
@@ -461,107 +461,118 @@ fn read_colon(
     classes: &[u8; 256],
     text: &[u8],
     table: &mut [u8],
-    start: usize,
-    end: usize,
-    frame: Frame,
-) -> Reading
-    requires { ⌜ ColonFirst (now classes) (now text) start end frame ⌝ }
-    ensures { λ r. ⌜ AddressAt (now (classes .entry)) (now (text .entry)) Colon start end frame (now (table .entry)) (now (table .exit)) r ⌝ }
+    cursor: &mut [usize; 5],
+    levels: usize,
+    parent: usize,
+) -> bool
+    requires { ⌜ ColonFirst (now classes) (now text) (now cursor) levels parent ⌝ }
+    ensures { λ r. ⌜ AddressAhead (now (classes .entry)) (now (text .entry)) (now (cursor .entry)) levels parent (now (table .entry)) (now (table .exit)) r (now (cursor .exit)) ⌝ }
 {
-    match typed_atom(classes, text, end) {
-        TypedAtom::Typed(first, last, behind) => {
+    let start = cursor[START];
+    let end = cursor[END];
+    match typed_atom(classes, text, cursor) {
+        TypedAtom::Typed(first, last) => {
             let atom = Span {
                 start: first,
                 end: last,
             };
-            read_typed(classes, text, table, start, end, atom, behind, frame)
+            read_typed(classes, text, table, cursor, levels, parent, start, atom)
         }
         TypedAtom::Nameless => {
+            put(cursor, COLON as usize, start, end);
             let name = Span { start, end: start };
             read_enclosed(
                 classes,
                 text,
                 table,
+                cursor,
+                levels,
+                parent,
                 Enclosure::Group,
-                start,
-                end,
                 name,
-                frame,
             )
         }
     }
 }
 
-// A typed address, after its atom and second ":".
+// A typed address whose first ":" stands at start, after its atom; its second ":" stands ahead.
 fn read_typed(
     classes: &[u8; 256],
     text: &[u8],
     table: &mut [u8],
+    cursor: &mut [usize; 5],
+    levels: usize,
+    parent: usize,
     start: usize,
-    end: usize,
     atom: Span,
-    behind: usize,
-    frame: Frame,
-) -> Reading
-    requires { ⌜ TypedFirst (now classes) (now text) start end atom behind frame ⌝ }
-    ensures { λ r. ⌜ AddressAt (now (classes .entry)) (now (text .entry)) Colon start end frame (now (table .entry)) (now (table .exit)) r ⌝ }
+) -> bool
+    requires { ⌜ TypedAhead (now classes) (now text) (now cursor) levels parent start atom ⌝ }
+    ensures { λ r. ⌜ TypedIs (now (classes .entry)) (now (text .entry)) (now (cursor .entry)) levels parent start atom (now (table .entry)) (now (table .exit)) r (now (cursor .exit)) ⌝ }
 {
-    let levels = frame.levels;
     if levels == 0 {
-        return Reading::Refused(TOO_MANY_LEVELS, start); // at its first ":"
+        put(cursor, FAULT, start, TOO_MANY_LEVELS as usize); // at its first ":"
+        return false;
     }
-    let ahead = scanner::next_by(classes, text, behind);
-    let Next::Found(class, first, last) = ahead else {
-        return refuse(text, ahead);
-    };
-    if ends_address(ahead) {
-        return refuse(text, ahead);
+    step(classes, text, cursor);
+    if ends_address(ahead_of(cursor[CLASS])) {
+        return refuse(text, cursor);
     }
-    let child = frame.number + 1;
-    let inner = Frame {
-        levels: levels - 1,
-        parent: child,
-        number: child,
-    };
-    match read_address(classes, text, table, class, first, last, inner) {
-        Reading::Refused(number, place) => Reading::Refused(number, place),
-        Reading::Read(next, stop, free) => {
-            let from = atom.start;
-            let to = atom.end;
-            put_record(table, frame, typed_kind(&text[from..to]), stop, start, atom);
-            Reading::Read(next, stop, free)
-        }
+    let number = cursor[FREE];
+    let child = number + 1;
+    cursor[FREE] = child;
+    if !read_address(classes, text, table, cursor, levels - 1, child) {
+        return false;
     }
-}
-
-// The list from a position of a text on to its end.
-fn read_whole(classes: &[u8; 256], text: &[u8], table: &mut [u8], at: usize) -> Whole
-    requires { ⌜ Body (now classes) (now text) at ⌝ }
-    ensures { λ r. ⌜ WholeIs (answer levelLimit) (now (classes .entry)) (now (text .entry)) at (now (table .entry)) (now (table .exit)) r ⌝ }
-{
+    let from = atom.start;
+    let to = atom.end;
     let frame = Frame {
-        levels: LEVEL_LIMIT,
-        parent: 0,
-        number: 0,
+        levels,
+        parent,
+        number,
     };
-    match read_list(classes, text, table, at, frame) {
-        Reading::Refused(number, place) => Whole::Refused(number, place),
-        Reading::Read(ahead, _, count) => {
-            let Next::Found(_, place, _) = ahead else {
-                return Whole::Listed(count);
-            };
-            Whole::Refused(NO_LIST_GOES_ON, place)
-        }
+    put_record(
+        table,
+        frame,
+        typed_kind(&text[from..to]),
+        cursor[LAST],
+        start,
+        atom,
+    );
+    true
+}
+
+// The list from a position of a text on to its end. A fault in it is taken for its end, and looked for afterwards.
+fn read_whole(classes: &[u8; 256], text: &[u8], table: &mut [u8], at: usize) -> Whole
+    requires { ⌜ Fitting (now text) at ⌝ }
+    ensures { λ r. ⌜ WholeFirst (answer levelLimit) (now (classes .entry)) (now (text .entry)) at (now (table .entry)) (now (table .exit)) r ⌝ }
+{
+    let mut cursor: [usize; 5] = [ENDED, at, at, 0, at];
+    if !read_list(classes, text, table, &mut cursor, LEVEL_LIMIT, 0) {
+        return Whole::Refused(cursor[END] as u8, cursor[START]);
+    }
+    match ahead_of(cursor[CLASS]) {
+        Ahead::End => Whole::Listed(cursor[FREE]),
+        _ => Whole::Refused(NO_LIST_GOES_ON, cursor[START]),
     }
 }
 
-// A text without fault: a run on the empty part of the table for the answer, and then, if there is room, the run that writes.
+// A refusal, unless there is a fault: that comes first.
+fn fault_or(classes: &[u8; 256], text: &[u8], at: usize, number: u8, place: usize) -> Answer
+    ensures { λ r. ⌜ r ≡ unlessFault Refused (scanBy (now (classes .entry)) (now (text .entry)) at) (Refused number place) ⌝ }
+{
+    match scanner::fault_by(classes, text, at) {
+        Answer::Refused(first, position) => Answer::Refused(first, position),
+        _ => Answer::Refused(number, place),
+    }
+}
+
+// A run on the empty part of the table for the answer, and then, if there is room, the run that writes.
 fn read_twice(classes: &[u8; 256], text: &[u8], table: &mut [u8], at: usize) -> Answer
-    requires { ⌜ Body (now classes) (now text) at ⌝ }
-    ensures { λ r. ⌜ TwiceIs (answer levelLimit) (now (classes .entry)) (now (text .entry)) at (now (table .entry)) (now (table .exit)) r ⌝ }
+    requires { ⌜ Fitting (now text) at ⌝ }
+    ensures { λ r. ⌜ FaultFirst (answer levelLimit) (now (classes .entry)) (now (text .entry)) at (now (table .entry)) (now (table .exit)) r ⌝ }
 {
     match read_whole(classes, text, &mut table[..0], at) {
-        Whole::Refused(number, place) => Answer::Refused(number, place),
+        Whole::Refused(number, place) => fault_or(classes, text, at, number, place),
         Whole::Listed(count) => {
             if table.len() / ADDRESS_RECORD_SIZE < count {
                 return Answer::NoRoom(count);
@@ -577,32 +588,26 @@ pub fn read_addresses(message: &[u8], start: usize, end: usize, table: &mut [u8]
     ensures outcome { λ r. ⌜ AnsweredBy (outcome (now (message .entry)) start end (now (table .entry))) r (now (table .exit)) ⌝ }
     ensures condition3 { λ r. ⌜ Condition3 (now (message .entry)) start end (now (table .entry)) r (now (table .exit)) ⌝ }
 {
-    if let Answer::Refused(number, place) = scanner::scan_body(message, start, end) {
+    if let Answer::Refused(number, place) = scanner::check_body(message, start, end) {
         return Answer::Refused(number, place);
     }
     let classes = &CLASSES;
     read_twice(classes, &message[..end], table, start)
 }
 
-// Whether a text without fault is, whole, a list of at most so many levels.
+// Whether a text is, whole, a list of at most so many levels.
 fn ends_within(classes: &[u8; 256], text: &[u8], levels: usize) -> bool
-    requires { ⌜ Body (now classes) (now text) 0 × (levels ≤ levelLimit) ⌝ }
-    ensures { λ r. ⌜ r ≡ endsWithin (now (classes .entry)) (now (text .entry)) levels 0 ⌝ }
+    requires { ⌜ Fitting (now text) 0 × (levels ≤ levelLimit) ⌝ }
+    ensures { λ r. ⌜ EndsWithin (now (classes .entry)) (now (text .entry)) levels 0 r ⌝ }
 {
     let mut none: [u8; 1] = [0; 1];
-    let frame = Frame {
-        levels,
-        parent: 0,
-        number: 0,
-    };
-    match read_list(classes, text, &mut none[..0], 0, frame) {
-        Reading::Refused(_, _) => false,
-        Reading::Read(ahead, _, _) => {
-            let Next::Found(_, _, _) = ahead else {
-                return true;
-            };
-            false
-        }
+    let mut cursor: [usize; 5] = [ENDED, 0, 0, 0, 0];
+    if !read_list(classes, text, &mut none[..0], &mut cursor, levels, 0) {
+        return false;
+    }
+    match ahead_of(cursor[CLASS]) {
+        Ahead::End => true,
+        _ => false,
     }
 }
 
@@ -610,7 +615,7 @@ fn ends_within(classes: &[u8; 256], text: &[u8], levels: usize) -> bool
 pub fn is_list_within(text: &[u8], levels: usize) -> bool
     ensures { λ r. ⌜ r ≡ listWithin levels (now (text .entry)) ⌝ }
 {
-    if let Answer::Refused(_, _) = scanner::scan_body(text, 0, text.len()) {
+    if let Answer::Refused(_, _) = scanner::check_body(text, 0, text.len()) {
         return false;
     }
     let classes = &CLASSES;

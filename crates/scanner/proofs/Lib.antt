@@ -12,3 +12,4 @@ pub mod FaultNumbers
 pub mod CategoryLaws
 pub mod EveryCategory
 pub mod CategoryExamples
+pub mod CursorLaws

@@ -1,93 +1,148 @@
--- `addresses::read_nodes` meets its contract: the nodes have run up to the position reached. Assumes nothing.
+-- `addresses::read_nodes` meets its contract. Assumes nothing.
 use borrow.Author.Needs.{needs}
-use mathlib.Core.Path.{sym, _∙_}
+use mathlib.Core.Path.{_≡_, refl, sym, ap, _∙_}
+use mathlib.Core.Bool.{true, false, true≢false}
 use mathlib.Core.List.{[], _∷_}
 use native.Mathlib.Omega.{arith}
 use Prim.Native.Nat.{_-_}
-use lib.ListN.{length}
-use borrow.Author.Tests.{not-true, not-false}
+use lib.ListN.{length, getD}
+use Rattle.octets.specs.Believed.Choice.{either}
+use Rattle.scanner.specs.Ties.Cursors.{cursorSize, nextIn}
 use Rattle.grammar.proofs.Rfc733.Readers.{endsAddress}
-use Rattle.addresses.proofs.ClassCases.{by-class, by-class-not}
-use Rattle.addresses.proofs.NextLaws.{NextIs, next-is, none-left}
-use Rattle.addresses.proofs.NodesLaws.{NodesSoFar, NodeRead, followsNode, nodes-start, node-read, nodes-again, nodes-end, stops-no-node, stops-node-wanted, stops-behind-node}
+use Rattle.scanner.specs.declared.cursor.Ahead.{Ahead}
+use Rattle.scanner.specs.declared.cursor.Ahead.the-variants.{Symbol}
+use Rattle.addresses.specs.Ties.Steps.{wordAhead, endsAhead, freeIn}
+use Rattle.addresses.proofs.ClassCases.{by-class-not, no-symbol-ahead, not-follows}
+use Rattle.addresses.proofs.CursorSteps.{told, told-not, stepped, met, met-word}
+use Rattle.addresses.proofs.CursorReads.{word-next, nodes-done, nodes-refused, nodes-behind, nodes-told}
+use Rattle.addresses.proofs.NodesLaws.{NodesSoFar, NodeRead, nodes-start, node-read, nodes-again}
 use Rattle.addresses.proofs.read_nodes.Statement.{statement}
 use Rattle.addresses.proofs.read_nodes.Tie as tie
 
 abbrev Inv-loop : tie.InvT-loop
-Inv-loop classes text start at p₀ p =
-    NodesSoFar classes text start at p
+Inv-loop classes text cursor₀ cursor =
+    NodesSoFar classes text (getD cursor₀ 1 0) (getD cursor₀ 2 0) (getD cursor 2 0) × (freeIn cursor ≡ freeIn cursor₀) × (length cursor ≡ cursorSize)
 
 abbrev μ-loop : tie.MeasureT-loop
-μ-loop classes text start at p₀ p = length text - p
-
--- what was seen after an "at"
-seen : (c : tie.After-next-by Inv-loop μ-loop) → (let a = c .before .before .before .args in NextIs (a .classes .now) (a .text .now) (c .before .loop .p) (c .next-by .result))
-seen c = next-is _ _ _ (c .next-by .result) (c .before .loop .inv .faultless) (c .next-by .ensures)
-
--- the node that was read
-read : (c : tie.Else1 Inv-loop μ-loop) → (let a = c .before .before .before .before .before .before .before .before .args in NodeRead (a .classes .now) (a .text .now) (a .start) (a .at) (c .before .before .before .class .given .0 .1 .1 .0))
-read c =
-    node-read _ _ (c .before .before .before .before .before .before .loop .inv) (rw (c .before .before .before .class .given .1) at (seen (c .before .before .before .before .before)))
-    (sym (c .before .is-word .ensures) ∙ not-false _ (c .if1 .left))
-
--- what was seen after it
-seen-behind : (c : tie.After-next-by2 Inv-loop μ-loop) → (let a = c .before .before .before .before .before .before .before .before .before .args in NextIs (a .classes .now) (a .text .now) (c .before .before .before .before .class .given .0 .1 .1 .0) (c .next-by2 .result))
-seen-behind c = next-is _ _ _ (c .next-by2 .result) (read (c .before) .faultless) (c .next-by2 .ensures)
+μ-loop classes text cursor₀ cursor = length text - getD cursor 2 0
 
 loop-holds : tie.Need-loop-holds Inv-loop μ-loop
-loop-holds c = nodes-start _ _ (c .before .pre)
+loop-holds c = (nodes-start _ _, refl, c .before .pre)
 
-next-by-requires : tie.Need-next-by-requires Inv-loop μ-loop
-next-by-requires c κs = search needs
+step-requires : tie.Need-step-requires Inv-loop μ-loop
+step-requires c κs = search needs
 
-enum-known-class : tie.Need-enum-known-class Inv-loop μ-loop
-enum-known-class c = search needs
+element-copy-out-ahead-of : tie.Need-element-copy-out-ahead-of Inv-loop μ-loop
+element-copy-out-ahead-of c = search needs
 
-returns : tie.Need-returns Inv-loop μ-loop
-returns c =
-    let a = c .before .before .before .before .args in
-    stops-node-wanted _ _ (c .before .before .loop .inv) (seen (c .before) .same ∙ none-left (a .classes .now) (a .text .now) (c .before .next-by .result) (c .match .keys2))
+ahead-of-requires : tie.Need-ahead-of-requires Inv-loop μ-loop
+ahead-of-requires c κs = search needs
 
 is-word-requires : tie.Need-is-word-requires Inv-loop μ-loop
 is-word-requires c κs = search needs
 
-returns-2 : tie.Need-returns-2 Inv-loop μ-loop
-returns-2 c = stops-no-node _ _ (c .before .before .before .before .before .before .loop .inv) (rw (c .before .before .before .class .given .1) at (seen (c .before .before .before .before .before))) (sym (c .before .is-word .ensures) ∙ not-true _ (c .if1 .taken))
+refuse-requires : tie.Need-refuse-requires Inv-loop μ-loop
+refuse-requires c κs = let k = c .before .before .before .before .before .before .before .before .before .args .classes .now in let t = c .before .before .before .before .before .before .before .before .before .args .text .now in stepped k t (c .before .before .before .before .before .before .before .loop .cursor) (c .before .before .before .before .before .before .before .loop .inv .2) (c .before .before .before .before .before .step .ensures) .sized
 
-next-by-requires-2 : tie.Need-next-by-requires-2 Inv-loop μ-loop
-next-by-requires-2 c κs = search needs
+returns : tie.Need-returns Inv-loop μ-loop
+returns c = 
+    let k = c .before .before .before .before .before .before .before .before .before .before .args .classes .now in
+    let t = c .before .before .before .before .before .before .before .before .before .before .args .text .now in
+    let l = c .before .before .before .before .before .before .step .last .1 .1 .0 in
+    let i = c .before .before .before .before .before .before .before .before .loop .inv in
+    let x = stepped k t (c .before .before .before .before .before .before .before .before .loop .cursor) (i .2) (c .before .before .before .before .before .before .step .ensures) in
+    nodes-told k t (c .before .before .before .before .before .before .before .before .before .before .args .cursor .now) (c .refuse .result) (c .refuse .last .1 .0) (nextIn l) (nodes-refused k t (nextIn l) (i .0) (x .next) (word-next l (told-not wordAhead false (c .before .before .before .before .ahead-of .ensures) (c .before .before .before .is-word .ensures) (c .before .before .if1 .taken)))) (c .refuse .ensures)
+
+element-copy-out-last : tie.Need-element-copy-out-last Inv-loop μ-loop
+element-copy-out-last c = search needs
+
+step-requires-2 : tie.Need-step-requires-2 Inv-loop μ-loop
+step-requires-2 c κs = search needs
+
+element-copy-out-ahead-of-2 : tie.Need-element-copy-out-ahead-of-2 Inv-loop μ-loop
+element-copy-out-ahead-of-2 c = search needs
+
+ahead-of-requires-2 : tie.Need-ahead-of-requires-2 Inv-loop μ-loop
+ahead-of-requires-2 c κs = search needs
+
+ends-address-requires : tie.Need-ends-address-requires Inv-loop μ-loop
+ends-address-requires c κs = search needs
+
+element-write-cursor : tie.Need-element-write-cursor Inv-loop μ-loop
+element-write-cursor c = search needs
+
+returns-2 : tie.Need-returns-2 Inv-loop μ-loop
+returns-2 c = 
+    let k = c .before .before .before .before .before .before .before .before .before .before .before .before .before .before .before .args .classes .now in
+    let t = c .before .before .before .before .before .before .before .before .before .before .before .before .before .before .before .args .text .now in
+    let l = c .before .before .before .before .before .before .before .before .before .before .before .step .last .1 .1 .0 in
+    let i = c .before .before .before .before .before .before .before .before .before .before .before .before .before .loop .inv in
+    let x = stepped k t (c .before .before .before .before .before .before .before .before .before .before .before .before .before .loop .cursor) (i .2) (c .before .before .before .before .before .before .before .before .before .before .before .step .ensures) in
+    let w = met-word k t x (told-not wordAhead true (c .before .before .before .before .before .before .before .before .before .ahead-of .ensures) (c .before .before .before .before .before .before .before .before .is-word .ensures) (c .before .before .before .before .before .before .before .if1 .left)) in
+    let n = node-read k t (i .0) (met k t x (w .ahead-is)) (w .passes) in
+    nodes-done k t (c .before .before .before .before .before .before .before .before .before .before .before .before .before .before .before .args .cursor .now) l (c .before .before .before .before .step2 .last .1 .1 .0) n (x .free-kept ∙ i .1) (stepped k t l (x .sized) (c .before .before .before .before .step2 .ensures)) (told endsAhead true (c .before .before .ahead-of2 .ensures) (c .before .ends-address .ensures) (c .if2 .taken))
 
 enum-known-ahead : tie.Need-enum-known-ahead Inv-loop μ-loop
 enum-known-ahead c = search needs
 
+refuse-requires-2 : tie.Need-refuse-requires-2 Inv-loop μ-loop
+refuse-requires-2 c κs = 
+    let k = c .before .before .before .before .before .before .before .before .before .before .before .before .before .before .before .before .before .args .classes .now in
+    let t = c .before .before .before .before .before .before .before .before .before .before .before .before .before .before .before .before .before .args .text .now in
+    let l = c .before .before .before .before .before .before .before .before .before .before .before .before .before .step .last .1 .1 .0 in
+    let x = stepped k t (c .before .before .before .before .before .before .before .before .before .before .before .before .before .before .before .loop .cursor) (c .before .before .before .before .before .before .before .before .before .before .before .before .before .before .before .loop .inv .2) (c .before .before .before .before .before .before .before .before .before .before .before .before .before .step .ensures) in
+    stepped k t l (x .sized) (c .before .before .before .before .before .before .step2 .ensures) .sized
+
 returns-3 : tie.Need-returns-3 Inv-loop μ-loop
-returns-3 c =
-    let a = c .before .before .before .before .before .before .before .before .before .before .args in
-    nodes-end (a .classes .now) (a .text .now) (c .before .next-by2 .result) (read (c .before .before)) (seen-behind (c .before))
-    (rw (none-left (a .classes .now) (a .text .now) (c .before .next-by2 .result) (c .match2 .keys2)) tt)
+returns-3 c = absurd (true≢false (sym (no-symbol-ahead endsAhead true refl refl (c .before .before .before .before .before .ahead-of2 .result) (c .before .before .match .keys2)) ∙ sym (c .before .before .before .before .ends-address .ensures) ∙ c .before .before .before .if2 .left))
 
 enum-told : tie.Need-enum-told Inv-loop μ-loop
 enum-told c = search needs
 
 loop-less : tie.Need-loop-less Inv-loop μ-loop
-loop-less c =
-    let x = rw (c .before .before .before .ahead .given .1) at (seen-behind (c .before .before .before .before .before)) in
-    let y = rw (c .before .before .before .before .before .before .before .before .before .class .given .1) at (seen (c .before .before .before .before .before .before .before .before .before .before .before)) in
-    omega (arith, x .ok .0, x .ok .1 .starts, x .ok .1 .within, y .ok .0, y .ok .1 .starts)
+loop-less c = 
+    let k = c .before .before .before .before .before .before .before .before .before .before .before .before .before .before .before .before .before .before .before .before .args .classes .now in
+    let t = c .before .before .before .before .before .before .before .before .before .before .before .before .before .before .before .before .before .before .before .before .args .text .now in
+    let l = c .before .before .before .before .before .before .before .before .before .before .before .before .before .before .before .before .step .last .1 .1 .0 in
+    let i = c .before .before .before .before .before .before .before .before .before .before .before .before .before .before .before .before .before .before .loop .inv in
+    let x = stepped k t (c .before .before .before .before .before .before .before .before .before .before .before .before .before .before .before .before .before .before .loop .cursor) (i .2) (c .before .before .before .before .before .before .before .before .before .before .before .before .before .before .before .before .step .ensures) in
+    let w = met-word k t x (told-not wordAhead true (c .before .before .before .before .before .before .before .before .before .before .before .before .before .before .ahead-of .ensures) (c .before .before .before .before .before .before .before .before .before .before .before .before .before .is-word .ensures) (c .before .before .before .before .before .before .before .before .before .before .before .before .if1 .left)) in
+    let y = met k t x (w .ahead-is) in
+    let z = met k t (stepped k t l (x .sized) (c .before .before .before .before .before .before .before .before .before .step2 .ensures)) (sym (c .before .before .before .before .before .before .before .ahead-of2 .ensures) ∙ c .before .before .before .ahead .given .1) in
+    omega (arith, y .ok .0, y .ok .1 .starts, z .ok .0, z .ok .1 .starts, z .ok .1 .within)
 
 loop-again : tie.Need-loop-again Inv-loop μ-loop
-loop-again c = nodes-again _ _ (read (c .before .before .before .before .before .before)) (rw (c .enum-told .given .1) at (rw (c .before .before .before .ahead .given .1) at (seen-behind (c .before .before .before .before .before))))
+loop-again c = 
+    let k = c .before .before .before .before .before .before .before .before .before .before .before .before .before .before .before .before .before .before .before .before .args .classes .now in
+    let t = c .before .before .before .before .before .before .before .before .before .before .before .before .before .before .before .before .before .before .before .before .args .text .now in
+    let l = c .before .before .before .before .before .before .before .before .before .before .before .before .before .before .before .before .step .last .1 .1 .0 in
+    let i = c .before .before .before .before .before .before .before .before .before .before .before .before .before .before .before .before .before .before .loop .inv in
+    let x = stepped k t (c .before .before .before .before .before .before .before .before .before .before .before .before .before .before .before .before .before .before .loop .cursor) (i .2) (c .before .before .before .before .before .before .before .before .before .before .before .before .before .before .before .before .step .ensures) in
+    let w = met-word k t x (told-not wordAhead true (c .before .before .before .before .before .before .before .before .before .before .before .before .before .before .ahead-of .ensures) (c .before .before .before .before .before .before .before .before .before .before .before .before .before .is-word .ensures) (c .before .before .before .before .before .before .before .before .before .before .before .before .if1 .left)) in
+    let n = node-read k t (i .0) (met k t x (w .ahead-is)) (w .passes) in
+    let y = stepped k t l (x .sized) (c .before .before .before .before .before .before .before .before .before .step2 .ensures) in
+    (nodes-again k t n (met k t y (sym (c .before .before .before .before .before .before .before .ahead-of2 .ensures) ∙ c .before .before .before .ahead .given .1 ∙ ap Symbol (c .enum-told .given .1))), y .free-kept ∙ x .free-kept ∙ i .1, y .sized)
+
+refuse-requires-3 : tie.Need-refuse-requires-3 Inv-loop μ-loop
+refuse-requires-3 c κs = 
+    let k = c .before .before .before .before .before .before .before .before .before .before .before .before .before .before .before .before .before .before .before .before .args .classes .now in
+    let t = c .before .before .before .before .before .before .before .before .before .before .before .before .before .before .before .before .before .before .before .before .args .text .now in
+    let l = c .before .before .before .before .before .before .before .before .before .before .before .before .before .before .before .before .step .last .1 .1 .0 in
+    let x = stepped k t (c .before .before .before .before .before .before .before .before .before .before .before .before .before .before .before .before .before .before .loop .cursor) (c .before .before .before .before .before .before .before .before .before .before .before .before .before .before .before .before .before .before .loop .inv .2) (c .before .before .before .before .before .before .before .before .before .before .before .before .before .before .before .before .step .ensures) in
+    stepped k t l (x .sized) (c .before .before .before .before .before .before .before .before .before .step2 .ensures) .sized
 
 returns-4 : tie.Need-returns-4 Inv-loop μ-loop
-returns-4 c =
-    let a = c .before .before .before .before .before .before .before .before .before .before .before .before .before .args in
-    let f = c .before .before .ahead .given in
-    nodes-end (a .classes .now) (a .text .now) _ (read (c .before .before .before .before .before)) (rw (f .1) at (seen-behind (c .before .before .before .before))) (by-class (5 ∷ 4 ∷ 6 ∷ []) endsAddress tt (f .0 .0) (c .match3 .keys2))
-
-returns-5 : tie.Need-returns-5 Inv-loop μ-loop
-returns-5 c =
-    let f = c .before .before .ahead .given in
-    stops-behind-node _ _ (read (c .before .before .before .before .before)) (rw (f .1) at (seen-behind (c .before .before .before .before))) (by-class-not (0 ∷ 1 ∷ 3 ∷ 7 ∷ 8 ∷ 9 ∷ 10 ∷ []) followsNode tt (f .0 .0) (c .match3 .keys3))
+returns-4 c = 
+    let k = c .before .before .before .before .before .before .before .before .before .before .before .before .before .before .before .before .before .before .before .before .before .args .classes .now in
+    let t = c .before .before .before .before .before .before .before .before .before .before .before .before .before .before .before .before .before .before .before .before .before .args .text .now in
+    let l = c .before .before .before .before .before .before .before .before .before .before .before .before .before .before .before .before .before .step .last .1 .1 .0 in
+    let i = c .before .before .before .before .before .before .before .before .before .before .before .before .before .before .before .before .before .before .before .loop .inv in
+    let x = stepped k t (c .before .before .before .before .before .before .before .before .before .before .before .before .before .before .before .before .before .before .before .loop .cursor) (i .2) (c .before .before .before .before .before .before .before .before .before .before .before .before .before .before .before .before .before .step .ensures) in
+    let w = met-word k t x (told-not wordAhead true (c .before .before .before .before .before .before .before .before .before .before .before .before .before .before .before .ahead-of .ensures) (c .before .before .before .before .before .before .before .before .before .before .before .before .before .before .is-word .ensures) (c .before .before .before .before .before .before .before .before .before .before .before .before .before .if1 .left)) in
+    let n = node-read k t (i .0) (met k t x (w .ahead-is)) (w .passes) in
+    let y = stepped k t l (x .sized) (c .before .before .before .before .before .before .before .before .before .before .step2 .ensures) in
+    let e = sym (ap endsAhead (c .before .before .before .before .ahead .given .1)) ∙ sym (c .before .before .before .before .before .before .before .ends-address .ensures) ∙ c .before .before .before .before .before .before .if2 .left in
+    nodes-behind k t (c .before .before .before .before .before .before .before .before .before .before .before .before .before .before .before .before .before .before .before .before .before .args .cursor .now) (c .refuse3 .result) (c .refuse3 .last .1 .0) l (c .before .before .before .before .before .before .before .before .before .before .step2 .last .1 .1 .0) n y (sym (c .before .before .before .before .before .before .before .before .ahead-of2 .ensures) ∙ c .before .before .before .before .ahead .given .1) (not-follows (c .before .before .before .before .ahead .given .0 .0) (c .before .before .match2 .keys2) e) (c .refuse3 .ensures)
 
 pub read-nodes-spec : {M : Type 1} → statement M
 read-nodes-spec =
@@ -96,16 +151,24 @@ read-nodes-spec =
     Inv-loop
     μ-loop
     loop-holds
-    next-by-requires
-    enum-known-class
-    returns
+    step-requires
+    element-copy-out-ahead-of
+    ahead-of-requires
     is-word-requires
+    refuse-requires
+    returns
+    element-copy-out-last
+    step-requires-2
+    element-copy-out-ahead-of-2
+    ahead-of-requires-2
+    ends-address-requires
+    element-write-cursor
     returns-2
-    next-by-requires-2
     enum-known-ahead
+    refuse-requires-2
     returns-3
     enum-told
     loop-less
     loop-again
-    returns-4
-    returns-5)
+    refuse-requires-3
+    returns-4)

@@ -1,53 +1,61 @@
--- `addresses::read_twice` meets its contract: the first run settles the answer, and only the second writes. Assumes nothing.
-use Rattle.octets.proofs.Parts.{no-front}
-use Rattle.addresses.proofs.AnyEdition.{twice-refused, twice-no-room, twice-written}
-use borrow.Author.Needs.{needs}
 use Rattle.addresses.proofs.read_twice.Statement.{statement}
 use Rattle.addresses.proofs.read_twice.Tie as tie
+use Rattle.addresses.proofs.read_twice.Reads as reads
+use Rattle.addresses.proofs.read_twice.Lts as lts
+use Rattle.addresses.proofs.fault_or.Reads as fault-or-reads
+use Rattle.addresses.proofs.read_whole.Reads as read-whole-reads
 
+-- src/lib.rt:574:37
 slice-relend-prefix-read-whole : tie.Need-slice-relend-prefix-read-whole
-slice-relend-prefix-read-whole c = search needs
+slice-relend-prefix-read-whole c = ?
 
+-- src/lib.rt:574:37
 slice-aggregate-read-whole : tie.Need-slice-aggregate-read-whole
-slice-aggregate-read-whole c = search needs
+slice-aggregate-read-whole c = ?
 
+-- src/lib.rt:574:11
 read-whole-requires : tie.Need-read-whole-requires
-read-whole-requires c κs = search needs
+read-whole-requires c κs = ?
 
+-- src/lib.rt:575:24
 enum-known-number : tie.Need-enum-known-number
-enum-known-number c = search needs
+enum-known-number c = ?
 
+-- src/lib.rt:575:42
+fault-or-requires : tie.Need-fault-or-requires
+fault-or-requires c κs = ?
+
+-- src/lib.rt:576:23
 enum-known-count : tie.Need-enum-known-count
-enum-known-count c = search needs
+enum-known-count c = ?
 
+-- src/lib.rt:578:17
 same-length : tie.Need-same-length
-same-length c = search needs
+same-length c = ?
 
+-- src/lib.rt:578:17
 returns : tie.Need-returns
-returns c =
-    let u = no-front (c .before .before .before .before .before .before .read-whole .last .1 .1 .0) (c .before .before .before .before .before .before .before .before .before .before .args .table .now) (c .before .before .before .before .before .before .read-whole .kept .1 .1 .0) in
-    rw u (twice-no-room _ _ _ (c .before .before .before .before .before .before .before .before .before .before .args .table .now) (rw (c .before .before .count .given .1) at (c .before .before .before .before .before .before .read-whole .ensures)) (rw u at (c .if1 .taken)))
+returns c = ?
 
+-- src/lib.rt:580:13
 read-whole-requires-2 : tie.Need-read-whole-requires-2
-read-whole-requires-2 c κs = search needs
+read-whole-requires-2 c κs = ?
 
+-- src/lib.rt:570:1
 same-length-2 : tie.Need-same-length-2
-same-length-2 c = search needs
+same-length-2 c = ?
 
+-- src/lib.rt:570:1
 returns-2 : tie.Need-returns-2
-returns-2 c =
-    let u = no-front (c .before .before .before .before .before .read-whole .last .1 .1 .0) (c .before .before .before .before .before .before .before .before .before .args .table .now) (c .before .before .before .before .before .read-whole .kept .1 .1 .0) in
-    rw u (twice-refused _ _ _ (c .before .before .before .before .before .before .before .before .before .args .table .now) (rw (c .before .number .given .1) at (c .before .before .before .before .before .read-whole .ensures)))
+returns-2 c = ?
 
+-- src/lib.rt:570:1
 same-length-3 : tie.Need-same-length-3
-same-length-3 c = search needs
+same-length-3 c = ?
 
+-- src/lib.rt:570:1
 returns-3 : tie.Need-returns-3
-returns-3 c =
-    let first = c .before .before .before .before .before .before .before .before .before .before in
-    let table = first .before .before .before .before .args .table .now in
-    let u = no-front (first .read-whole .last .1 .1 .0) table (first .read-whole .kept .1 .1 .0) in
-    twice-written _ _ _ table _ (rw (c .before .before .before .before .before .before .count .given .1) at (first .read-whole .ensures)) (rw u at (c .before .before .before .before .if1 .left)) (c .before .before .read-whole2 .result) (rw u at (c .before .before .read-whole2 .ensures))
+returns-3 c = ?
 
 pub read-twice-spec : {M : Type 1} → statement M
 read-twice-spec =
@@ -57,6 +65,7 @@ read-twice-spec =
     slice-aggregate-read-whole
     read-whole-requires
     enum-known-number
+    fault-or-requires
     enum-known-count
     same-length
     returns

@@ -49,7 +49,7 @@ moved Ended cursor = placed endNumber 0 0 cursor
 moved (Fault number p) cursor = placed faultNumber p number cursor
 
 -- what a number tells
-abbrev pub aheadOf : ℕ → Ahead
+unfoldable pub aheadOf : ℕ → Ahead
 aheadOf n =
     pick (eqb n letter) (Symbol Atom) (pick (eqb n quote) (Symbol Quoted)
     (pick (eqb n atSign) (Symbol At) (pick (eqb n lessThan) (Symbol LessThan)
