@@ -1,12 +1,13 @@
 -- Laws of stored runs and of parts of a list, beside those of `lib.Seq`. Assumes nothing.
-use mathlib.Core.Path.{_≡_, refl, sym, _∙_}
+use mathlib.Core.Path.{_≡_, refl, sym, ap, _∙_}
 use mathlib.Core.List.{List, [], _∷_, _++_, append-assoc}
-use Prim.Native.Nat.{ℕ, zero, suc, _+_, _-_, _≤_, _<_}
+use Prim.Native.Nat.{ℕ, zero, suc, min, _+_, _-_, _≤_, _<_}
+use native.Mathlib.Decide.{decLt}
 use native.Mathlib.Nat.{add-zero, sub-zero, zero-sub}
 use native.Mathlib.Numerals.{add-one}
 use native.Mathlib.Omega.{arith}
-use lib.ListN.{length, getD, take, drop, set, length-drop}
-use lib.Seq.{sets, sets-eq, drop-at, drop-cons, drop-drop, take-append-seam, take-set-le, take-nil, take-take, drop-set-lt, set-comm, set-out, length-take-le}
+use lib.ListN.{length, getD, take, drop, set, length-take, length-drop, drop-of-length-le}
+use lib.Seq.{sets, sets-eq, drop-at, drop-cons, drop-drop, take-append-seam, take-set-le, take-nil, take-take, getD-take, drop-set-lt, set-comm, set-out, length-take-le}
 use Rattle.octets.specs.Believed.Text.{part}
 
 module _ {A : Type 0} where
@@ -60,6 +61,25 @@ module _ {A : Type 0} where
       let n : length (take i table) ≡ i = length-take-le i table (omega arith) in
       rw (sets-eq vs table i h, append-assoc, drop-at (take i table) (vs ++ drop (i + length vs) table) i n)
       (take-append-seam vs (drop (i + length vs) table))
+
+  -- a run that was stored at the front of a large enough room and is copied from there is stored as it would be at once
+  pub staged : (table room vs : List A) → length vs ≤ length room → sets table 0 (take (length vs) (sets room 0 vs)) ≡ sets table 0 vs
+  staged table room vs h = ap (λ (front : List A). sets table 0 front) (part-sets vs room 0 (omega arith))
+
+  -- the front of a list, copied: from a place on the element there, and those after it
+  pub copied-here : (from table : List A) (many i : ℕ) (d : A) → i < many → i < length from
+      → sets table i (drop i (take many from)) ≡ sets (set table i (getD from i d)) (i + 1) (drop (i + 1) (take many from))
+  copied-here from table many i d h k =
+      rw (from-here (take many from) i d (omega (arith, length-take many from)), getD-take many from i d h, add-one)
+
+  -- nothing of it is left where it ends, or the table does
+  pub copied-all : (from table : List A) (many i : ℕ) → min many (min (length table) (length from)) ≤ i
+      → sets table i (drop i (take many from)) ≡ table
+  copied-all from table many i h =
+      elim (decLt i (length table)) [
+        | yes k ↦ rw (drop-of-length-le (take many from) {i = i} (omega (arith, length-take many from)))
+        | no k ↦ sets-out (drop i (take many from)) table i (omega arith)
+      ]
 
 -- ---- the part of a text from a position up to another
 

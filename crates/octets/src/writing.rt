@@ -1,6 +1,8 @@
 // Texts written into a lent part, and into one that is a window on a longer text.
 ghost use mathlib.Core.Path.{_≡_};
 ghost use mathlib.Core.List.{[], _∷_};
+ghost use Prim.Native.Nat.{min};
+ghost use lib.ListN.{take};
 ghost use lib.Seq.{sets};
 ghost use Rattle.octets.specs.Ties.Writing.{inWindow};
 use crate::stored::store_byte;
@@ -19,6 +21,26 @@ pub fn store_bytes(out: &mut [u8], at: usize, text: &[u8])
             return;
         }
         out[at + i] = text[i];
+        i += 1;
+    }
+}
+
+// The smaller of two numbers.
+fn smaller(a: usize, b: usize) -> usize
+    ensures { λ r. ⌜ r ≡ min a b ⌝ }
+{
+    if a < b { a } else { b }
+}
+
+// Copy the first bytes of a slice to the front of a table; past the end of either nothing is copied.
+pub fn copy_front(table: &mut [u8], from: &[u8], many: usize)
+    ensures { λ _. ⌜ now (table .exit) ≡ sets (now (table .entry)) 0 (take many (now (from .entry))) ⌝ }
+{
+    let both = smaller(table.len(), from.len());
+    let end = smaller(many, both);
+    let mut i: usize = 0;
+    while i < end {
+        table[i] = from[i];
         i += 1;
     }
 }
