@@ -1,8 +1,8 @@
 -- The field records of a table, read back, are the positions of the fields. Assumes nothing.
 use mathlib.Core.Path.{_≡_}
-use mathlib.Core.Bool.{true, false}
+use mathlib.Core.Bool.{true}
 use mathlib.Core.List.{List}
-use Prim.Native.Nat.{ℕ, _+_, _*_, _/_, _≤_, _<_}
+use Prim.Native.Nat.{ℕ, _*_, _/_, _≤_, _<_}
 use native.Mathlib.Decide.{decLt}
 use native.Mathlib.Omega.{arith}
 use borrow.Author.Tests.{lt-ltb, le-ltb}
@@ -14,9 +14,10 @@ use Rattle.octets.specs.Believed.Stored.{roomFor}
 use Rattle.octets.specs.declared.answers.Answer.the-variants.{Accepted}
 use Rattle.records.specs.Believed.FieldRecords.{noField, fieldRecordSize, fieldTable, fieldIn}
 use Rattle.records.proofs.ReadBack.{field-back}
-use Rattle.header.specs.Believed.Fields.{Header, field, ended, fault, fieldsOf, headerOf}
+use Rattle.header.specs.Believed.Fields.{fieldsOf, headerOf}
 use Rattle.header.specs.Believed.Split.{answerIn, answerFor, splitAnswer, splitTable}
 use Rattle.header.proofs.FieldLaws.{Ordered, fields-ordered}
+use Rattle.header.proofs.SplitLaws.{counted}
 
 module _ (message : List ℕ) (limited : length message ≤ messageLimit) where
   -- each field is read back from a table with room for all
@@ -27,20 +28,6 @@ module _ (message : List ℕ) (limited : length message ≤ messageLimit) where
       let o : Ordered message (getD (fieldsOf (headerOf message)) i noField) = fields-ordered message i l in
       field-back (fieldsOf (headerOf message)) table room i l
       (record { name-start = omega arith; name-end = omega arith; body-start = omega arith; body-end = omega arith })
-
--- an accepted answer counts the fields, and they fit
-counted : (room count n : ℕ) (h : Header) → answerIn room count h ≡ Accepted n → (n ≡ count + length (fieldsOf h)) × (n ≤ room)
-unfolding answerIn
-counted room count n (field f rest) e = let (c, fits) = counted room (count + 1) n rest e in (omega arith, fits)
-counted room count n ended e =
-    elim (decLt room count) [
-      | yes h ↦ absurd (let t : ltb room count ≡ true = lt-ltb room count h in let z : _≡_ {A = ℕ} 0 1 = cc in omega arith)
-      | no h ↦
-          let t : ltb room count ≡ false = le-ltb room count (omega arith) in
-          let c : count ≡ n = cc in
-          (omega arith, omega arith)
-    ]
-counted room count n (fault number position) e = absurd (let z : _≡_ {A = ℕ} 0 1 = cc in omega arith)
 
 -- an accepted message: the count is the number of its fields, and each is read back from the table
 pub record Accept (message table : List ℕ) (n : ℕ) : Type 0 where

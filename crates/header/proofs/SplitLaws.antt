@@ -1,21 +1,25 @@
 -- Splitting a message goes field by field: the header, answered and stored, is what is left of it. Assumes nothing.
 use mathlib.Core.Path.{_≡_, refl, sym, ap, _∙_}
+use mathlib.Core.Bool.{true, false}
 use mathlib.Core.List.{List}
 use Prim.Native.Nat.{ℕ, _+_, _*_, _≤_, _<_}
+use native.Mathlib.Decide.{decLt}
 use native.Mathlib.Numerals.{add-one}
 use native.Mathlib.Omega.{arith}
 use borrow.Author.Tests.{lt-ltb, le-ltb}
-use lib.ListN.{length}
+use lib.Dec.{ltb}
+use lib.ListN.{length, take}
 use lib.Seq.{sets, length-sets}
 use Rattle.octets.specs.Believed.Numbers.{messageLimit, messageTooLong}
 use Rattle.octets.specs.Believed.Stored.{roomFor}
 use Rattle.octets.specs.Believed.Answers.{Answered}
 use Rattle.octets.proofs.AnswerLaws.{answered}
+use Rattle.octets.proofs.Parts.{staged}
 use Rattle.octets.specs.declared.answers.Answer.{Answer}
 use Rattle.octets.specs.declared.answers.Answer.the-variants.{Accepted, Refused, NoRoom}
 use Rattle.records.specs.Believed.FieldRecords.{fieldOf, fieldLayout, fieldRecordSize, fieldBytes, fieldTable}
-use Rattle.records.proofs.TableLaws.{stored-first}
-use Rattle.header.specs.Believed.Fields.{Header, ended, fault, fieldsOf, lineStart, headerAt, headerOf}
+use Rattle.records.proofs.TableLaws.{stored-first, length-table}
+use Rattle.header.specs.Believed.Fields.{Header, field, ended, fault, fieldsOf, lineStart, headerAt, headerOf}
 use Rattle.header.specs.Believed.Split.{answerIn, answerFor, splitAnswer, tableAfter, splitTable}
 use Rattle.header.proofs.StepLaws.{Gave}
 
@@ -63,6 +67,20 @@ module _ {message : List ℕ} {room : ℕ} {lent table : List ℕ} {at count : �
   unfolding answerIn
   at-fault e = (sym (left .answer ∙ rw e), sym (left .stored ∙ rw e))
 
+-- an accepted answer counts the fields, and they fit
+pub counted : (room count n : ℕ) (h : Header) → answerIn room count h ≡ Accepted n → (n ≡ count + length (fieldsOf h)) × (n ≤ room)
+unfolding answerIn
+counted room count n (field f rest) e = let (c, fits) = counted room (count + 1) n rest e in (omega arith, fits)
+counted room count n ended e =
+    elim (decLt room count) [
+      | yes h ↦ absurd (let t : ltb room count ≡ true = lt-ltb room count h in let z : _≡_ {A = ℕ} 0 1 = cc in omega arith)
+      | no h ↦
+          let t : ltb room count ≡ false = le-ltb room count (omega arith) in
+          let c : count ≡ n = cc in
+          (omega arith, omega arith)
+    ]
+counted room count n (fault number position) e = absurd (let z : _≡_ {A = ℕ} 0 1 = cc in omega arith)
+
 -- the answer of splitting, and the table afterwards
 abbrev pub Split : List ℕ → List ℕ → Answer → List ℕ → Type 0
 Split message table r after = Answered (splitAnswer message table) (splitTable message table) r after
@@ -80,17 +98,22 @@ module _ (message table : List ℕ) where
     unfolding answerFor
     within-limit e = rw (le-ltb _ _ h) (sym e)
 
-    pub refused : {n p : ℕ} {after : List ℕ} → after ≡ table → Refused n p ≡ answerIn (roomFor fieldRecordSize table) 0 (headerOf message)
-        → Split message table (Refused n p) after
-    refused {n} {p} same e = let s = settled (Refused n p) (within-limit e) in answered (s .answer-is) (same ∙ s .bytes-are)
+    pub refused : {n p : ℕ} → Refused n p ≡ answerIn (roomFor fieldRecordSize table) 0 (headerOf message) → Split message table (Refused n p) table
+    refused {n} {p} e = settled (Refused n p) (within-limit e)
 
-    pub no-room : {n : ℕ} {after : List ℕ} → after ≡ table → NoRoom n ≡ answerIn (roomFor fieldRecordSize table) 0 (headerOf message)
-        → Split message table (NoRoom n) after
-    no-room {n} same e = let s = settled (NoRoom n) (within-limit e) in answered (s .answer-is) (same ∙ s .bytes-are)
+    pub no-room : {n : ℕ} → NoRoom n ≡ answerIn (roomFor fieldRecordSize table) 0 (headerOf message) → Split message table (NoRoom n) table
+    no-room {n} e = settled (NoRoom n) (within-limit e)
 
-    -- accepted by the first run, and stored by the second
-    pub accepted : {n : ℕ} {before after : List ℕ} {r : Answer} → before ≡ table
-        → Accepted n ≡ answerIn (roomFor fieldRecordSize table) 0 (headerOf message) → Done message (roomFor fieldRecordSize table) before r after → Split message table r after
-    accepted {n} same e done =
-        let s = settled (Accepted n) (within-limit e) in
-        answered (done .0 ∙ sym e ∙ s .answer-is) (done .1 ∙ rw same (s .bytes-are))
+    module _ {n : ℕ} (e : Accepted n ≡ answerIn (roomFor fieldRecordSize table) 0 (headerOf message)) where
+      -- accepted by the first run, and stored by the second
+      pub stored-again : {after : List ℕ} → after ≡ sets table 0 (fieldTable (fieldsOf (headerOf message))) → Split message table (Accepted n) after
+      stored-again same = let s = settled (Accepted n) (within-limit e) in answered (s .answer-is) (same ∙ s .bytes-are)
+
+      -- accepted by the first run, and copied from where it stored
+      pub copied : (room : List ℕ) {front after : List ℕ} → n * fieldRecordSize ≤ length room → front ≡ sets room 0 (fieldTable (fieldsOf (headerOf message)))
+          → after ≡ sets table 0 (take (n * fieldRecordSize) front) → Split message table (Accepted n) after
+      copied room large first second =
+          let fs = fieldsOf (headerOf message) in
+          let c = counted (roomFor fieldRecordSize table) 0 n (headerOf message) (sym e) in
+          let l : n * fieldRecordSize ≡ length (fieldTable fs) = omega (arith, length-table fieldLayout fs) in
+          stored-again (second ∙ rw (first, l) (staged table room (fieldTable fs) (omega arith)))

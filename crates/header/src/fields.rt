@@ -6,9 +6,9 @@ ghost use lib.Seq.{sets};
 ghost use Rattle.octets.specs.Believed.Numbers.{messageLimit};
 ghost use Rattle.header.specs.Believed.Fields.{nameHolds, nameStartsWith, endsBody, lineStart, inName, inBody, fieldsOf, headerAt, headerOf};
 ghost use Rattle.octets.specs.Believed.Answers.{Answered};
-ghost use Rattle.records.specs.Believed.FieldRecords.{fieldTable};
+ghost use Rattle.records.specs.Believed.FieldRecords.{fieldRecordSize, fieldTable};
 ghost use Rattle.header.specs.Believed.Split.{answerIn, splitAnswer, splitTable};
-ghost use Rattle.header.specs.Ties.Steps.{firstOf, GoesOn};
+ghost use Rattle.header.specs.Ties.Steps.{firstOf, GoesOn, stagedFields};
 use octets::answers::Answer;
 use octets::lines::is_crlf;
 use octets::lines::is_white;
@@ -17,6 +17,7 @@ use octets::numbers::HEADER_NOT_ENDED;
 use octets::numbers::MESSAGE_LIMIT;
 use octets::numbers::MESSAGE_TOO_LONG;
 use octets::numbers::NAME_FAULT;
+use octets::writing::copy_front;
 use records::Span;
 use records::field::FIELD_RECORD_SIZE;
 use records::field::FieldRecord;
@@ -186,6 +187,18 @@ fn store_fields(message: &[u8], room: usize, table: &mut [u8]) -> Answer
     }
 }
 
+// The fields whose records are stored beside the table first, and the bytes of these records.
+const STAGED_FIELDS: usize = 256;
+
+const STAGED_SIZE: usize = STAGED_FIELDS * FIELD_RECORD_SIZE;
+
+// Room for them.
+fn staged_room() -> [u8; STAGED_SIZE]
+    ensures { λ r. ⌜ stagedFields * fieldRecordSize ≡ length r ⌝ }
+{
+    [0; STAGED_SIZE]
+}
+
 // Split a message into its fields, and store their records in the table.
 pub fn split(message: &[u8], table: &mut [u8]) -> Answer
     ensures outcome { λ r. ⌜ Answered (splitAnswer (now (message .entry)) (now (table .entry))) (splitTable (now (message .entry)) (now (table .entry))) r (now (table .exit)) ⌝ }
@@ -194,8 +207,16 @@ pub fn split(message: &[u8], table: &mut [u8]) -> Answer
         return Answer::Refused(MESSAGE_TOO_LONG, MESSAGE_LIMIT);
     }
     let room = table.len() / FIELD_RECORD_SIZE;
-    match store_fields(message, room, &mut table[..0]) {
-        Answer::Accepted(_) => store_fields(message, room, table),
+    let mut staged = staged_room();
+    match store_fields(message, room, &mut staged) {
+        Answer::Accepted(many) => {
+            if many <= STAGED_FIELDS {
+                copy_front(table, &staged, many * FIELD_RECORD_SIZE);
+                return Answer::Accepted(many);
+            }
+            store_fields(message, room, table);
+            Answer::Accepted(many)
+        }
         Answer::Refused(number, position) => Answer::Refused(number, position),
         Answer::NoRoom(needed) => Answer::NoRoom(needed),
     }

@@ -18,3 +18,7 @@ pub record GoesOn (message : List ℕ) (at r : ℕ) : Type 0 where
   pub from : at ≤ r
   pub within : r ≤ length message
   pub same : (name end start : ℕ) → headerAt message at (inBody name end start) ≡ headerAt message r (inBody name end start)
+
+-- how many fields are stored beside the table first
+abbrev pub stagedFields : ℕ
+stagedFields = 256
