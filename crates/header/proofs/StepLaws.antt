@@ -1,13 +1,15 @@
--- What finding one field tells of the header. Assumes nothing.
-use mathlib.Core.Path.{_≡_, refl}
+-- What finding one field, and passing the bytes of a body, tells of the header. Assumes nothing.
+use mathlib.Core.Path.{_≡_, refl, _∙_}
 use mathlib.Core.List.{List}
 use Prim.Native.Nat.{ℕ, _+_, _≤_, _<_}
 use native.Mathlib.Omega.{arith}
-use lib.ListN.{length}
+use lib.ListN.{length, getD}
 use Rattle.records.specs.Believed.FieldRecords.{fieldOf}
 use Rattle.header.specs.Believed.Fields.{Header, field, ended, fault, lineStart, headerAt}
-use Rattle.header.specs.Ties.Steps.{firstOf}
+use Rattle.header.specs.Ties.Steps.{firstOf, GoesOn}
 use Rattle.header.specs.declared.fields.Next.the-variants.{Field, End, Fault}
+use Rattle.header.proofs.ByteLaws.{crlf-other, body-other}
+use Rattle.header.proofs.HeaderLaws.{body-goes}
 use Rattle.header.proofs.FieldLaws.{First, first}
 
 -- a field was found
@@ -45,3 +47,24 @@ unfolding firstOf
 gave-fault (field f rest) e = absurd (let z : _≡_ {A = ℕ} 0 1 = cc in omega arith)
 gave-fault ended e = absurd (let z : _≡_ {A = ℕ} 0 1 = cc in omega arith)
 gave-fault (fault m q) e = cc
+
+-- ---- a body that goes on
+
+-- no byte is passed
+pub goes-nowhere : (message : List ℕ) (at : ℕ) → at ≤ length message → GoesOn message at at
+goes-nowhere message at h = record { from = omega arith; within = h; same = λ name end start. refl }
+
+-- a plain byte is passed
+pub goes-plain : (message : List ℕ) (at : ℕ) → at < length message → 14 ≤ getD message at 0 → getD message at 0 ≤ 127 → GoesOn message at (at + 1)
+goes-plain message at h low high =
+    let n = body-other message at (crlf-other message at (λ e. omega arith)) in
+    record { from = omega arith; within = omega arith; same = λ name end start. body-goes message at h name end start high n }
+
+-- bytes are passed, and then others
+pub goes-both : {message : List ℕ} {at p q r : ℕ} → GoesOn message at p → GoesOn message p q → q ≡ r → GoesOn message at r
+goes-both first second e =
+    record {
+      from = omega (arith, first .from, second .from);
+      within = rw e at (second .within);
+      same = λ name end start. first .same name end start ∙ rw e at (second .same name end start);
+    }

@@ -1,5 +1,6 @@
 // Splitting a message into its header fields.
 ghost use mathlib.Core.Path.{_≡_};
+ghost use mathlib.Core.Bool.{false};
 ghost use Prim.Native.Nat.{_+_, _*_, _≤_, _<_};
 ghost use lib.ListN.{length, drop};
 ghost use lib.Seq.{sets};
@@ -73,22 +74,54 @@ fn ends_body(message: &[u8], at: usize) -> bool
     false
 }
 
-// The first byte at or after a position that may end a body or be a fault in it. Bytes from 14 to 127 do neither.
-fn past_plain(message: &[u8], at: usize) -> usize
+// Whether the byte there may end a body or be a fault in it. A byte from 14 to 127 is plain: it does neither.
+fn may_stop(message: &[u8], at: usize) -> bool
+    requires { ⌜ at < length (now message) ⌝ }
+    ensures { λ r. ⌜ (r ≡ false → GoesOn (now (message .entry)) at (at + 1)) ⌝ }
+{
+    if message[at] < 14 {
+        return true;
+    }
+    127 < message[at]
+}
+
+// The first byte at or after a position that is not plain, one byte at a time.
+fn past_plain_singly(message: &[u8], at: usize) -> usize
     requires { ⌜ at ≤ length (now message) ⌝ }
     ensures { λ r. ⌜ GoesOn (now (message .entry)) at r ⌝ }
 {
     let mut p = at;
     while p < message.len() {
-        if message[p] < 14 {
-            return p;
-        }
-        if 127 < message[p] {
+        if may_stop(message, p) {
             return p;
         }
         p += 1;
     }
     p
+}
+
+// .. four bytes at a time.
+fn past_plain(message: &[u8], at: usize) -> usize
+    requires { ⌜ at ≤ length (now message) ⌝ }
+    ensures { λ r. ⌜ GoesOn (now (message .entry)) at r ⌝ }
+{
+    let mut p = at;
+    while 4 <= message.len() - p {
+        if may_stop(message, p) {
+            return p;
+        }
+        if may_stop(message, p + 1) {
+            return p + 1;
+        }
+        if may_stop(message, p + 2) {
+            return p + 2;
+        }
+        if may_stop(message, p + 3) {
+            return p + 3;
+        }
+        p += 4;
+    }
+    past_plain_singly(message, p)
 }
 
 // The field whose body starts at a position.
