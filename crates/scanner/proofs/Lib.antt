@@ -2,6 +2,8 @@
 pub mod KindLaws
 pub mod CharacterLaws
 pub mod MoveLaws
+pub mod ByteLaws
+pub mod CursorMoves
 pub mod Meanings
 pub mod Unfolding
 pub mod Spans

@@ -156,7 +156,7 @@ stray-control CloseBracket b p folded o = absurd (miss (1 ∷ 2 ∷ []) 11 tt o)
 
 -- ---- an atom and its bytes
 
-part-more : (text : List ℕ) (start p : ℕ) → start ≤ p → p < length text → part text start p ++ (getD text p 0 ∷ []) ≡ part text start (p + 1)
+pub part-more : (text : List ℕ) (start p : ℕ) → start ≤ p → p < length text → part text start p ++ (getD text p 0 ∷ []) ≡ part text start (p + 1)
 part-more text start p h k =
     let e : p + 1 - start ≡ suc (p - start) = omega arith in
     let n : start + (p - start) ≡ p = omega arith in

@@ -2,17 +2,24 @@
 //
 // It is an array with named places, for a reference to a struct is beyond the prover's walk (docs/DECISIONS.md).
 ghost use mathlib.Core.Path.{_≡_};
-ghost use lib.ListN.{getD};
+ghost use Prim.Native.Nat.{_≤_, _<_};
+ghost use lib.ListN.{length, getD};
+ghost use Rattle.octets.specs.Believed.Classes.{quote};
 ghost use Rattle.scanner.specs.Believed.Scanning.{scanBy};
 ghost use Rattle.scanner.specs.Believed.Answers.{nextOf};
+ghost use Rattle.scanner.specs.Ties.Steps.{ReturnIsControl, DataPasses, quoteAt};
 ghost use Rattle.scanner.specs.Ties.Cursors.{classNumber, placed, moved, aheadOf};
 use crate::Class;
 use crate::Next;
+use crate::atom_class;
 use crate::next_by;
+use crate::plain_end;
 use octets::classes::AT_SIGN;
 use octets::classes::BACKSLASH;
+use octets::classes::CLOSE_BRACKET;
 use octets::classes::COLON;
 use octets::classes::COMMA;
+use octets::classes::CONTROL;
 use octets::classes::DOT;
 use octets::classes::GREATER_THAN;
 use octets::classes::LESS_THAN;
@@ -20,6 +27,8 @@ use octets::classes::LETTER;
 use octets::classes::OPEN_BRACKET;
 use octets::classes::QUOTE;
 use octets::classes::SEMICOLON;
+use octets::classes::WHITE;
+use octets::classes::class_in;
 
 // What comes next: the number of its class, its start and its end. The other places are the walk's own.
 pub const CLASS: usize = 0;
@@ -103,10 +112,77 @@ fn step_any(classes: &[u8; 256], text: &[u8], at: usize, cursor: &mut [usize; 5]
     }
 }
 
-// Move on to the symbol that comes after the one ahead.
+// The first byte at or after a position that a quoted-string may take for other than data, by a table of classes in which CR is a control byte.
+fn past_data(classes: &[u8; 256], text: &[u8], at: usize) -> usize
+    requires { ⌜ (at ≤ length (now text)) × ReturnIsControl (now classes) ⌝ }
+    ensures { λ r. ⌜ DataPasses (now (classes .entry)) (now (text .entry)) at r ⌝ }
+{
+    let mut p = at;
+    while p < text.len() {
+        let class = class_in(classes, text[p]);
+        if class < WHITE {
+            return p;
+        }
+        if class == BACKSLASH {
+            return p;
+        }
+        p += 1;
+    }
+    p
+}
+
+// Whether a quote stands at a position.
+fn quote_at(classes: &[u8; 256], text: &[u8], at: usize) -> bool
+    ensures { λ r. ⌜ r ≡ quoteAt (now (classes .entry)) (now (text .entry)) at ⌝ }
+{
+    if text.len() <= at {
+        return false;
+    }
+    class_in(classes, text[at]) == QUOTE
+}
+
+// Move on to the quoted-string whose opening quote stands at a position, fast where its data stand for themselves.
+fn step_quoted(classes: &[u8; 256], text: &[u8], at: usize, cursor: &mut [usize; 5])
+    requires { ⌜ (at < length (now text)) × (getD (now classes) (getD (now text) at 0) 0 ≡ quote) × ReturnIsControl (now classes) ⌝ }
+    ensures { λ _. ⌜ now (cursor .exit) ≡ moved (nextOf (scanBy (now (classes .entry)) (now (text .entry)) at)) (now (cursor .entry)) ⌝ }
+{
+    let end = past_data(classes, text, at + 1);
+    if !quote_at(classes, text, end) {
+        step_any(classes, text, at, cursor);
+        return;
+    }
+    put(cursor, QUOTE as usize, at, end + 1);
+}
+
+// Move on to the symbol that comes after the one ahead: white space, atoms and marks are told by few comparisons of classes.
 pub fn step(classes: &[u8; 256], text: &[u8], cursor: &mut [usize; 5])
     ensures { λ _. ⌜ now (cursor .exit) ≡ moved (nextOf (scanBy (now (classes .entry)) (now (text .entry)) (getD (now (cursor .entry)) 2 0))) (now (cursor .entry)) ⌝ }
 {
-    let at = cursor[END];
-    step_any(classes, text, at, cursor);
+    let mut p = cursor[END];
+    if class_in(classes, b'\r') != CONTROL {
+        step_any(classes, text, p, cursor);
+        return;
+    }
+    while p < text.len() {
+        let class = class_in(classes, text[p]);
+        if LETTER <= class {
+            let end = plain_end(classes, text, p + 1);
+            put(cursor, class_number(atom_class(text, p, end)), p, end);
+            return;
+        }
+        if CLOSE_BRACKET < class {
+            put(cursor, class as usize, p, p + 1);
+            return;
+        }
+        if class == QUOTE {
+            step_quoted(classes, text, p, cursor);
+            return;
+        }
+        if class != WHITE {
+            step_any(classes, text, p, cursor);
+            return;
+        }
+        p += 1;
+    }
+    put(cursor, ENDED, 0, 0);
 }

@@ -12,7 +12,7 @@ ghost use Rattle.octets.specs.Believed.Answers.{told};
 ghost use Rattle.octets.specs.declared.answers.Answer.the-variants.{Accepted, Refused};
 ghost use Rattle.scanner.specs.Believed.Answers.{bodyChecked, nextOf, nextTold, nextInBody, faultOf, scannedBy, bodyScanned};
 ghost use Rattle.scanner.specs.Believed.Categories.{ofSymbol, between, categoryOf, categoryAt};
-ghost use Rattle.scanner.specs.Ties.Steps.{StepIs, AtomEnds, CommentIs, Faultless, FaultsFrom};
+ghost use Rattle.scanner.specs.Ties.Steps.{StepIs, AtomEnds, ReturnIsControl, plainAt, PlainEnds, CommentIs, Faultless, FaultsFrom};
 ghost use Rattle.scanner.specs.Ties.Meanings.{datumAt};
 ghost use Rattle.scanner.specs.Ties.Gaps.{gapDepth, GapCategoryIs, PassedIs, PassedLow};
 ghost use Rattle.scanner.specs.declared.Gap.the-variants.{Comment as commentGap};
@@ -181,8 +181,8 @@ fn character(classes: &[u8; 256], text: &[u8], at: usize) -> Step
     }
 }
 
-// The end of an atom that has run from start up to a position.
-fn atom_end(classes: &[u8; 256], text: &[u8], start: usize, at: usize) -> usize
+// The end of an atom that has run from start up to a position, by any table of classes.
+fn atom_end_any(classes: &[u8; 256], text: &[u8], start: usize, at: usize) -> usize
     requires { ⌜ (start ≤ at) × (at ≤ length (now text)) ⌝ }
     ensures { λ r. ⌜ AtomEnds (now (classes .entry)) (now (text .entry)) start at r ⌝ }
 {
@@ -196,6 +196,75 @@ fn atom_end(classes: &[u8; 256], text: &[u8], start: usize, at: usize) -> usize
             _ => return p,
         }
     }
+}
+
+// Whether the class of the byte at a position is one that atoms are made of.
+fn plain_at(classes: &[u8; 256], text: &[u8], at: usize) -> bool
+    requires { ⌜ at < length (now text) ⌝ }
+    ensures { λ r. ⌜ r ≡ plainAt (now (classes .entry)) (now (text .entry)) at ⌝ }
+{
+    octets::classes::LETTER <= octets::classes::class_in(classes, text[at])
+}
+
+// The end of an atom that has run up to a position after which three bytes stand at most.
+fn plain_last(classes: &[u8; 256], text: &[u8], at: usize) -> usize
+    requires { ⌜ (at ≤ length (now text)) × (length (now text) ≤ at + 3) × ReturnIsControl (now classes) ⌝ }
+    ensures { λ r. ⌜ PlainEnds (now (classes .entry)) (now (text .entry)) at r ⌝ }
+{
+    if text.len() <= at {
+        return at;
+    }
+    if !plain_at(classes, text, at) {
+        return at;
+    }
+    if text.len() <= at + 1 {
+        return at + 1;
+    }
+    if !plain_at(classes, text, at + 1) {
+        return at + 1;
+    }
+    if text.len() <= at + 2 {
+        return at + 2;
+    }
+    if !plain_at(classes, text, at + 2) {
+        return at + 2;
+    }
+    at + 3
+}
+
+// The end of an atom that has run up to a position, four bytes a turn, by a table of classes in which CR is a control byte.
+fn plain_end(classes: &[u8; 256], text: &[u8], at: usize) -> usize
+    requires { ⌜ (at ≤ length (now text)) × ReturnIsControl (now classes) ⌝ }
+    ensures { λ r. ⌜ PlainEnds (now (classes .entry)) (now (text .entry)) at r ⌝ }
+{
+    let mut p = at;
+    while 4 <= text.len() - p {
+        if !plain_at(classes, text, p) {
+            return p;
+        }
+        if !plain_at(classes, text, p + 1) {
+            return p + 1;
+        }
+        if !plain_at(classes, text, p + 2) {
+            return p + 2;
+        }
+        if !plain_at(classes, text, p + 3) {
+            return p + 3;
+        }
+        p += 4;
+    }
+    plain_last(classes, text, p)
+}
+
+// The end of an atom that has run from start up to a position.
+fn atom_end(classes: &[u8; 256], text: &[u8], start: usize, at: usize) -> usize
+    requires { ⌜ (start ≤ at) × (at ≤ length (now text)) ⌝ }
+    ensures { λ r. ⌜ AtomEnds (now (classes .entry)) (now (text .entry)) start at r ⌝ }
+{
+    if octets::classes::class_in(classes, b'\r') != octets::classes::CONTROL {
+        return atom_end_any(classes, text, start, at);
+    }
+    plain_end(classes, text, at)
 }
 
 // The class of the atom that stands from start to end.

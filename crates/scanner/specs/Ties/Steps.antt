@@ -3,12 +3,16 @@ use mathlib.Core.Path.{_≡_}
 use Prim.Native.Nat.{ℕ, _+_, _≤_}
 use mathlib.Core.Bool.{Bool}
 use mathlib.Core.List.{List, [], _∷_}
+use lib.Dec.{eqb, leb, ltb}
 use lib.ListN.{length, getD}
+use Rattle.octets.specs.Believed.Choice.{both}
+use Rattle.octets.specs.Believed.Classes.{control, quote, letter}
+use Rattle.octets.specs.Believed.Octets.{returnByte}
 use Rattle.octets.specs.Believed.Text.{part}
 use Rattle.octets.specs.declared.answers.Answer.the-variants.{Accepted}
 use Rattle.scanner.specs.Believed.Kinds.{characterKind}
 use Rattle.scanner.specs.Believed.Characters.{character, charactersAt}
-use Rattle.scanner.specs.Believed.Scanning.{inAtom, inComment, atom, next, faultAt, scanFrom, scanBy}
+use Rattle.scanner.specs.Believed.Scanning.{inAtom, inQuoted, inComment, atom, next, faultAt, scanFrom, scanBy}
 use Rattle.scanner.specs.Believed.Answers.{faultOf}
 use Rattle.scanner.specs.declared.ByteKind.{ByteKind}
 use Rattle.scanner.specs.declared.ByteKind.the-variants.{White}
@@ -37,6 +41,30 @@ pub record AtomEnds (classes text : List ℕ) (start at end : ℕ) : Type 0 wher
       ≡ next (atom start end (part text start end)) (scanBy classes text end)
   pub from : at ≤ end
   pub within : end ≤ length text
+
+-- a table of classes has CR among the control bytes, so that a byte's class alone tells whether it is part of an atom
+pub record ReturnIsControl (classes : List ℕ) : Type 0 where
+  pub is-control : getD classes returnByte 0 ≡ control
+
+-- a byte's class is one that atoms are made of
+abbrev pub plainAt : List ℕ → List ℕ → ℕ → Bool
+plainAt classes text i = leb letter (getD classes (getD text i 0) 0)
+
+-- every atom that has run up to a position ends at `end`
+pub record PlainEnds (classes text : List ℕ) (at end : ℕ) : Type 0 where
+  pub atom-from : (start : ℕ) → start ≤ at → AtomEnds classes text start at end
+  pub from : at ≤ end
+  pub within : end ≤ length text
+
+-- every quoted-string whose data begin at a position has come to another, with the bytes between as its data
+pub record DataPasses (classes text : List ℕ) (at end : ℕ) : Type 0 where
+  pub same : (start : ℕ) → scanFrom classes (charactersAt text at) (inQuoted start []) ≡ scanFrom classes (charactersAt text end) (inQuoted start (part text at end))
+  pub from : at ≤ end
+  pub within : end ≤ length text
+
+-- a quote stands at a position
+abbrev pub quoteAt : List ℕ → List ℕ → ℕ → Bool
+quoteAt classes text i = both (ltb i (length text)) (eqb (getD classes (getD text i 0) 0) quote)
 
 -- after a comment scanning goes on outside
 pub record CommentEnds (classes text : List ℕ) (at start q : ℕ) : Type 0 where
