@@ -1,65 +1,105 @@
 // The inputs: a part repeated up to a size, and what is to be found in it, counted by hand in the part.
 
-// A list that RFC 733 and RFC 822 both have, with its mailboxes and its records: an angle list has a record of its own.
-struct Common {
-    name: &'static str,
-    part: &'static [u8],
-    mailboxes: usize,
+struct Part {
+    text: &'static [u8],
+    // Mailboxes where the C libraries read it too, else records.
+    addresses: usize,
+    // An angle list has a record of its own.
     records: usize,
+    // Written plainly; empty where that is not measured.
+    plain: &'static [u8],
 }
 
-// The first is measured at every size, the others show how much depends on the list.
-const COMMON: [Common; 6] = [
-    Common {
+// An input of a size is the first part that fits, as often as it fits.
+struct List {
+    name: &'static str,
+    parts: &'static [Part],
+}
+
+const fn part(text: &'static [u8], addresses: usize, records: usize) -> Part {
+    Part { text, addresses, records, plain: b"" }
+}
+
+const SHORT: Part = part(b"neuman@mad.host", 1, 1);
+
+// Lists that RFC 733 and RFC 822 both have. The first is measured at every size, the others show how much depends on the list.
+const COMMON: [List; 6] = [
+    List {
         name: "common list",
-        part: b"Al Neuman <neuman@mad.host>, childs@wgbh.org, \"Sam, Irving\" <sam@other.host> (away),\r\n irving@other.host",
-        mailboxes: 4,
-        records: 6,
+        parts: &[
+            part(
+                b"Al Neuman <neuman@mad.host>, childs@wgbh.org, \"Sam, Irving\" <sam@other.host> (away),\r\n irving@other.host",
+                4,
+                6,
+            ),
+            SHORT,
+        ],
     },
-    Common {
+    List {
         name: "mailboxes",
-        part: b"neuman@mad.host, childs@wgbh.org, sam@other.host, irving@other.host",
-        mailboxes: 4,
-        records: 4,
+        parts: &[part(b"neuman@mad.host, childs@wgbh.org, sam@other.host, irving@other.host", 4, 4)],
     },
-    Common { name: "short mailboxes", part: b"a@b, c@d, e@f, g@h", mailboxes: 4, records: 4 },
-    Common {
+    List { name: SHORT_MAILBOXES, parts: &[part(b"a@b, c@d, e@f, g@h", 4, 4)] },
+    List {
         name: "long mailboxes",
-        part: b"Alfred.E.Neuman.the.elder@some-very-long-host-name.department.example, Julia.Child.of.the.kitchen@another-long-host-name.wgbh.example",
-        mailboxes: 2,
-        records: 2,
+        parts: &[part(
+            b"Alfred.E.Neuman.the.elder@some-very-long-host-name.department.example, Julia.Child.of.the.kitchen@another-long-host-name.wgbh.example",
+            2,
+            2,
+        )],
     },
-    Common {
-        name: "names",
-        part: b"Al Neuman <neuman@mad.host>, Julia Child <childs@wgbh.org>",
-        mailboxes: 2,
-        records: 4,
-    },
-    Common {
+    List { name: "names", parts: &[part(b"Al Neuman <neuman@mad.host>, Julia Child <childs@wgbh.org>", 2, 4)] },
+    List {
         name: "quoted names",
-        part: b"\"Neuman, Al\" <neuman@mad.host>, \"Child, Julia\" <childs@wgbh.org>",
-        mailboxes: 2,
-        records: 4,
+        parts: &[part(b"\"Neuman, Al\" <neuman@mad.host>, \"Child, Julia\" <childs@wgbh.org>", 2, 4)],
     },
 ];
 
-// A list with what RFC 822 reads in its own way, dots and a domain literal, and with a group, whose mailboxes count. Routes and
+// Nearly all of its cost is that of records.
+pub const SHORT_MAILBOXES: &str = "short mailboxes";
+
+// With what RFC 822 reads in its own way, dots and a domain literal, and with a group, whose mailboxes count. Routes and
 // empty places are RFC 822 too, but libetpan reads neither.
-const LIST_822: Common = Common {
+const LIST_822: List = List {
     name: "RFC 822 list",
-    part: b"Al Neuman <neuman@mad.host>, Alfred.E.Neuman@mad.host, \"Sam, Irving\" <sam@[10.0.0.51]> (away),\r\n Cooks: childs@wgbh.org, Julia Child <julia@wgbh.org>;",
-    mailboxes: 5,
-    records: 9,
+    parts: &[
+        part(
+            b"Al Neuman <neuman@mad.host>, Alfred.E.Neuman@mad.host, \"Sam, Irving\" <sam@[10.0.0.51]> (away),\r\n Cooks: childs@wgbh.org, Julia Child <julia@wgbh.org>;",
+            5,
+            9,
+        ),
+        part(b"Al Neuman <neuman@mad.host>, \"Sam, Irving\" <sam@[10.0.0.51]> (away),\r\n Alfred.E.Neuman@mad.host", 3, 5),
+        SHORT,
+    ],
 };
 
-// A list with what only RFC 733 has: "at" in letters, an angle list and a group that are addresses themselves.
-const LIST: &[u8] = b"Al Neuman at Mad-Host, \"Sam, Irving\" <Sam at Other-Host> (away),\r\n Cooks: Childs@WGBH;";
-const LIST_RECORDS: usize = 5;
-// Around its last byte is the group.
-const LIST_AROUND: usize = 1;
-const LIST_PLAIN: &[u8] = b"Al Neuman at Mad-Host, \"Sam, Irving\" <Sam at Other-Host>, Cooks: Childs at WGBH;";
+// With what only RFC 733 has: "at" in letters, an angle list and a group that are addresses themselves.
+const LIST_733: List = List {
+    name: "RFC 733 list",
+    parts: &[
+        Part {
+            text: b"Al Neuman at Mad-Host, \"Sam, Irving\" <Sam at Other-Host> (away),\r\n Cooks: Childs@WGBH;",
+            addresses: 5,
+            records: 5,
+            plain: b"Al Neuman at Mad-Host, \"Sam, Irving\" <Sam at Other-Host>, Cooks: Childs at WGBH;",
+        },
+        Part { text: b"Childs at WGBH", addresses: 1, records: 1, plain: b"Childs at WGBH" },
+    ],
+};
 
-// Includes that lead to stored lists. A stored list is the list above, as often as it fits.
+// Around the last byte of each part is one record: the group, and the mailbox.
+const AROUND: usize = 1;
+
+// Fields count as records.
+const FIELDS: List = List {
+    name: "split",
+    parts: &[
+        part(b"Subject: Re: The Syntax in the RFC,\r\n folded once\r\n", 0, 1),
+        part(b"To: Al at WGBH\r\n", 0, 1),
+    ],
+};
+
+// Includes that lead to stored lists. A stored list is the RFC 733 list, as often as it fits.
 struct Openings {
     name: &'static str,
     // Bytes of each name.
@@ -97,16 +137,21 @@ const LETTERS: &[u8] = b"ABCDEFGHIJKLMNOPQRSTUVWXYZabcdefghijklmnopqrstuvwxyz012
 const OTHER: u8 = b'/';
 const UNSTORED: u8 = b'~';
 
-const FIELD: &[u8] = b"Subject: Re: The Syntax in the RFC,\r\n folded once\r\n";
-
 // Document 01 gives the seconds of `Monday, 21 Nov 77 1430-EST`.
 const DATE: &[u8] = b"Monday, 21 Nov 1977 14:30:00-EST";
 const DATE_SECONDS: usize = 2_457_977_400;
 
 const BETWEEN: &[u8] = b", ";
 
-pub const SIZES: [usize; 3] = [1024, 8192, 32768];
-const MIDDLE: [usize; 1] = [8192];
+// Most headers are short.
+const SIZES: [usize; 6] = [16, 110, SHORT_SIZE, ONCE, MIDDLE, LARGEST];
+pub const SHORT_SIZE: usize = 320;
+pub const MIDDLE: usize = 8192;
+pub const LARGEST: usize = 32_768;
+// The common list on both sides of the size up to which a body is read once.
+pub const ONCE: usize = 1000;
+pub const TWICE: usize = 1100;
+const COMMON_SIZES: [usize; 7] = [16, 110, SHORT_SIZE, ONCE, TWICE, MIDDLE, LARGEST];
 const DATE_SIZES: [usize; 1] = [DATE.len()];
 // The case has the size.
 const BY_STORE: [usize; 1] = [0];
@@ -118,7 +163,7 @@ pub enum Work {
     Common(usize),
     // Reading the list of RFC 822 by its edition.
     List822,
-    List,
+    List733,
     Plain,
     // Writing a list without Include, the store empty.
     Expand,
@@ -134,11 +179,11 @@ impl Work {
     // All but the openings.
     pub fn all() -> Vec<Work> {
         let mut all = Work::common();
-        all.extend([Work::List822, Work::List, Work::Plain, Work::Expand, Work::Touch, Work::Split, Work::Date]);
+        all.extend([Work::List822, Work::List733, Work::Plain, Work::Expand, Work::Touch, Work::Split, Work::Date]);
         all
     }
 
-    pub fn common() -> Vec<Work> {
+    fn common() -> Vec<Work> {
         (0..COMMON.len()).map(Work::Common).collect()
     }
 
@@ -151,24 +196,30 @@ impl Work {
         (0..OPENINGS.len()).map(Work::Openings).collect()
     }
 
+    pub fn opens(self) -> bool {
+        matches!(self, Work::Openings(_))
+    }
+
     pub fn name(self) -> String {
         match self {
             Work::Common(number) => format!("addresses, {}", COMMON[number].name),
             Work::List822 => format!("addresses, {}", LIST_822.name),
-            Work::List => "addresses, RFC 733 list".to_string(),
+            Work::List733 => format!("addresses, {}", LIST_733.name),
             Work::Plain => "plain writing".to_string(),
             Work::Expand => "expansion, no Include".to_string(),
             Work::Openings(number) => OPENINGS[number].name.to_string(),
             Work::Touch => "touch, the last byte".to_string(),
-            Work::Split => "split".to_string(),
+            Work::Split => FIELDS.name.to_string(),
             Work::Date => "date".to_string(),
         }
     }
 
+    // The most bytes of each of its inputs.
     pub fn sizes(self) -> &'static [usize] {
         match self {
             Work::Date => &DATE_SIZES,
-            Work::Common(1..) => &MIDDLE,
+            Work::Common(0) => &COMMON_SIZES,
+            Work::Common(_) => &[MIDDLE],
             Work::Openings(_) => &BY_STORE,
             _ => &SIZES,
         }
@@ -177,6 +228,7 @@ impl Work {
 
 pub struct Input {
     pub work: Work,
+    pub size: usize,
     pub text: Vec<u8>,
     pub store: Vec<u8>,
     // Addresses in it, 0 where none are read; or stored lists that are opened.
@@ -186,15 +238,22 @@ pub struct Input {
     pub found: usize,
 }
 
-// As many parts as fit into a size, and their number.
-fn repeated(part: &[u8], between: &[u8], size: usize) -> (Vec<u8>, usize) {
-    let times = (size + between.len()) / (part.len() + between.len());
-    (vec![part; times].join(between), times)
+// The first part that fits into a size, as often as it fits.
+struct Body {
+    text: Vec<u8>,
+    part: &'static Part,
+    times: usize,
 }
 
-// The length of the plain text of the list, so many times.
-fn plain_length(times: usize) -> usize {
-    times * (LIST_PLAIN.len() + BETWEEN.len()) - BETWEEN.len()
+fn body(list: &List, between: &[u8], size: usize) -> Body {
+    let part = list.parts.iter().find(|part| part.text.len() <= size).expect("a part that fits");
+    let times = (size + between.len()) / (part.text.len() + between.len());
+    Body { text: vec![part.text; times].join(between), part, times }
+}
+
+// The length of the plain text of a part, so many times.
+fn plain_length(part: &Part, times: usize) -> usize {
+    times * (part.plain.len() + BETWEEN.len()) - BETWEEN.len()
 }
 
 // The mailbox of so many bytes that ends with a letter, written plainly.
@@ -222,9 +281,9 @@ fn store(case: &Openings) -> (Vec<u8>, usize) {
     for number in 0..case.lists {
         let next = LETTERS.get(number + 1).filter(|_| number + 1 < case.lists);
         let front = next.map_or(vec![], |letter| [&include(&name(*letter)), BETWEEN].concat());
-        let (list, times) = repeated(LIST, BETWEEN, STORE_LIST - front.len());
-        store.extend(record(&name(LETTERS[number]), &[front, list].concat()));
-        parts += times;
+        let list = body(&LIST_733, BETWEEN, STORE_LIST - front.len());
+        store.extend(record(&name(LETTERS[number]), &[front, list.text].concat()));
+        parts += list.times;
     }
     (store, parts)
 }
@@ -242,39 +301,27 @@ fn openings(work: Work, case: &Openings) -> Input {
     let text = vec![include(&held); case.includes].join(BETWEEN);
     let (addresses, found) = match case.refused {
         true => (OPENING_LIMIT, TOO_MANY_OPENINGS),
-        false => (case.includes * case.lists, plain_length(case.includes * parts)),
+        false => (case.includes * case.lists, plain_length(&LIST_733.parts[0], case.includes * parts)),
     };
-    Input { work, text, store, addresses, found }
-}
-
-fn common(work: Work, list: &Common, size: usize) -> Input {
-    let (text, times) = repeated(list.part, BETWEEN, size);
-    Input { work, text, store: vec![], addresses: times * list.mailboxes, found: times * list.records }
+    Input { work, size: text.len(), text, store, addresses, found }
 }
 
 pub fn input(work: Work, size: usize) -> Input {
-    let store = vec![];
-    match work {
-        Work::Common(number) => common(work, &COMMON[number], size),
-        Work::List822 => common(work, &LIST_822, size),
-        Work::List => {
-            let (text, times) = repeated(LIST, BETWEEN, size);
-            Input { work, text, store, addresses: times * LIST_RECORDS, found: times * LIST_RECORDS }
+    let (list, between) = match work {
+        Work::Openings(number) => return openings(work, &OPENINGS[number]),
+        Work::Date => {
+            return Input { work, size, text: DATE.to_vec(), store: vec![], addresses: 0, found: DATE_SECONDS };
         }
-        Work::Plain | Work::Expand => {
-            let (text, times) = repeated(LIST, BETWEEN, size);
-            let found = plain_length(times);
-            Input { work, text, store, addresses: times * LIST_RECORDS, found }
-        }
-        Work::Openings(number) => openings(work, &OPENINGS[number]),
-        Work::Touch => {
-            let (text, times) = repeated(LIST, BETWEEN, size);
-            Input { work, text, store, addresses: times * LIST_RECORDS, found: LIST_AROUND }
-        }
-        Work::Split => {
-            let (text, times) = repeated(FIELD, b"", size);
-            Input { work, text, store, addresses: 0, found: times }
-        }
-        Work::Date => Input { work, text: DATE.to_vec(), store, addresses: 0, found: DATE_SECONDS },
-    }
+        Work::Common(number) => (&COMMON[number], BETWEEN),
+        Work::List822 => (&LIST_822, BETWEEN),
+        Work::List733 | Work::Plain | Work::Expand | Work::Touch => (&LIST_733, BETWEEN),
+        Work::Split => (&FIELDS, &b""[..]),
+    };
+    let Body { text, part, times } = body(list, between, size);
+    let found = match work {
+        Work::Plain | Work::Expand => plain_length(part, times),
+        Work::Touch => AROUND,
+        _ => times * part.records,
+    };
+    Input { work, size, text, store: vec![], addresses: times * part.addresses, found }
 }

@@ -1,148 +1,93 @@
-// The readers, each as a function that works on a desk and tells what it found.
-use crate::inputs::{Input, Work};
+// The readers, each as a function that takes a list, a store and a table, and tells what it found.
+use crate::expert;
+use crate::inputs::{Input, Work, MIDDLE};
+use crate::library::{Library, PATH};
 use crate::reader;
-use crate::reader822;
 
-// A fresh copy of an input, with a NUL after its text, and a table to write into.
-pub struct Desk {
-    pub text: Vec<u8>,
-    pub length: usize,
-    pub store: Vec<u8>,
-    pub table: Vec<u8>,
-}
-
-// Room for as many records as a message can have, and for its plain text.
-const TABLE: usize = 12 * 16_384;
-
-impl Desk {
-    pub fn new() -> Desk {
-        Desk { text: vec![], length: 0, store: vec![], table: vec![0; TABLE] }
-    }
-
-    pub fn lay(&mut self, input: &Input) {
-        self.text.clone_from(&input.text);
-        self.text.push(0);
-        self.length = input.text.len();
-        self.store.clone_from(&input.store);
-    }
-}
-
-pub type Read = fn(&mut Desk) -> usize;
+// The list comes with a NUL after it, and may be written into.
+pub type Read<'a> = Box<dyn Fn(&mut [u8], &[u8], &mut [u8]) -> usize + 'a>;
 
 pub const PROVED: &str = "proved";
 pub const BY_TABLE: &str = "proved, by table";
 pub const EDITION_822: &str = "proved, edition 822";
+pub const EXPERT: &str = "expert, two passes";
 pub const INDEPENDENT: &str = "independent";
-// The readers that write records.
-pub const WITH_RECORDS: [&str; 4] = [PROVED, BY_TABLE, EDITION_822, INDEPENDENT];
+pub const GMIME: &str = "GMime";
+pub const ETPAN: &str = "libetpan";
+pub const CCLIENT: &str = "c-client";
 // c-client holds back alarms at each allocation and release by a system call; here it is told not to.
 pub const NO_ALARMS: &str = "c-client, no alarms";
+// The readers that write records.
+pub const WITH_RECORDS: [&str; 4] = [PROVED, BY_TABLE, EDITION_822, EXPERT];
 
-mod rfc733 {
-    extern "C" {
-        pub fn rfc733_split(m: *const u8, n: usize, table: *mut u8, room: usize, told: *mut u64, three: usize);
-        pub fn rfc733_addresses(m: *const u8, n: usize, start: usize, end: usize, edition: usize, table: *mut u8, room: usize, told: *mut u64, three: usize);
-        pub fn rfc733_addresses_by_table(m: *const u8, n: usize, start: usize, end: usize, table: *mut u8, room: usize, told: *mut u64, three: usize);
-        pub fn rfc733_touch(m: *const u8, n: usize, start: usize, end: usize, place: usize, path: *mut u64, room: usize, told: *mut u64, five: usize);
-        pub fn rfc733_date(m: *const u8, n: usize, start: usize, end: usize, told: *mut u64, three: usize, value: *mut i64);
-        pub fn rfc733_plain(m: *const u8, n: usize, start: usize, end: usize, text: *mut u8, room: usize, told: *mut u64, three: usize);
-        pub fn rfc733_expand(m: *const u8, n: usize, start: usize, end: usize, store: *const u8, size: usize, text: *mut u8, room: usize, told: *mut u64, four: usize);
+// A reader of one of our own kinds, which need no NUL.
+fn ours<'a>(read: impl Fn(&[u8], &[u8], &mut [u8]) -> u64 + 'a) -> Read<'a> {
+    Box::new(move |text, store, table| read(&text[..text.len() - 1], store, table) as usize)
+}
+
+fn addresses(library: &Library, edition: usize) -> Read<'_> {
+    ours(move |text, _, table| library.addresses(text, 0, text.len(), edition, table)[2])
+}
+
+fn by_table(library: &Library) -> Read<'_> {
+    ours(|text, _, table| library.addresses_by_table(text, 0, text.len(), table)[2])
+}
+
+// The length of the text, or the number of the refusal.
+fn expand(library: &Library) -> Read<'_> {
+    ours(|text, store, table| {
+        let told = library.expand(text, store, table);
+        told[0] + told[2]
+    })
+}
+
+// What a library has for a work.
+pub fn proved(work: Work, library: &Library) -> Vec<(&'static str, Read<'_>)> {
+    let one = |read| vec![(PROVED, read)];
+    match work {
+        Work::Common(_) => vec![
+            (PROVED, addresses(library, 733)),
+            (BY_TABLE, by_table(library)),
+            (EDITION_822, addresses(library, 822)),
+        ],
+        Work::List822 => one(addresses(library, 822)),
+        Work::List733 => vec![(PROVED, addresses(library, 733)), (BY_TABLE, by_table(library))],
+        Work::Plain => one(ours(|text, _, table| library.plain(text, table)[2])),
+        Work::Expand | Work::Openings(_) => one(expand(library)),
+        Work::Touch => one(ours(|text, _, _| library.touch(text, text.len() - 1)[2])),
+        Work::Split => one(ours(|text, _, table| library.split(text, table)[2])),
+        Work::Date => one(ours(|text, _, _| library.date(text) as u64)),
     }
 }
 
-// A function of the library that reads a list and writes into lent room.
-macro_rules! proved {
-    ($wrapper:ident, $function:ident $(, $edition:literal)?) => {
-        fn $wrapper(desk: &mut Desk) -> usize {
-            let (n, room, mut told) = (desk.length, desk.table.len(), [0u64; 3]);
-            unsafe { rfc733::$function(desk.text.as_ptr(), n, 0, n, $($edition,)? desk.table.as_mut_ptr(), room, told.as_mut_ptr(), 3) };
-            told[2] as usize
-        }
-    };
+fn expert() -> Read<'static> {
+    ours(|text, _, table| expert::addresses(text, 0, text.len(), table)[2])
 }
 
-proved!(proved_addresses, rfc733_addresses, 733);
-proved!(proved_addresses_822, rfc733_addresses, 822);
-proved!(proved_by_table, rfc733_addresses_by_table);
-proved!(proved_plain, rfc733_plain);
-
-// The length of the text, or the number of the refusal.
-fn proved_expand(desk: &mut Desk) -> usize {
-    let (n, size, room, mut told) = (desk.length, desk.store.len(), desk.table.len(), [0u64; 4]);
-    let (text, store, table) = (desk.text.as_ptr(), desk.store.as_ptr(), desk.table.as_mut_ptr());
-    unsafe { rfc733::rfc733_expand(text, n, 0, n, store, size, table, room, told.as_mut_ptr(), 4) };
-    (told[0] + told[2]) as usize
+// What the independent reader has for a work; of addresses the expert is measured.
+fn independent(work: Work) -> Read<'static> {
+    match work {
+        Work::Plain => ours(|text, _, table| reader::plain(text, 0, text.len(), table).count),
+        Work::Touch => ours(|text, _, _| reader::touch(text, 0, text.len(), text.len() - 1, &mut [0; PATH])[2]),
+        Work::Split => ours(|text, _, table| reader::split(text, table).count),
+        Work::Date => ours(|text, _, _| reader::date(text, 0, text.len()).1 as u64),
+        _ => ours(|text, store, table| {
+            let (told, _) = reader::expand(text, 0, text.len(), store, table);
+            told.number + told.count
+        }),
+    }
 }
 
-fn proved_touch(desk: &mut Desk) -> usize {
-    let (n, mut path, mut told) = (desk.length, [0u64; 65], [0u64; 5]);
-    unsafe { rfc733::rfc733_touch(desk.text.as_ptr(), n, 0, n, n - 1, path.as_mut_ptr(), 65, told.as_mut_ptr(), 5) };
-    told[2] as usize
-}
-
-fn proved_split(desk: &mut Desk) -> usize {
-    let (n, room, mut told) = (desk.length, desk.table.len(), [0u64; 3]);
-    unsafe { rfc733::rfc733_split(desk.text.as_ptr(), n, desk.table.as_mut_ptr(), room, told.as_mut_ptr(), 3) };
-    told[2] as usize
-}
-
-fn proved_date(desk: &mut Desk) -> usize {
-    let (n, mut told, mut value) = (desk.length, [0u64; 3], 0i64);
-    unsafe { rfc733::rfc733_date(desk.text.as_ptr(), n, 0, n, told.as_mut_ptr(), 3, &mut value) };
-    value as usize
-}
-
-fn independent_addresses(desk: &mut Desk) -> usize {
-    reader::addresses(&desk.text[..desk.length], 0, desk.length, &mut desk.table).count as usize
-}
-
-fn independent_addresses_822(desk: &mut Desk) -> usize {
-    reader822::addresses(&desk.text[..desk.length], 0, desk.length, 822, &mut desk.table).count as usize
-}
-
-fn independent_plain(desk: &mut Desk) -> usize {
-    reader::plain(&desk.text[..desk.length], 0, desk.length, &mut desk.table).count as usize
-}
-
-fn independent_expand(desk: &mut Desk) -> usize {
-    let (told, _) = reader::expand(&desk.text[..desk.length], 0, desk.length, &desk.store, &mut desk.table);
-    (told.number + told.count) as usize
-}
-
-fn independent_touch(desk: &mut Desk) -> usize {
-    let (n, mut path) = (desk.length, [0u64; 65]);
-    reader::touch(&desk.text[..n], 0, n, n - 1, &mut path)[2] as usize
-}
-
-fn independent_split(desk: &mut Desk) -> usize {
-    reader::split(&desk.text[..desk.length], &mut desk.table).count as usize
-}
-
-fn independent_date(desk: &mut Desk) -> usize {
-    reader::date(&desk.text[..desk.length], 0, desk.length).1 as usize
-}
-
-// A C library's function that counts the mailboxes of a list with a NUL after it.
+// A C library's function that counts the mailboxes of a list.
 #[allow(unused_macros)]
 macro_rules! library {
-    ($wrapper:ident, $function:ident) => {
-        fn $wrapper(desk: &mut Desk) -> usize {
-            extern "C" {
-                fn $function(list: *mut u8, length: usize) -> usize;
-            }
-            unsafe { $function(desk.text.as_mut_ptr(), desk.length) }
+    ($function:ident) => {{
+        extern "C" {
+            fn $function(list: *mut u8, length: usize) -> usize;
         }
-    };
+        Box::new(|text: &mut [u8], _: &[u8], _: &mut [u8]| unsafe { $function(text.as_mut_ptr(), text.len() - 1) })
+    }};
 }
-
-#[cfg(gmime)]
-library!(gmime, gmime_addresses);
-#[cfg(etpan)]
-library!(etpan, etpan_addresses);
-#[cfg(cclient)]
-library!(cclient, cclient_addresses);
-#[cfg(cclient)]
-library!(cclient_quiet, cclient_quiet_addresses);
 
 // What a library does once, before anything is measured.
 pub fn begin() {
@@ -157,43 +102,31 @@ pub fn begin() {
 
 // The C libraries that are here.
 #[allow(unused_mut)]
-fn libraries() -> Vec<(&'static str, Read)> {
+fn libraries() -> Vec<(&'static str, Read<'static>)> {
     let mut here: Vec<(&'static str, Read)> = vec![];
     #[cfg(gmime)]
-    here.push(("GMime", gmime));
+    here.push((GMIME, library!(gmime_addresses)));
     #[cfg(etpan)]
-    here.push(("libetpan", etpan));
+    here.push((ETPAN, library!(etpan_addresses)));
     #[cfg(cclient)]
-    here.extend([("c-client", cclient as Read), (NO_ALARMS, cclient_quiet)]);
+    here.push((CCLIENT, library!(cclient_addresses)));
+    #[cfg(cclient)]
+    here.push((NO_ALARMS, library!(cclient_quiet_addresses)));
     here
 }
 
-// The proved functions and the independent one for a work.
-fn ours(work: Work) -> Vec<(&'static str, Read)> {
-    match work {
-        Work::Common(_) => vec![
-            (PROVED, proved_addresses),
-            (BY_TABLE, proved_by_table),
-            (EDITION_822, proved_addresses_822),
-            (INDEPENDENT, independent_addresses),
-        ],
-        Work::List822 => vec![(PROVED, proved_addresses_822), (INDEPENDENT, independent_addresses_822)],
-        Work::List => {
-            vec![(PROVED, proved_addresses), (BY_TABLE, proved_by_table), (INDEPENDENT, independent_addresses)]
+// The readers of an input beside the proved ones, and what each is to find.
+pub fn others(input: &Input) -> Vec<(&'static str, Read<'static>, usize)> {
+    let mut all = match input.work {
+        Work::Common(_) | Work::List733 => vec![(EXPERT, expert(), input.found)],
+        Work::Date | Work::Openings(_) => vec![(INDEPENDENT, independent(input.work), input.found)],
+        Work::Plain | Work::Expand | Work::Touch | Work::Split if input.size == MIDDLE => {
+            vec![(INDEPENDENT, independent(input.work), input.found)]
         }
-        Work::Plain => vec![(PROVED, proved_plain), (INDEPENDENT, independent_plain)],
-        Work::Expand | Work::Openings(_) => vec![(PROVED, proved_expand), (INDEPENDENT, independent_expand)],
-        Work::Touch => vec![(PROVED, proved_touch), (INDEPENDENT, independent_touch)],
-        Work::Split => vec![(PROVED, proved_split), (INDEPENDENT, independent_split)],
-        Work::Date => vec![(PROVED, proved_date), (INDEPENDENT, independent_date)],
-    }
-}
-
-// The readers of an input, and what each is to find.
-pub fn readers(input: &Input) -> Vec<(&'static str, Read, usize)> {
-    let mut all: Vec<_> = ours(input.work).iter().map(|(name, read)| (*name, *read, input.found)).collect();
+        _ => vec![],
+    };
     if input.work.for_libraries() {
-        all.extend(libraries().iter().map(|(name, read)| (*name, *read, input.addresses)));
+        all.extend(libraries().into_iter().map(|(name, read)| (name, read, input.addresses)));
     }
     all
 }
