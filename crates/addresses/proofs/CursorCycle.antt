@@ -53,9 +53,9 @@ module _ (classes text : List ℕ) where
   pub none-ahead : (before : List ℕ) (levels parent : ℕ) {class : Class} → aheadOf (getD before 0 0) ≡ Symbol class → beginsNone class ≡ true → (table : List ℕ) (r : Bool) (after : List ℕ) → reading r after ≡ refusedNext (length text) (nextIn before)
       → AddressAhead classes text before levels parent table table r after
   none-ahead before levels parent {class} e b table r after q = (
-      rw (q ∙ refused-symbol (length text) before e, found-in before e) (none-begins classes text class (getD before 1 0) (getD before 2 0) (frameAt levels parent before) b),
-      refused-onward classes text (faultFrom classes text (getD before 2 0)) (length text) (nextIn before) r after q,
-    )
+    rw (q ∙ refused-symbol (length text) before e, found-in before e) (none-begins classes text class (getD before 1 0) (getD before 2 0) (frameAt levels parent before) b),
+    refused-onward classes text (faultFrom classes text (getD before 2 0)) (length text) (nextIn before) r after q,
+  )
 
   -- an angle list without a name
   pub angle-ahead : (before : List ℕ) (levels parent : ℕ) → aheadOf (getD before 0 0) ≡ Symbol (opening Angle) → (table after : List ℕ) (r : Bool) (cursor : List ℕ)
@@ -106,23 +106,23 @@ module _ (classes text : List ℕ) where
 
     pub from-lone : (table after : List ℕ) (r : Bool) (cursor : List ℕ) → LoneIs classes text now levels parent lone the-name table after r cursor → AddressAhead classes text before levels parent table after r cursor
     from-lone table after r cursor x = (
-        rw (found-in before (p .ahead-is), ← (w .free-kept))
-        (x .0 _ _ (named-is classes text (p .class) (p .first) (w .words)) (named-lone classes text (p .class) (getD before 1 0) (getD before 2 0) (p .quoted-is) (w .words))),
-        onward-from (w .goes-on .same) r cursor (x .1),
-      )
+      rw (found-in before (p .ahead-is), ← (w .free-kept))
+          (x .0 _ _ (named-is classes text (p .class) (p .first) (w .words)) (named-lone classes text (p .class) (getD before 1 0) (getD before 2 0) (p .quoted-is) (w .words))),
+      onward-from (w .goes-on .same) r cursor (x .1),
+    )
 
     pub from-mailbox : aheadOf (getD now 0 0) ≡ Symbol At → (table after : List ℕ) (r : Bool) (cursor : List ℕ) → MailboxIs classes text now levels parent the-name table after r cursor → AddressAhead classes text before levels parent table after r cursor
     from-mailbox e table after r cursor x = (
-        rw (found-in before (p .ahead-is), ← (w .free-kept)) (x .0 _ _ (named-before classes text (named-is classes text (p .class) (p .first) (w .words)) (found-in now e))),
-        onward-from (w .goes-on .same ∙ ap (faultAhead classes text) (found-in now e)) r cursor (x .1),
-      )
+      rw (found-in before (p .ahead-is), ← (w .free-kept)) (x .0 _ _ (named-before classes text (named-is classes text (p .class) (p .first) (w .words)) (found-in now e))),
+      onward-from (w .goes-on .same ∙ ap (faultAhead classes text) (found-in now e)) r cursor (x .1),
+    )
 
     pub from-enclosed : (enclosure : Enclosure) → aheadOf (getD now 0 0) ≡ Symbol (opening enclosure) → (table after : List ℕ) (r : Bool) (cursor : List ℕ) → EnclosedIs classes text now levels parent enclosure the-name table after r cursor
         → AddressAhead classes text before levels parent table after r cursor
     from-enclosed enclosure e table after r cursor x = (
-        rw (found-in before (p .ahead-is), ← (w .free-kept)) (x .0 _ (named-opening classes text enclosure (named-before classes text (named-is classes text (p .class) (p .first) (w .words)) (found-in now e)))),
-        onward-from (w .goes-on .same ∙ ap (faultAhead classes text) (found-in now e)) r cursor (x .1),
-      )
+      rw (found-in before (p .ahead-is), ← (w .free-kept)) (x .0 _ (named-opening classes text enclosure (named-before classes text (named-is classes text (p .class) (p .first) (w .words)) (found-in now e)))),
+      onward-from (w .goes-on .same ∙ ap (faultAhead classes text) (found-in now e)) r cursor (x .1),
+    )
 
   -- ---- an enclosed list
 
@@ -153,9 +153,9 @@ module _ (classes text : List ℕ) where
 
     pub enclosed-inside : (levels ≡ 0 → ⊥) → (table after : List ℕ) (cursor : List ℕ) → ListIs classes text (set before 3 (freeIn before + 1)) (levels - 1) (freeIn before + 1) table after false cursor → EnclosedIs classes text before levels parent enclosure name table after false cursor
     enclosed-inside n table after cursor x = (
-        λ xs o. inside-stops classes text enclosure (frameAt levels parent before) o n (list-in table after false cursor (x .0)),
-        tt,
-      )
+      λ xs o. inside-stops classes text enclosure (frameAt levels parent before) o n (list-in table after false cursor (x .0)),
+      tt,
+    )
 
     pub enclosed-done : (levels ≡ 0 → ⊥) → (table between after : List ℕ) (now : List ℕ) (r : Bool) (cursor : List ℕ) → ListIs classes text (set before 3 (freeIn before + 1)) (levels - 1) (freeIn before + 1) table between true now
         → CloseIs classes text now (frameAt levels parent before) enclosure name between after r cursor → EnclosedIs classes text before levels parent enclosure name table after r cursor
@@ -180,9 +180,9 @@ module _ (classes text : List ℕ) where
 
       pub from-typed : (table after : List ℕ) (r : Bool) (cursor : List ℕ) → TypedIs classes text now levels parent (getD before 1 0) the-atom table after r cursor → AddressAhead classes text before levels parent table after r cursor
       from-typed table after r cursor x = (
-          rw (found-in before (p .ahead-is), ← (w .free-kept)) (x .0 (getD before 2 0) typed-first),
-          onward-from (w .faults) r cursor (x .1),
-        )
+        rw (found-in before (p .ahead-is), ← (w .free-kept)) (x .0 (getD before 2 0) typed-first),
+        onward-from (w .faults) r cursor (x .1),
+      )
 
     module _ (w : NamelessOn classes text before now) where
       abbrev back : List ℕ
@@ -216,12 +216,11 @@ module _ (classes text : List ℕ) where
             sized = put-back .sized;
           }
 
-
       from-nameless : (table after : List ℕ) (r : Bool) (cursor : List ℕ) → EnclosedIs classes text back levels parent Group no-name table after r cursor → AddressAhead classes text before levels parent table after r cursor
       from-nameless table after r cursor x = (
-          rw (found-in before (p .ahead-is), ← (put-back .free)) (x .0 _ record { name = none; yields = rw (put-back .start, put-back .end); start-is = sym (put-back .start); end-is = sym (put-back .start); house = rw (put-back .end) (w .no-atom) }),
-          onward-from (ap (faultFrom classes text) (sym (put-back .end))) r cursor (x .1),
-        )
+        rw (found-in before (p .ahead-is), ← (put-back .free)) (x .0 _ record { name = none; yields = rw (put-back .start, put-back .end); start-is = sym (put-back .start); end-is = sym (put-back .start); house = rw (put-back .end) (w .no-atom) }),
+        onward-from (ap (faultFrom classes text) (sym (put-back .end))) r cursor (x .1),
+      )
 
     -- .. told of a cursor that was put back
     module _ (w : NamelessOn classes text before now) (then : List ℕ) (e : then ≡ placed colon (getD before 1 0) (getD before 2 0) now) where
@@ -258,9 +257,9 @@ module _ (classes text : List ℕ) where
     module _ (n : levels ≡ 0 → ⊥) (now : List ℕ) (x : Stepped classes text before now) where
       pub typed-refused : endsAhead (aheadOf (getD now 0 0)) ≡ true → (table : List ℕ) (r : Bool) (after : List ℕ) → reading r after ≡ refusedNext (length text) (nextIn now) → TypedIs classes text before levels parent start atom table table r after
       typed-refused e table r after q = (
-          λ end t. rw q (typed-wanted classes text t n (nextIn now) (x .next) start table table (ends-in now e)),
-          refused-onward classes text (faultFrom classes text (getD before 2 0)) (length text) (nextIn now) r after q,
-        )
+        λ end t. rw q (typed-wanted classes text t n (nextIn now) (x .next) start table table (ends-in now e)),
+        refused-onward classes text (faultFrom classes text (getD before 2 0)) (length text) (nextIn now) r after q,
+      )
 
       abbrev taken : List ℕ
       taken = set now 3 (freeIn now + 1)
@@ -303,9 +302,9 @@ module _ (classes text : List ℕ) where
             → after ≡ sets between (freeIn now * addressRecordSize) (recordBytes (recordBy (kindNumber (typedKind (part text (atom .start) (atom .end)))) (levelLimit - levels) parent start (lastIn cursor) (atom .start) (atom .end)))
             → TypedIs classes text before levels parent start atom table after true cursor
         typed-done table between after cursor a w = (
-            λ end t. typed-read classes text t n first table between after (child-is table between true cursor a) (rw (x .free-kept) at w),
-            record { same = first .faults ∙ ap (faultFrom classes text) (sym (kept-now .end)) ∙ a .1 .same; sized = a .1 .sized },
-          )
+          λ end t. typed-read classes text t n first table between after (child-is table between true cursor a) (rw (x .free-kept) at w),
+          record { same = first .faults ∙ ap (faultFrom classes text) (sym (kept-now .end)) ∙ a .1 .same; sized = a .1 .sized },
+        )
 
   -- ---- a list
 

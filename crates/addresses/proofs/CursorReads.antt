@@ -180,9 +180,9 @@ module _ (classes text : List ℕ) where
     pub lone-refused : {lone : Bool} → (lone ≡ false) ⊎ (endsAhead (aheadOf (getD before 0 0)) ≡ false) → (table : List ℕ) (r : Bool) (after : List ℕ) → reading r after ≡ refusedNext (length text) (nextIn before)
         → LoneIs classes text before levels parent lone name table table r after
     lone-refused o table r after e = (
-        λ xs phrase p q. rw e (lone-stops classes text phrase (frameAt levels parent before) (name .start) table table (nextIn before) p (m .lone .no-mark) (elim o [ inl f ↦ inl (sym q ∙ f) | inr f ↦ inr (ends-in before f) ])),
-        refused-onward classes text (faultAhead classes text (nextIn before)) (length text) (nextIn before) r after e,
-      )
+      λ xs phrase p q. rw e (lone-stops classes text phrase (frameAt levels parent before) (name .start) table table (nextIn before) p (m .lone .no-mark) (elim o [ inl f ↦ inl (sym q ∙ f) | inr f ↦ inr (ends-in before f) ])),
+      refused-onward classes text (faultAhead classes text (nextIn before)) (length text) (nextIn before) r after e,
+    )
 
   -- ---- the end of an enclosed list
 
@@ -190,17 +190,17 @@ module _ (classes text : List ℕ) where
     -- it is not closed
     pub close-refused : closesAhead e (aheadOf (getD before 0 0)) ≡ false → (between : List ℕ) (r : Bool) (after : List ℕ) → reading r after ≡ refusedNext (length text) (nextIn before) → CloseIs classes text before frame e name between between r after
     close-refused f between r after q = (
-        λ xs a b low table o p n l. rw q (unclosed-stops classes text e frame o n (nextIn before) l (name .start) between (closes-in e before f)),
-        refused-onward classes text (faultAhead classes text (nextIn before)) (length text) (nextIn before) r after q,
-      )
+      λ xs a b low table o p n l. rw q (unclosed-stops classes text e frame o n (nextIn before) l (name .start) between (closes-in e before f)),
+      refused-onward classes text (faultAhead classes text (nextIn before)) (length text) (nextIn before) r after q,
+    )
 
     module _ (now : List ℕ) (f : closesAhead e (aheadOf (getD before 0 0)) ≡ true) (x : Stepped classes text before now) where
       -- what follows it may not
       pub behind-refused : endsAhead (aheadOf (getD now 0 0)) ≡ false → (between : List ℕ) (r : Bool) (after : List ℕ) → reading r after ≡ refusedNext (length text) (nextIn now) → CloseIs classes text before frame e name between between r after
       behind-refused g between r after q = (
-          λ xs a b low table o p n l. rw q (behind-stops classes text e frame o n (rw (found-in before (closing-in e before f .ahead-is)) at l) (closing-in e before f .passes) (nextIn now) (x .next) (ends-in now g) (name .start) between),
-          refused-onward classes text (faultAhead classes text (nextIn before)) (length text) (nextIn now) r after q,
-        )
+        λ xs a b low table o p n l. rw q (behind-stops classes text e frame o n (rw (found-in before (closing-in e before f .ahead-is)) at l) (closing-in e before f .passes) (nextIn now) (x .next) (ends-in now g) (name .start) between),
+        refused-onward classes text (faultAhead classes text (nextIn before)) (length text) (nextIn now) r after q,
+      )
 
       pub close-done : endsAhead (aheadOf (getD now 0 0)) ≡ true → (between after : List ℕ)
           → after ≡ sets between (frame .number * addressRecordSize) (recordBytes (recordBy (enclosureKind e) (levelLimit - frame .levels) (frame .parent) (name .start) (getD before 2 0) (name .start) (name .end)))

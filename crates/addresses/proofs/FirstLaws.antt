@@ -26,11 +26,11 @@ use Rattle.grammar.specs.Executable.Machine733.{answer}
 use Rattle.grammar.specs.declared.Whole.{Whole}
 use Rattle.grammar.specs.declared.Whole.the-variants as whole
 use Rattle.grammar.specs.declared.Whole.the-variants.{Listed}
-use Rattle.addresses.specs.Ties.Steps.{freeIn, faultAhead, ListIs}
+use Rattle.addresses.specs.Ties.Steps.{freeIn, faultAhead, ListStops, ListIs}
 use Rattle.addresses.specs.Ties.Whole.{endsWithin, EndsWithin, IsListed, IsRefused, WholeIs, TwiceIs, ListedClean, WholeFirst, FaultFirst}
 use Rattle.addresses.proofs.CursorSteps.{found-in}
 use Rattle.addresses.proofs.AnyEdition.{twice-refused, twice-no-room, twice-written}
-use Rattle.addresses.proofs.WholeLaws.{verdict-listed, verdict-stops, verdict-closed, whole-listed, whole-stops, whole-closed}
+use Rattle.addresses.proofs.WholeLaws.{outermost, verdict-listed, verdict-stops, verdict-closed, whole-listed, whole-stops, whole-closed}
 
 -- the cursor with which a body is entered
 abbrev pub origin : ℕ → List ℕ
@@ -78,8 +78,8 @@ module _ (classes text : List ℕ) where
     pub within-behind : {a : Ahead} → a ≡ aheadOf (getD cursor 0 0) → OneOf (0 ∷ 2 ∷ []) (tagOf ahead-declared.the-type a) → EndsWithin classes text limit at false
     within-behind {a} e o = record { clean = within-from a (sym e) o; faulty = λ n p q. refl }
 
-  pub within-stops : (limit at : ℕ) (table after cursor : List ℕ) → ListIs classes text (origin at) limit 0 table after false cursor → EndsWithin classes text limit at false
-  within-stops limit at table after cursor l = record { clean = λ f. rw (verdict-stops classes text limit at (l .0)) refl; faulty = λ n p q. refl }
+  pub within-stops : (limit at : ℕ) {number-told place : ℕ} → ListStops classes text at (outermost limit) number-told place → EndsWithin classes text limit at false
+  within-stops limit at s = record { clean = λ f. rw (verdict-stops classes text limit at s) refl; faulty = λ n p q. refl }
 
   -- ---- the first run
 

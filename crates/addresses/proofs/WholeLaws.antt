@@ -5,15 +5,15 @@ use Prim.Native.Nat.{ℕ}
 use native.Mathlib.Nat.{zero-add}
 use native.Mathlib.Omega.{arith}
 use lib.ListN.{take}
-use lib.Seq.{sets}
+use lib.Seq.{sets, length-take-le}
 use Rattle.octets.specs.Believed.Classes.{classTable}
 use Rattle.octets.specs.Believed.Numbers.{levelLimit, noListGoesOn}
 use Rattle.octets.specs.declared.answers.Answer.{Answer}
-use Rattle.octets.specs.declared.answers.Answer.the-variants.{Refused}
+use Rattle.octets.specs.declared.answers.Answer.the-variants.{Accepted, Refused}
 use Rattle.octets.proofs.AnswerLaws.{answered}
 use Rattle.records.specs.Believed.AddressRecords.{tableBytes}
-use Rattle.scanner.specs.Believed.Answers.{bodyScanned}
-use Rattle.scanner.proofs.BodyChecks.{Clean, when-refused}
+use Rattle.scanner.specs.Believed.Answers.{bodyChecked}
+use Rattle.scanner.proofs.BodyChecks.{Ordered, refused-body, clean-body, body-case, when-refused, not-passed, in-its-order}
 use Rattle.scanner.specs.declared.Next.{Next}
 use Rattle.scanner.specs.Believed.Answers.{foundAt}
 use Rattle.grammar.specs.Believed.Language.{unfit, accepted, refused}
@@ -29,7 +29,7 @@ use Rattle.addresses.specs.Believed.Editions.{edition733}
 use Rattle.addresses.specs.Believed.Outcome.{Outcome, AnsweredBy, refusal, outcome}
 use Rattle.addresses.specs.Believed.Condition3.{Condition3}
 use Rattle.addresses.specs.Ties.Steps.{symbolsFrom, symbolsAhead, lexemeAt, ListRead, ListStops}
-use Rattle.addresses.specs.Ties.Whole.{IsListed, IsRefused, TwiceIs}
+use Rattle.addresses.specs.Ties.Whole.{Fitting, IsListed, IsRefused, FaultFirst}
 use Rattle.addresses.specs.declared.Frame.{Frame}
 use Rattle.addresses.proofs.AnyEdition as any
 
@@ -89,12 +89,23 @@ promised message start end table o e =
     let a : AnsweredBy (outcome message start end table) (o .answer) (o .table) = answered (ap (λ (z : Outcome). z .answer) (sym e)) (ap (λ (z : Outcome). z .table) (sym e)) in
     (a, settles message start end table (o .answer) (o .table) a)
 
--- a body that is refused by the checks or by a fault, and one that is clean
-pub refused-promised : (message : List ℕ) (start end : ℕ) (table : List ℕ) {n p : ℕ} → Refused n p ≡ bodyScanned message start end → Promised message start end table (Refused n p) table
-refused-promised message start end table {n} {p} e = promised message start end table (refusal table n p) (when-refused message start end (refusal table) _ e)
+-- a body that the checks refuse
+pub unfit-promised : (message : List ℕ) (start end : ℕ) (table : List ℕ) {n p : ℕ} → Refused n p ≡ bodyChecked Refused message start end (Accepted 0) → Promised message start end table (Refused n p) table
+unfit-promised message start end table {n} {p} e = promised message start end table (refusal table n p) (not-passed message start end (refusal table) _ e)
 
-pub twice-promised : (message : List ℕ) (start end : ℕ) (table after : List ℕ) (r : Answer) → Clean message start end
-    → TwiceIs (answer levelLimit) classTable (take end message) start table after r → Promised message start end table r after
-twice-promised message start end table after r c x =
-    let o = any.twice-outcome edition733 (answer levelLimit) message start end (c .short) (c .ordered) (c .inside) (c .faultless) x in
-    (o, settles message start end table r after o)
+-- a body that they pass: what is told first is its first fault, and then what is decided
+pub first-promised : (message : List ℕ) (start end : ℕ) (table after : List ℕ) (r : Answer) → Ordered message start end
+    → FaultFirst (answer levelLimit) classTable (take end message) start table after r → Promised message start end table r after
+first-promised message start end table after r o x =
+    elim (body-case message start end) [
+      | refused-body n p e ↦
+          let q = x .faulty n p (e ∙ in-its-order message start end Refused _ o) in
+          rw (q .0, q .1) (promised message start end table (refusal table n p) (when-refused message start end (refusal table) _ e))
+      | clean-body c ↦
+          let y = any.twice-outcome edition733 (answer levelLimit) message start end (c .short) (c .ordered) (c .inside) (c .faultless) (x .clean (record { none = c .faultless })) in
+          (y, settles message start end table r after y)
+    ]
+
+-- .. may be read
+pub fitting : {message : List ℕ} {start end : ℕ} → Ordered message start end → Fitting (take end message) start
+fitting {message} {end = end} o = let n = length-take-le end message (o .inside) in record { inside = omega (arith, n, o .ordered); short = omega (arith, n, o .inside, o .short) }

@@ -9,10 +9,10 @@ use lib.ListN.{length}
 use lib.Seq.{take-length}
 use Rattle.octets.specs.Believed.Classes.{classTable}
 use Rattle.octets.specs.Believed.Numbers.{levelLimit}
-use Rattle.octets.specs.declared.answers.Answer.the-variants.{Refused}
-use Rattle.scanner.specs.Believed.Answers.{bodyScanned}
+use Rattle.octets.specs.declared.answers.Answer.the-variants.{Accepted, Refused}
+use Rattle.scanner.specs.Believed.Answers.{bodyChecked, bodyScanned}
 use Rattle.scanner.specs.declared.Class.{Class}
-use Rattle.scanner.proofs.BodyChecks.{Clean, refused-body, clean-body, body-case, when-refused}
+use Rattle.scanner.proofs.BodyChecks.{Clean, Ordered, refused-body, clean-body, body-case, when-refused, not-passed, in-its-order}
 use Rattle.grammar.specs.Believed.Grammar.{levels}
 use Rattle.grammar.specs.Believed.Language.{Verdict, accepted, refused}
 use Rattle.grammar.specs.Believed.Rfc733.{Derivation}
@@ -21,13 +21,13 @@ use Rattle.grammar.proofs.Rfc733.Condition3.{answer-accepts, answer-derives}
 use Rattle.addresses.specs.Believed.Editions.{bodySymbols}
 use Rattle.addresses.specs.Believed.Outcome.{byVerdict}
 use Rattle.addresses.specs.Ties.Steps.{symbolsFrom}
-use Rattle.addresses.specs.Ties.Whole.{Body, endsWithin}
+use Rattle.addresses.specs.Ties.Whole.{Fitting, EndsWithin}
 use Rattle.addresses.specs.Believed.Within.{listWithin}
 use Rattle.addresses.proofs.Judgements.{ListBody, decided-read, list-body}
 
 -- a whole text may be read
-pub whole-text : {text : List ℕ} → Clean text 0 (length text) → Body classTable text 0
-whole-text {text} x = record { inside = x .ordered; short = x .short; faultless = record { none = rw (take-length text) at (x .faultless) } }
+pub whole-text : {text : List ℕ} → Ordered text 0 (length text) → Fitting text 0
+whole-text x = record { inside = x .ordered; short = x .short }
 
 module _ (limit : ℕ) (text : List ℕ) where
   -- a text that is too long or has a fault is no list ..
@@ -38,9 +38,17 @@ module _ (limit : ℕ) (text : List ℕ) where
   within-decided : Clean text 0 (length text) → {v : Verdict Class Derivation} → answer (min limit levelLimit) (bodySymbols text 0 (length text)) ≡ v → listWithin limit text ≡ byVerdict (λ n p. false) (λ k. true) (length text) v
   within-decided x e = decided-read text 0 (length text) (x .short) (x .ordered) (x .inside) (min limit levelLimit) (x .faultless) e (λ n p. false) (λ k. true)
 
-  -- .. as the reader finds it, with the levels that count
-  pub within-told : Clean text 0 (length text) → (used : ℕ) → min limit levelLimit ≡ used → {r : Bool} → r ≡ endsWithin classTable text used 0 → r ≡ listWithin limit text
-  within-told x used m e = e ∙ sym (within-decided x {v = answer used (symbolsFrom classTable text 0)} (rw (m, take-length text)))
+  -- a text that is too long is no list
+  pub within-unfit : {n p : ℕ} → Refused n p ≡ bodyChecked Refused text 0 (length text) (Accepted 0) → listWithin limit text ≡ false
+  within-unfit e = not-passed text 0 (length text) (λ n p. false) _ e
+
+  -- .. and any other is, as the reader finds it, with the levels that count
+  pub within-told : Ordered text 0 (length text) → (used : ℕ) → min limit levelLimit ≡ used → {r : Bool} → EndsWithin classTable text used 0 r → r ≡ listWithin limit text
+  within-told o used m x =
+      elim (body-case text 0 (length text)) [
+        | refused-body n p e ↦ x .faulty n p (rw (take-length text) at (e ∙ in-its-order text 0 (length text) Refused _ o)) ∙ sym (within-refused e)
+        | clean-body c ↦ x .clean (record { none = rw (take-length text) at (c .faultless) }) ∙ sym (within-decided c {v = answer used (symbolsFrom classTable text 0)} (rw (m, take-length text)))
+      ]
 
   by-verdict : Clean text 0 (length text) → listWithin limit text ≡ true → (v : Verdict Class Derivation) → answer (min limit levelLimit) (bodySymbols text 0 (length text)) ≡ v
       → (k : Derivation) × ListBody text 0 (length text) k × (levels k ≤ limit)

@@ -32,25 +32,25 @@ enum-told-4 : tie.Need-enum-told-4
 enum-told-4 c = search needs
 
 returns-2 : tie.Need-returns-2
-returns-2 c = 
+returns-2 c =
     let a = c .before .before .before .before .before .before .before .args in
     let f = c .before .before .before .before .before .ahead .given in
     sym (ap (closesAhead (a .enclosure)) (f .1) ∙ ap (λ (e : Enclosure). sameClass (closing e) (f .0 .0)) (c .before .before .enum-told .given .1) ∙ ap (sameClass GreaterThan) (c .enum-told2 .given .1))
 
 returns-3 : tie.Need-returns-3
-returns-3 c = 
+returns-3 c =
     let a = c .before .before .before .before .before .before .args in
     let f = c .before .before .before .before .ahead .given in
     sym (ap (closesAhead (a .enclosure)) (f .1) ∙ ap (λ (e : Enclosure). sameClass (closing e) (f .0 .0)) (c .before .enum-told .given .1) ∙ by-class-not (0 ∷ 1 ∷ 2 ∷ 3 ∷ 5 ∷ 6 ∷ 7 ∷ 8 ∷ 9 ∷ 10 ∷ []) (sameClass GreaterThan) tt (f .0 .0) (c .match3 .keys2))
 
 returns-4 : tie.Need-returns-4
-returns-4 c = 
+returns-4 c =
     let a = c .before .before .before .before .before .before .before .args in
     let f = c .before .before .before .before .before .ahead .given in
     sym (ap (closesAhead (a .enclosure)) (f .1) ∙ ap (λ (e : Enclosure). sameClass (closing e) (f .0 .0)) (c .before .before .enum-told3 .given .1) ∙ ap (sameClass Semicolon) (c .enum-told4 .given .1))
 
 returns-5 : tie.Need-returns-5
-returns-5 c = 
+returns-5 c =
     let a = c .before .before .before .before .before .before .args in
     let f = c .before .before .before .before .ahead .given in
     sym (ap (closesAhead (a .enclosure)) (f .1) ∙ ap (λ (e : Enclosure). sameClass (closing e) (f .0 .0)) (c .before .enum-told3 .given .1) ∙ by-class-not (0 ∷ 1 ∷ 2 ∷ 3 ∷ 4 ∷ 5 ∷ 7 ∷ 8 ∷ 9 ∷ 10 ∷ []) (sameClass Semicolon) tt (f .0 .0) (c .match4 .keys2))

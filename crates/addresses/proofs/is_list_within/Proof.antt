@@ -1,38 +1,39 @@
+-- `addresses::is_list_within` meets its contract. Assumes nothing.
 use borrow.Author.Needs.{needs}
+use mathlib.Core.Path.{sym, _∙_}
+use native.Mathlib.Omega.{arith}
+use lib.ListN.{length}
+use Rattle.octets.specs.Believed.Classes.{classTable, classOf}
+use Rattle.octets.specs.Believed.Numbers.{levelLimit}
+use Rattle.scanner.proofs.BodyChecks.{passed}
+use Rattle.addresses.proofs.WithinLaws.{whole-text, within-unfit, within-told}
 use Rattle.addresses.proofs.is_list_within.Statement.{statement}
 use Rattle.addresses.proofs.is_list_within.Tie as tie
-use Rattle.addresses.proofs.is_list_within.Reads as reads
-use Rattle.addresses.proofs.is_list_within.Lts as lts
-use Rattle.addresses.proofs.ends_within.Reads as ends-within-reads
-use Rattle.scanner.proofs.check_body.Reads as check-body-reads
 
--- src/lib.rt:618:36
 check-body-requires : tie.Need-check-body-requires
 check-body-requires c κs = search needs
 
--- src/lib.rt:619:9
 enum-told : tie.Need-enum-told
 enum-told c = search needs
 
--- src/lib.rt:619:9
 returns : tie.Need-returns
-returns c = ?
+returns c = sym (within-unfit (c .before .before .before .before .args .levels) (c .before .before .before .before .args .text .now) (sym (c .enum-told .given .1) ∙ c .before .before .check-body .ensures))
 
--- src/lib.rt:623:9
 ends-within-requires : tie.Need-ends-within-requires
-ends-within-requires c κs = ?
+unfolding classTable classOf
+ends-within-requires c κs = (whole-text (passed (c .before .before .before .before .before .args .text .now) 0 (length (c .before .before .before .before .before .args .text .now)) (c .before .before .before .check-body .result) (c .before .before .before .check-body .ensures) (c .before .before .match .keys2)), omega arith)
 
--- src/lib.rt:623:9
 returns-2 : tie.Need-returns-2
-returns-2 c = ?
+unfolding classTable classOf
+returns-2 c = within-told (c .before .before .before .before .before .before .args .levels) (c .before .before .before .before .before .before .args .text .now) (passed (c .before .before .before .before .before .before .args .text .now) 0 (length (c .before .before .before .before .before .before .args .text .now)) (c .before .before .before .before .check-body .result) (c .before .before .before .before .check-body .ensures) (c .before .before .before .match .keys2)) levelLimit (omega (arith, c .before .if1 .taken)) (c .ends-within .ensures)
 
--- src/lib.rt:625:5
 ends-within-requires-2 : tie.Need-ends-within-requires-2
-ends-within-requires-2 c κs = ?
+unfolding classTable classOf
+ends-within-requires-2 c κs = (whole-text (passed (c .before .before .before .before .before .args .text .now) 0 (length (c .before .before .before .before .before .args .text .now)) (c .before .before .before .check-body .result) (c .before .before .before .check-body .ensures) (c .before .before .match .keys2)), omega (arith, c .if1 .left))
 
--- src/lib.rt:615:1
 returns-3 : tie.Need-returns-3
-returns-3 c = ?
+unfolding classTable classOf
+returns-3 c = within-told (c .before .before .before .before .before .before .args .levels) (c .before .before .before .before .before .before .args .text .now) (passed (c .before .before .before .before .before .before .args .text .now) 0 (length (c .before .before .before .before .before .before .args .text .now)) (c .before .before .before .before .check-body .result) (c .before .before .before .before .check-body .ensures) (c .before .before .before .match .keys2)) (c .before .before .before .before .before .before .args .levels) (omega (arith, c .before .if1 .left)) (c .ends-within2 .ensures)
 
 pub is-list-within-spec : {M : Type 1} → statement M
 is-list-within-spec =

@@ -1,37 +1,37 @@
+-- `addresses::read_addresses` meets its contract. Assumes nothing.
+use borrow.Author.Needs.{needs}
+use mathlib.Core.Path.{_≡_, refl, sym, ap, _∙_}
+use native.Mathlib.Omega.{arith}
+use lib.ListN.{length}
+use lib.Seq.{length-take-le}
+use Rattle.octets.specs.Believed.Classes.{classTable, classOf}
+use Rattle.scanner.proofs.BodyChecks.{passed}
+use Rattle.addresses.proofs.WholeLaws.{unfit-promised, first-promised, fitting}
 use Rattle.addresses.proofs.read_addresses.Statement.{statement}
 use Rattle.addresses.proofs.read_addresses.Tie as tie
-use Rattle.addresses.proofs.read_addresses.Reads as reads
-use Rattle.addresses.proofs.read_addresses.Lts as lts
-use Rattle.addresses.proofs.read_twice.Reads as read-twice-reads
-use Rattle.scanner.proofs.check_body.Reads as check-body-reads
 
--- src/lib.rt:591:45
 check-body-requires : tie.Need-check-body-requires
-check-body-requires c κs = ?
+check-body-requires c κs = search needs
 
--- src/lib.rt:591:28
 enum-known-number : tie.Need-enum-known-number
-enum-known-number c = ?
+enum-known-number c = search needs
 
--- src/lib.rt:592:9
 returns : tie.Need-returns
-returns c = ?
+returns c = unfit-promised (c .before .before .before .before .before .before .args .message .now) (c .before .before .before .before .before .before .args .start) (c .before .before .before .before .before .before .args .end) (c .before .before .before .before .before .before .args .table .now) (sym (c .before .number .given .1) ∙ c .before .before .before .check-body .ensures)
 
--- src/lib.rt:595:25
 slice-aggregate-read-twice : tie.Need-slice-aggregate-read-twice
-slice-aggregate-read-twice c = ?
+slice-aggregate-read-twice c = sym (length-take-le _ (c .before .before .before .before .before .before .args .message .now) ((passed (c .before .before .before .before .before .before .args .message .now) (c .before .before .before .before .before .before .args .start) (c .before .before .before .before .before .before .args .end) (c .before .before .before .check-body .result) (c .before .before .before .check-body .ensures) (c .before .before .match .keys2)) .inside))
 
--- src/lib.rt:595:5
 read-twice-requires : tie.Need-read-twice-requires
-read-twice-requires c κs = ?
+unfolding classTable classOf
+read-twice-requires c κs = fitting (passed (c .before .before .before .before .before .before .before .args .message .now) (c .before .before .before .before .before .before .before .args .start) (c .before .before .before .before .before .before .before .args .end) (c .before .before .before .before .check-body .result) (c .before .before .before .before .check-body .ensures) (c .before .before .before .match .keys2))
 
--- src/lib.rt:587:1
 same-length : tie.Need-same-length
-same-length c = ?
+same-length c = search needs
 
--- src/lib.rt:587:1
 returns-2 : tie.Need-returns-2
-returns-2 c = ?
+unfolding classTable classOf
+returns-2 c = first-promised (c .before .before .before .before .before .before .before .before .before .before .args .message .now) (c .before .before .before .before .before .before .before .before .before .before .args .start) (c .before .before .before .before .before .before .before .before .before .before .args .end) (c .before .before .before .before .before .before .before .before .before .before .args .table .now) _ _ (passed (c .before .before .before .before .before .before .before .before .before .before .args .message .now) (c .before .before .before .before .before .before .before .before .before .before .args .start) (c .before .before .before .before .before .before .before .before .before .before .args .end) (c .before .before .before .before .before .before .before .check-body .result) (c .before .before .before .before .before .before .before .check-body .ensures) (c .before .before .before .before .before .before .match .keys2)) (c .before .before .read-twice .ensures)
 
 pub read-addresses-spec : {M : Type 1} → statement M
 read-addresses-spec =

@@ -45,7 +45,7 @@ refuse-requires : tie.Need-refuse-requires Inv-loop μ-loop
 refuse-requires c κs = let k = c .before .before .before .before .before .before .before .before .before .args .classes .now in let t = c .before .before .before .before .before .before .before .before .before .args .text .now in stepped k t (c .before .before .before .before .before .before .before .loop .cursor) (c .before .before .before .before .before .before .before .loop .inv .2) (c .before .before .before .before .before .step .ensures) .sized
 
 returns : tie.Need-returns Inv-loop μ-loop
-returns c = 
+returns c =
     let k = c .before .before .before .before .before .before .before .before .before .before .args .classes .now in
     let t = c .before .before .before .before .before .before .before .before .before .before .args .text .now in
     let l = c .before .before .before .before .before .before .step .last .1 .1 .0 in
@@ -72,7 +72,7 @@ element-write-cursor : tie.Need-element-write-cursor Inv-loop μ-loop
 element-write-cursor c = search needs
 
 returns-2 : tie.Need-returns-2 Inv-loop μ-loop
-returns-2 c = 
+returns-2 c =
     let k = c .before .before .before .before .before .before .before .before .before .before .before .before .before .before .before .args .classes .now in
     let t = c .before .before .before .before .before .before .before .before .before .before .before .before .before .before .before .args .text .now in
     let l = c .before .before .before .before .before .before .before .before .before .before .before .step .last .1 .1 .0 in
@@ -86,7 +86,7 @@ enum-known-ahead : tie.Need-enum-known-ahead Inv-loop μ-loop
 enum-known-ahead c = search needs
 
 refuse-requires-2 : tie.Need-refuse-requires-2 Inv-loop μ-loop
-refuse-requires-2 c κs = 
+refuse-requires-2 c κs =
     let k = c .before .before .before .before .before .before .before .before .before .before .before .before .before .before .before .before .before .args .classes .now in
     let t = c .before .before .before .before .before .before .before .before .before .before .before .before .before .before .before .before .before .args .text .now in
     let l = c .before .before .before .before .before .before .before .before .before .before .before .before .before .step .last .1 .1 .0 in
@@ -100,7 +100,7 @@ enum-told : tie.Need-enum-told Inv-loop μ-loop
 enum-told c = search needs
 
 loop-less : tie.Need-loop-less Inv-loop μ-loop
-loop-less c = 
+loop-less c =
     let k = c .before .before .before .before .before .before .before .before .before .before .before .before .before .before .before .before .before .before .before .before .args .classes .now in
     let t = c .before .before .before .before .before .before .before .before .before .before .before .before .before .before .before .before .before .before .before .before .args .text .now in
     let l = c .before .before .before .before .before .before .before .before .before .before .before .before .before .before .before .before .step .last .1 .1 .0 in
@@ -112,7 +112,7 @@ loop-less c =
     omega (arith, y .ok .0, y .ok .1 .starts, z .ok .0, z .ok .1 .starts, z .ok .1 .within)
 
 loop-again : tie.Need-loop-again Inv-loop μ-loop
-loop-again c = 
+loop-again c =
     let k = c .before .before .before .before .before .before .before .before .before .before .before .before .before .before .before .before .before .before .before .before .args .classes .now in
     let t = c .before .before .before .before .before .before .before .before .before .before .before .before .before .before .before .before .before .before .before .before .args .text .now in
     let l = c .before .before .before .before .before .before .before .before .before .before .before .before .before .before .before .before .step .last .1 .1 .0 in
@@ -124,7 +124,7 @@ loop-again c =
     (nodes-again k t n (met k t y (sym (c .before .before .before .before .before .before .before .ahead-of2 .ensures) ∙ c .before .before .before .ahead .given .1 ∙ ap Symbol (c .enum-told .given .1))), y .free-kept ∙ x .free-kept ∙ i .1, y .sized)
 
 refuse-requires-3 : tie.Need-refuse-requires-3 Inv-loop μ-loop
-refuse-requires-3 c κs = 
+refuse-requires-3 c κs =
     let k = c .before .before .before .before .before .before .before .before .before .before .before .before .before .before .before .before .before .before .before .before .args .classes .now in
     let t = c .before .before .before .before .before .before .before .before .before .before .before .before .before .before .before .before .before .before .before .before .args .text .now in
     let l = c .before .before .before .before .before .before .before .before .before .before .before .before .before .before .before .before .step .last .1 .1 .0 in
@@ -132,7 +132,7 @@ refuse-requires-3 c κs =
     stepped k t l (x .sized) (c .before .before .before .before .before .before .before .before .before .step2 .ensures) .sized
 
 returns-4 : tie.Need-returns-4 Inv-loop μ-loop
-returns-4 c = 
+returns-4 c =
     let k = c .before .before .before .before .before .before .before .before .before .before .before .before .before .before .before .before .before .before .before .before .before .args .classes .now in
     let t = c .before .before .before .before .before .before .before .before .before .before .before .before .before .before .before .before .before .before .before .before .before .args .text .now in
     let l = c .before .before .before .before .before .before .before .before .before .before .before .before .before .before .before .before .before .step .last .1 .1 .0 in

@@ -1,61 +1,54 @@
+-- `addresses::read_twice` meets its contract. Assumes nothing.
+use borrow.Author.Needs.{needs}
+use Rattle.octets.proofs.Parts.{no-front}
+use Rattle.addresses.proofs.FirstLaws.{first-refused, first-no-room, first-written}
 use Rattle.addresses.proofs.read_twice.Statement.{statement}
 use Rattle.addresses.proofs.read_twice.Tie as tie
-use Rattle.addresses.proofs.read_twice.Reads as reads
-use Rattle.addresses.proofs.read_twice.Lts as lts
-use Rattle.addresses.proofs.fault_or.Reads as fault-or-reads
-use Rattle.addresses.proofs.read_whole.Reads as read-whole-reads
 
--- src/lib.rt:574:37
 slice-relend-prefix-read-whole : tie.Need-slice-relend-prefix-read-whole
-slice-relend-prefix-read-whole c = ?
+slice-relend-prefix-read-whole c = search needs
 
--- src/lib.rt:574:37
 slice-aggregate-read-whole : tie.Need-slice-aggregate-read-whole
-slice-aggregate-read-whole c = ?
+slice-aggregate-read-whole c = search needs
 
--- src/lib.rt:574:11
 read-whole-requires : tie.Need-read-whole-requires
-read-whole-requires c κs = ?
+read-whole-requires c κs = search needs
 
--- src/lib.rt:575:24
 enum-known-number : tie.Need-enum-known-number
-enum-known-number c = ?
+enum-known-number c = search needs
 
--- src/lib.rt:575:42
 fault-or-requires : tie.Need-fault-or-requires
-fault-or-requires c κs = ?
+fault-or-requires c κs = search needs
 
--- src/lib.rt:576:23
 enum-known-count : tie.Need-enum-known-count
-enum-known-count c = ?
+enum-known-count c = search needs
 
--- src/lib.rt:578:17
 same-length : tie.Need-same-length
-same-length c = ?
+same-length c = search needs
 
--- src/lib.rt:578:17
 returns : tie.Need-returns
-returns c = ?
+returns c =
+    let u = no-front (c .before .before .before .before .before .before .read-whole .last .1 .1 .0) (c .before .before .before .before .before .before .before .before .before .before .args .table .now) (c .before .before .before .before .before .before .read-whole .kept .1 .1 .0) in
+    rw u (first-no-room (c .before .before .before .before .before .before .before .before .before .before .args .classes .now) (c .before .before .before .before .before .before .before .before .before .before .args .text .now) (c .before .before .before .before .before .before .before .before .before .before .args .table .now) (rw (c .before .before .count .given .1) at (c .before .before .before .before .before .before .read-whole .ensures)) (rw u at (c .if1 .taken)))
 
--- src/lib.rt:580:13
 read-whole-requires-2 : tie.Need-read-whole-requires-2
-read-whole-requires-2 c κs = ?
+read-whole-requires-2 c κs = search needs
 
--- src/lib.rt:570:1
 same-length-2 : tie.Need-same-length-2
-same-length-2 c = ?
+same-length-2 c = search needs
 
--- src/lib.rt:570:1
 returns-2 : tie.Need-returns-2
-returns-2 c = ?
+returns-2 c =
+    let u = no-front (c .before .before .before .before .before .before .read-whole .last .1 .1 .0) (c .before .before .before .before .before .before .before .before .before .before .args .table .now) (c .before .before .before .before .before .before .read-whole .kept .1 .1 .0) in
+    rw u (first-refused (c .before .before .before .before .before .before .before .before .before .before .args .classes .now) (c .before .before .before .before .before .before .before .before .before .before .args .text .now) (c .before .before .before .before .before .before .before .before .before .before .args .table .now) (rw (c .before .before .number .given .1) at (c .before .before .before .before .before .before .read-whole .ensures)) (c .fault-or .ensures))
 
--- src/lib.rt:570:1
 same-length-3 : tie.Need-same-length-3
-same-length-3 c = ?
+same-length-3 c = search needs
 
--- src/lib.rt:570:1
 returns-3 : tie.Need-returns-3
-returns-3 c = ?
+returns-3 c =
+    let u = no-front (c .before .before .before .before .before .before .before .before .before .before .read-whole .last .1 .1 .0) (c .before .before .before .before .before .before .before .before .before .before .before .before .before .before .args .table .now) (c .before .before .before .before .before .before .before .before .before .before .read-whole .kept .1 .1 .0) in
+    first-written (c .before .before .before .before .before .before .before .before .before .before .before .before .before .before .args .classes .now) (c .before .before .before .before .before .before .before .before .before .before .before .before .before .before .args .text .now) (c .before .before .before .before .before .before .before .before .before .before .before .before .before .before .args .table .now) _ (rw (c .before .before .before .before .before .before .count .given .1) at (c .before .before .before .before .before .before .before .before .before .before .read-whole .ensures)) (rw u at (c .before .before .before .before .if1 .left)) (c .before .before .read-whole2 .result) (rw u at (c .before .before .read-whole2 .ensures))
 
 pub read-twice-spec : {M : Type 1} → statement M
 read-twice-spec =

@@ -42,12 +42,12 @@ element-write-cursor : tie.Need-element-write-cursor Inv-loop μ-loop
 element-write-cursor c = search needs
 
 returns : tie.Need-returns Inv-loop μ-loop
-returns c = 
+returns c =
     let i = c .before .before .before .before .before .before .before .loop .inv in
     phrase-done _ _ (i .0) (i .1) (stepped _ _ (c .before .before .before .before .before .before .before .loop .cursor) (i .2) (c .before .before .before .before .step .ensures)) (told-not wordAhead false (c .before .before .ahead-of .ensures) (c .before .is-word .ensures) (c .if1 .taken))
 
 loop-less : tie.Need-loop-less Inv-loop μ-loop
-loop-less c = 
+loop-less c =
     let i = c .before .before .before .before .before .before .before .loop .inv in
     let x = stepped _ _ (c .before .before .before .before .before .before .before .loop .cursor) (i .2) (c .before .before .before .before .step .ensures) in
     let w = met-word _ _ x (told-not wordAhead true (c .before .before .ahead-of .ensures) (c .before .is-word .ensures) (c .if1 .left)) in
@@ -55,7 +55,7 @@ loop-less c =
     omega (arith, y .ok .0, y .ok .1 .starts, y .ok .1 .within)
 
 loop-again : tie.Need-loop-again Inv-loop μ-loop
-loop-again c = 
+loop-again c =
     let i = c .before .before .before .before .before .before .before .loop .inv in
     let x = stepped _ _ (c .before .before .before .before .before .before .before .loop .cursor) (i .2) (c .before .before .before .before .step .ensures) in
     let w = met-word _ _ x (told-not wordAhead true (c .before .before .ahead-of .ensures) (c .before .is-word .ensures) (c .if1 .left)) in

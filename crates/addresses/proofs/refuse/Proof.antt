@@ -34,12 +34,12 @@ put-requires-2 : tie.Need-put-requires-2
 put-requires-2 c κs = search needs
 
 returns : tie.Need-returns
-returns c = 
+returns c =
     let a = c .before .before .before .before .before .before .before .before .args in
     refusing (a .cursor .now) (c .before .before .before .before .before .before .before .before .pre) noListGoesOn (getD (a .cursor .now) 1 0) (c .put .ensures) ∙ sym (refused-symbol (length (a .text .now)) (a .cursor .now) (sym (c .before .before .before .before .before .ahead-of .ensures) ∙ c .before .before .before .enum-told .given .1))
 
 returns-2 : tie.Need-returns-2
-returns-2 c = 
+returns-2 c =
     let a = c .before .before .before .before .before .before .args in
     refusing (a .cursor .now) (c .before .before .before .before .before .before .pre) endsTooSoon (length (a .text .now)) (c .put2 .ensures) ∙ sym (refused-end (length (a .text .now)) (a .cursor .now) (c .before .before .before .ahead-of .ensures) (c .before .before .match .keys2))
 

@@ -28,7 +28,7 @@ enum-known-class : tie.Need-enum-known-class
 enum-known-class c = search needs
 
 returns : tie.Need-returns
-returns c = 
+returns c =
     let k = c .before .before .before .before .before .before .args .classes .now in
     let t = c .before .before .before .before .before .before .args .text .now in
     let l = c .before .before .before .before .before .before .args .cursor .now in
@@ -40,7 +40,7 @@ enum-told : tie.Need-enum-told
 enum-told c = search needs
 
 returns-2 : tie.Need-returns-2
-returns-2 c = 
+returns-2 c =
     let k = c .before .before .before .before .before .before .before .before .before .args .classes .now in
     let t = c .before .before .before .before .before .before .before .before .before .args .text .now in
     let l = c .before .before .before .before .before .before .before .before .before .args .cursor .now in
@@ -67,7 +67,7 @@ enum-known-mark : tie.Need-enum-known-mark
 enum-known-mark c = search needs
 
 returns-3 : tie.Need-returns-3
-returns-3 c = 
+returns-3 c =
     let k = c .before .before .before .before .before .before .before .before .before .before .before .before .before .before .before .before .before .args .classes .now in
     let t = c .before .before .before .before .before .before .before .before .before .before .before .before .before .before .before .before .before .args .text .now in
     let l = c .before .before .before .before .before .before .before .before .before .before .before .before .before .before .before .before .before .args .cursor .now in
@@ -79,7 +79,7 @@ enum-told-2 : tie.Need-enum-told-2
 enum-told-2 c = search needs
 
 returns-4 : tie.Need-returns-4
-returns-4 c = 
+returns-4 c =
     let k = c .before .before .before .before .before .before .before .before .before .before .before .before .before .before .before .before .before .before .before .before .args .classes .now in
     let t = c .before .before .before .before .before .before .before .before .before .before .before .before .before .before .before .before .before .before .before .before .args .text .now in
     let l = c .before .before .before .before .before .before .before .before .before .before .before .before .before .before .before .before .before .before .before .before .args .cursor .now in
@@ -88,7 +88,7 @@ returns-4 c =
     no-colon-done k t x (sym (c .before .before .before .before .before .before .before .before .before .before .before .before .before .before .before .ahead-of .ensures) ∙ c .before .before .before .before .before .before .before .before .before .before .before .before .before .class .given .1 ∙ ap Symbol (c .before .before .before .before .before .before .before .before .before .before .enum-told .given .1)) (stepped k t m (x .sized) (c .before .before .before .before .before .before .step2 .ensures)) (ap (isAhead Colon) (sym (c .before .before .before .before .ahead-of2 .ensures) ∙ c .before .before .mark .given .1) ∙ by-class-not (0 ∷ 1 ∷ 2 ∷ 3 ∷ 4 ∷ 5 ∷ 6 ∷ 8 ∷ 9 ∷ 10 ∷ []) (sameClass Colon) tt (c .before .before .mark .given .0 .0) (c .match4 .keys2))
 
 returns-5 : tie.Need-returns-5
-returns-5 c = 
+returns-5 c =
     let k = c .before .before .before .before .before .before .before .before .before .before .before .before .before .before .before .before .before .before .before .before .before .args .classes .now in
     let t = c .before .before .before .before .before .before .before .before .before .before .before .before .before .before .before .before .before .before .before .before .before .args .text .now in
     let l = c .before .before .before .before .before .before .before .before .before .before .before .before .before .before .before .before .before .before .before .before .before .args .cursor .now in
