@@ -111,15 +111,18 @@ pub(crate) fn next_part(classes: &[u8; 256], text: &[u8], at: usize, end: usize)
         return first_part(classes, text, at, end);
     }
     match scanner::next_by(classes, text, end) {
-        Next::Found(class, start, stop) => match class {
-            Class::Quoted | Class::Literal => Token {
-                key: OTHER_PART,
-                start: stop,
-                stop,
-                end: stop,
-            },
-            _ => first_part(classes, text, start, stop),
-        },
+        Next::Found(symbol) => {
+            let class = symbol.class;
+            match class {
+                Class::Quoted | Class::Literal => Token {
+                    key: OTHER_PART,
+                    start: symbol.end,
+                    stop: symbol.end,
+                    end: symbol.end,
+                },
+                _ => first_part(classes, text, symbol.start, symbol.end),
+            }
+        }
         Next::Ended => Token {
             key: NO_PART,
             start: end,

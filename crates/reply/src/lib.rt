@@ -16,7 +16,7 @@ pub fn left_for_from(reply: &[u8]) -> bool
     let classes = &CLASSES;
     match scanner::next_by(classes, reply, 0) {
         Next::Ended => true,
-        Next::Found(_, _, _) => false,
+        Next::Found(_) => false,
         Next::Fault(_, _) => false,
     }
 }

@@ -6,8 +6,8 @@ use Rattle.dates.proofs.parts.next_part.Statement.{statement}
 use Rattle.dates.proofs.parts.next_part.Tie as tie
 
 -- the symbol that was found
-found-symbol : (c : tie.After-class) → (let f = c .class .given .0 in let a = c .before .before .before .before .before .args in SymbolAt (a .classes .now) (a .text .now) (a .end) (f .0) (f .1 .0) (f .1 .1 .0))
-found-symbol c = let a = c .before .before .before .before .before .args in found (a .classes .now) (a .text .now) (a .end) (rw (c .class .given .1) at (c .before .before .next-by .ensures))
+found-symbol : (c : tie.After-symbol) → (let f = c .symbol .given .0 .0 in let a = c .before .before .before .before .before .args in SymbolAt (a .classes .now) (a .text .now) (a .end) (f .class) (f .start) (f .end))
+found-symbol c = let a = c .before .before .before .before .before .args in found (a .classes .now) (a .text .now) (a .end) (rw (c .symbol .given .1) at (c .before .before .next-by .ensures))
 
 first-part-requires-2 : tie.Need-first-part-requires-2
 first-part-requires-2 c κs = let x = found-symbol (c .before .before) in (x .starts, x .within)
