@@ -6,7 +6,7 @@ use Prim.Native.Nat.{ℕ, _+_, _-_, _*_, _^_, _≤_, _<_}
 use native.Mathlib.Nat.{pow-suc, pow-le-pow-right}
 use native.Mathlib.Numerals.{add-one}
 use native.Mathlib.Omega.{arith}
-use borrow.Author.Tests.{eq-eqb, ne-eqb}
+use borrow.Author.Tests.{eq-eqb, ne-eqb, le-ltb}
 use lib.Dec.{ltb}
 use lib.IntN.{ℤ, pos}
 use lib.ListN.{length, getD}
@@ -23,8 +23,7 @@ use Rattle.dates.specs.Believed.Names.{place, zoneMinutes}
 use Rattle.dates.specs.Believed.Parts.{Part}
 use Rattle.dates.specs.Believed.Grammar.{decimalFrom, decimal}
 use Rattle.dates.specs.Executable.Form.{firstKey, after, done, digitsOf, upToSix, named}
-use Rattle.dates.specs.Ties.Steps.{TokenIs, DigitRunIs, NamedIs}
-use Rattle.dates.specs.declared.parts.Token.{Token}
+use Rattle.dates.specs.Ties.Steps.{PartIs, DigitRunIs, NamedIs}
 
 -- ---- the value of digits
 
@@ -41,40 +40,42 @@ grows v x n h k = let e : 1000 ^ (n + 1) ≡ 1000 ^ n * 1000 = rw add-one (pow-s
 pub bounded : (v n k : ℕ) → v < 1000 ^ n → n ≤ k → v < 1000 ^ k
 bounded v n k h l = omega (arith, pow-le-pow-right {n = 1000} (omega arith) l)
 
--- ---- the first part
+-- ---- the part ahead
 
-module _ {classes text : List ℕ} {l : List Part} {t : Token} (x : TokenIs classes text l t) where
-  pub no-digits : (t .key ≡ digit → ⊥) → DigitRunIs classes text (digitsOf l) (after l) (record { count = 0; value = 0; at = t .stop; end = t .end })
+module _ {classes text : List ℕ} {l : List Part} {cursor : List ℕ} (x : PartIs classes text l cursor) where
+  pub no-digits : {next : List ℕ} → (getD cursor 0 0 ≡ digit → ⊥) → DigitRunIs classes text l next (record { count = 0; value = 0 })
   unfolding digitsOf upToSix decimal
   no-digits n =
-      let e = ne-eqb (t .key) digit n in
-      record { count-is = rw (x .key-is, e); value-is = rw (x .key-is, e); small = omega arith; rest-is = x .rest-is; spot = x .spot }
+      let e = ne-eqb (getD cursor 0 0) digit n in
+      record { count-is = rw (x .token .key-is, e); value-is = rw (x .token .key-is, e); small = omega arith; next = λ a b. absurd (omega arith) }
 
   -- a run of digits, of which at most six have a value
-  pub some-digits : t .key ≡ digit → (v : ℕ) → v ≡ pick (ltb 6 (t .stop - t .start)) 0 (decimal (part text (t .start) (t .stop))) → v < 1000000000000000000
-      → DigitRunIs classes text (digitsOf l) (after l) (record { count = t .stop - t .start; value = v; at = t .stop; end = t .end })
+  pub some-digits : {next : List ℕ} → getD cursor 0 0 ≡ digit → (v : ℕ) → v ≡ pick (ltb 6 (getD cursor 2 0 - getD cursor 1 0)) 0 (decimal (part text (getD cursor 1 0) (getD cursor 2 0))) → v < 1000000000000000000
+      → (getD cursor 2 0 - getD cursor 1 0 ≤ 6 → PartIs classes text (after l) next) → DigitRunIs classes text l next (record { count = getD cursor 2 0 - getD cursor 1 0; value = v })
   unfolding digitsOf upToSix
-  some-digits e v m s =
-      let d : digitsOf l ≡ part text (t .start) (t .stop) = rw (x .key-is, eq-eqb (t .key) digit e, x .bytes-are) in
-      let n : length (part text (t .start) (t .stop)) ≡ t .stop - t .start = part-length text (t .start) (t .stop) (omega (arith, x .spot .order, x .spot .inside)) in
-      record { count-is = rw d n; value-is = rw (d, n) (sym m); small = s; rest-is = x .rest-is; spot = x .spot }
+  some-digits e v m s f =
+      let t = x .token in
+      let d : digitsOf l ≡ part text (getD cursor 1 0) (getD cursor 2 0) = rw (t .key-is, eq-eqb (getD cursor 0 0) digit e, t .bytes-are) in
+      let n : length (part text (getD cursor 1 0) (getD cursor 2 0)) ≡ getD cursor 2 0 - getD cursor 1 0 = part-length text (getD cursor 1 0) (getD cursor 2 0) (omega (arith, t .spot .order, t .spot .inside)) in
+      record { count-is = rw d n; value-is = rw (d, n) (sym m); small = s; next = λ a b. f b }
 
   module _ (names : List (List ℕ)) where
-    pub no-letters : (t .key ≡ letter → ⊥) → (n : ℕ) → length names ≡ n → NamedIs classes text names l (record { place = n; at = t .stop; end = t .end })
+    pub no-letters : (getD cursor 0 0 ≡ letter → ⊥) → (n : ℕ) → length names ≡ n → NamedIs classes text names l cursor n
     unfolding named
-    no-letters k n e = record { place-is = rw (x .key-is, ne-eqb (t .key) letter k) e; rest-is = x .rest-is; spot = x .spot }
+    no-letters k n e = record { place-is = rw (x .token .key-is, ne-eqb (getD cursor 0 0) letter k) e; next = rw (le-ltb n (length names) (omega arith)) x }
 
-    pub a-name : t .key ≡ letter → (n : ℕ) → n ≡ place names (part text (t .start) (t .stop)) → NamedIs classes text names l (record { place = n; at = t .stop; end = t .end })
+    -- the place of a name, in the table or past it
+    pub a-name : {next : List ℕ} → getD cursor 0 0 ≡ letter → (n : ℕ) → n ≡ place names (part text (getD cursor 1 0) (getD cursor 2 0)) → PartIs classes text (pick (ltb n (length names)) (after l) l) next → NamedIs classes text names l next n
     unfolding named
-    a-name k n e = record { place-is = rw (x .key-is, eq-eqb (t .key) letter k, x .bytes-are) (sym e); rest-is = x .rest-is; spot = x .spot }
+    a-name k n e y = record { place-is = rw (x .token .key-is, eq-eqb (getD cursor 0 0) letter k, x .token .bytes-are) (sym e); next = y }
 
-pub all-done : {l : List Part} → l ≡ [] → done l ≡ true
-unfolding done
-all-done e = rw e
+  pub all-done : getD cursor 0 0 ≡ 1 → done l ≡ true
+  unfolding done
+  all-done e = rw (x .token .last e)
 
-pub not-done : {classes text : List ℕ} {l : List Part} {t : Token} → TokenIs classes text l t → (t .key ≡ 1 → ⊥) → done l ≡ false
+pub not-done : {classes text : List ℕ} {l : List Part} {cursor : List ℕ} → PartIs classes text l cursor → (getD cursor 0 0 ≡ 1 → ⊥) → done l ≡ false
 unfolding done firstKey
-not-done {l = []} x n = absurd (n (sym (x .key-is)))
+not-done {l = []} x n = absurd (n (sym (x .token .key-is)))
 not-done {l = p ∷ l} x n = refl
 
 -- ---- the zone

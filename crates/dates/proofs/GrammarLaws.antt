@@ -15,7 +15,7 @@ use Rattle.octets.specs.Believed.Octets.{plusByte, commaByte, minusByte, colonB
 use Rattle.dates.specs.Believed.Names.{dayNames, monthNames, zoneNames, zoneMinutes, place, ahead, behind}
 use Rattle.dates.specs.Believed.Parts.{Part}
 use Rattle.dates.specs.Believed.Grammar.{num, offsetOf, Digits, Name, DayNameIs, day-name, no-day-name, DashIs, dash, no-dash, DayIs, one-digit, two-digits, MonthIs, month, YearIs, short-year, full-year, HourIs, four, six, two-two, two-four, four-two, two-two-two, ZoneIs, zone-name, dashed-name, east, west, DateIs, date}
-use Rattle.dates.specs.Executable.Form.{firstKey, firstBytes, after, done, digitsOf, upToSix, moreDigits, pastMore, named, Hour, noHour, hour, secondFrom, secondAfter, minuteFrom, hourFrom, hourOf, Zoned, noZone, zoned, zoneFrom, zoneNamed, signedFrom, zoneOf, endAfter, zoneAfter, hourAfter, pastDash, yearFrom, yearAfter, monthFrom, monthAfter, dayFrom, dayAfter, readingFrom, readingOf, ReadsRight}
+use Rattle.dates.specs.Executable.Form.{firstKey, firstBytes, after, done, digitsOf, upToSix, named, Hour, noHour, hour, secondFrom, secondAfter, minuteFrom, minuteAfter, hourFrom, hourOf, Zoned, noZone, zoned, zoneFrom, zoneNamed, signedFrom, zoneSigned, zoneOf, endAfter, zoneAfter, hourAfter, pastDash, yearFrom, yearAfter, monthFrom, monthAfter, dayFrom, dayAfter, readingFrom, readingOf, ReadsRight}
 use Rattle.dates.specs.declared.form.Offset.{Offset}
 use Rattle.dates.specs.declared.form.Offset.the-variants.{Minutes}
 use Rattle.dates.specs.declared.form.Written.{Written}
@@ -25,7 +25,7 @@ use Rattle.dates.specs.declared.form.Reading.the-variants.{Wrong, Right}
 -- ---- what the grammar derives is read
 
 read-zone : {l : List Part} {offset : Offset} → ZoneIs l offset → zoneOf l ≡ zoned offset []
-unfolding zoneOf zoneNamed named upToSix digitsOf firstKey firstBytes after
+unfolding zoneOf zoneSigned zoneNamed named upToSix digitsOf firstKey firstBytes after
 read-zone (zone-name n) = rw (n .run, n .called, lt-ltb _ _ (n .known))
 read-zone (dashed-name e n) = rw (e, n .run, n .called, lt-ltb _ _ (n .known))
 read-zone (east e d) = rw (e, d .run, d .many)
@@ -40,7 +40,7 @@ zone-starts (east e d) = rw e
 zone-starts (west e d) = rw e
 
 read-hour : {l r : List Part} {h m s : ℕ} → HourIs l h m s r → eqb (firstKey r) colonByte ≡ false → hourOf l ≡ hour h m s r
-unfolding hourOf secondAfter moreDigits pastMore upToSix digitsOf firstKey firstBytes after
+unfolding hourOf minuteAfter secondAfter upToSix digitsOf firstKey firstBytes after
 read-hour (four d) c = rw (d .run, d .many, c)
 read-hour (six d) c = rw (d .run, d .many)
 read-hour (two-two d e f) c = rw (d .run, d .many, e, f .run, f .many, c)
@@ -125,34 +125,30 @@ worth : {n : ℕ} {p : Part} → Digits n p → n ≤ 6 → upToSix (p .bytes) �
 unfolding upToSix
 worth d h = rw (d .many, le-ltb 6 _ h)
 
--- digits after a colon, or none
-more-ok : (Q : List ℕ → List Part → Type 0) (l : List Part) → ((c q : Part) (z : List Part) → l ≡ c ∷ q ∷ z → c .key ≡ colonByte → q .key ≡ digit → Q (q .bytes) z)
-    → ((z : List Part) → Q [] z) → Q (moreDigits l) (pastMore l)
-unfolding moreDigits pastMore digitsOf firstKey firstBytes after
-more-ok Q [] f none = none []
-more-ok Q (c ∷ r) f none = go (eqb (c .key) colonByte) refl r f
-  where
-    go : (t : Bool) → eqb (c .key) colonByte ≡ t → (r : List Part)
-        → ((c′ q : Part) (z : List Part) → c ∷ r ≡ c′ ∷ q ∷ z → c′ .key ≡ colonByte → q .key ≡ digit → Q (q .bytes) z) → Q (pick t (digitsOf r) []) (pick t (after r) (c ∷ r))
-    go false e r f = none (c ∷ r)
-    go true e [] f = none []
-    go true e (q ∷ z) f = pick-eq (λ d. Q d z) (q .key) digit (λ g. f c q z refl (eqb-true _ _ e) g) (none z)
+-- digits after a colon
+colon-ok : (l : List Part) (read : List ℕ → List Part → Hour) (r : List Part) → ((p q : Part) (z : List Part) → r ≡ p ∷ q ∷ z → p .key ≡ colonByte → q .key ≡ digit → HourOk l (read (q .bytes) z))
+    → ((z : List Part) → HourOk l (read [] z)) → (x : Hour) → HourOk l x → HourOk l (pick (eqb (firstKey r) colonByte) (read (digitsOf (after r)) (after (after r))) x)
+unfolding digitsOf firstKey firstBytes after
+colon-ok l read [] f none x y = y
+colon-ok l read (p ∷ []) f none x y = pick-eq (HourOk l) (p .key) colonByte (λ e. none []) y
+colon-ok l read (p ∷ q ∷ z) f none x y = pick-eq (HourOk l) (p .key) colonByte (λ e. pick-eq (λ d. HourOk l (read d z)) (q .key) digit (λ g. f p q z refl e g) (none z)) y
 
 second-ok : (l : List Part) (h m : ℕ) (r : List Part) → HourIs l h m 0 r
     → ((c q : Part) (z : List Part) → r ≡ c ∷ q ∷ z → c .key ≡ colonByte → Digits 2 q → HourIs l h m (num q) z) → HourOk l (secondAfter h m r)
 unfolding secondAfter
 second-ok l h m r x f =
-    more-ok (λ d z. HourOk l (secondFrom h m d z r)) r
-    (λ c q z w e g. pick-eq (HourOk l) (length (q .bytes)) 2 (λ k. let d : Digits 2 q = record { run = g; many = k } in rw (worth d (omega arith)) (f c q z w e d)) x) (λ z. x)
+    colon-ok l (λ d z. secondFrom h m d z) r
+    (λ c q z w e g. pick-eq (HourOk l) (length (q .bytes)) 2 (λ k. let d : Digits 2 q = record { run = g; many = k } in rw (worth d (omega arith)) (f c q z w e d)) tt) (λ z. tt) (hour h m 0 r) x
 
-minute-ok : (p : Part) (r : List Part) → Digits 2 p → HourOk (p ∷ r) (minuteFrom (num p) (moreDigits r) (pastMore r))
+minute-ok : (p : Part) (r : List Part) → Digits 2 p → HourOk (p ∷ r) (minuteAfter (num p) r)
+unfolding minuteAfter
 minute-ok p r d =
-    more-ok (λ b z. HourOk (p ∷ r) (minuteFrom (num p) b z)) r
+    colon-ok (p ∷ r) (λ b z. minuteFrom (num p) b z) r
     (λ c q z w e g. rw w
     (pick-eq (HourOk (p ∷ c ∷ q ∷ z)) (length (q .bytes)) 4 (λ k. let f : Digits 4 q = record { run = g; many = k } in rw (worth f (omega arith)) (two-four d e f))
     (pick-eq (HourOk (p ∷ c ∷ q ∷ z)) (length (q .bytes)) 2
     (λ k. let f : Digits 2 q = record { run = g; many = k } in rw (worth f (omega arith))
-    (second-ok (p ∷ c ∷ q ∷ z) (num p) (num q) z (two-two d e f) (λ c′ s z′ w′ e′ d′. rw w′ (two-two-two d e f e′ d′)))) tt))) (λ z. tt)
+    (second-ok (p ∷ c ∷ q ∷ z) (num p) (num q) z (two-two d e f) (λ c′ s z′ w′ e′ d′. rw w′ (two-two-two d e f e′ d′)))) tt))) (λ z. tt) noHour tt
 
 hour-ok : (l : List Part) → HourOk l (hourOf l)
 unfolding hourOf digitsOf firstKey firstBytes after
@@ -178,25 +174,24 @@ zone-name-ok l (p ∷ r) f =
     pick-eq (λ n. ZoneOk l (zoneFrom n r)) (p .key) letter
     (λ e. pick-lt (ZoneOk l) (place zoneNames (p .bytes)) 43 (λ h w. f p (place zoneNames (p .bytes)) (ap (λ (x : List Part). p ∷ x) w) record { run = e; called = refl; known = h }) tt) tt
 
-signed-ok : (l r : List Part) (direction : ℕ → ℕ → ℤ) (z : Zoned) → ZoneOk l z → ((p : Part) → r ≡ p ∷ [] → Digits 4 p → ZoneIs l (offsetOf direction (num p)))
-    → ZoneOk l (signedFrom direction (digitsOf r) (after r) z)
-unfolding digitsOf firstKey firstBytes after
-signed-ok l [] direction z x f = x
-signed-ok l (p ∷ q) direction z x f =
-    pick-eq (λ d. ZoneOk l (signedFrom direction d q z)) (p .key) digit
+signed-ok : (l r : List Part) (direction : ℕ → ℕ → ℤ) → ((p : Part) → r ≡ p ∷ [] → Digits 4 p → ZoneIs l (offsetOf direction (num p))) → ZoneOk l (zoneSigned direction r)
+unfolding zoneSigned digitsOf firstKey firstBytes after
+signed-ok l [] direction f = tt
+signed-ok l (p ∷ q) direction f =
+    pick-eq (λ d. ZoneOk l (signedFrom direction d q)) (p .key) digit
     (λ e. pick-eq (ZoneOk l) (length (p .bytes)) 4
-    (λ k. let d : Digits 4 p = record { run = e; many = k } in rw (worth d (omega arith)) (λ w. f p (ap (λ (x : List Part). p ∷ x) w) d)) x) x
+    (λ k. let d : Digits 4 p = record { run = e; many = k } in rw (worth d (omega arith)) (λ w. f p (ap (λ (x : List Part). p ∷ x) w) d)) tt) tt
 
 zone-ok : (l : List Part) → ZoneOk l (zoneOf l)
-unfolding zoneOf zoneNamed named digitsOf firstKey firstBytes after
+unfolding zoneOf zoneNamed named firstKey firstBytes after
 zone-ok [] = tt
 zone-ok (s ∷ r) =
     pick-eq (ZoneOk (s ∷ r)) (s .key) plusByte
-    (λ e. signed-ok (s ∷ r) r ahead noZone tt (λ p w d. subst (λ (x : List Part). ZoneIs (s ∷ x) (offsetOf ahead (num p))) (sym w) (east e d)))
+    (λ e. signed-ok (s ∷ r) r ahead (λ p w d. subst (λ (x : List Part). ZoneIs (s ∷ x) (offsetOf ahead (num p))) (sym w) (east e d)))
     (pick-eq (ZoneOk (s ∷ r)) (s .key) minusByte
-    (λ e. signed-ok (s ∷ r) r behind (zoneNamed r)
-    (zone-name-ok (s ∷ r) r (λ p z w n. subst (λ (x : List Part). ZoneIs (s ∷ x) (Minutes (getD zoneMinutes z (pos 0)))) (sym w) (dashed-name e n)))
-    (λ p w d. subst (λ (x : List Part). ZoneIs (s ∷ x) (offsetOf behind (num p))) (sym w) (west e d)))
+    (λ e. pick-eq (ZoneOk (s ∷ r)) (firstKey r) digit
+    (λ g. signed-ok (s ∷ r) r behind (λ p w d. subst (λ (x : List Part). ZoneIs (s ∷ x) (offsetOf behind (num p))) (sym w) (west e d)))
+    (zone-name-ok (s ∷ r) r (λ p z w n. subst (λ (x : List Part). ZoneIs (s ∷ x) (Minutes (getD zoneMinutes z (pos 0)))) (sym w) (dashed-name e n))))
     (zone-name-ok (s ∷ r) (s ∷ r) (λ p z w n. subst (λ (x : List Part). ZoneIs x (Minutes (getD zoneMinutes z (pos 0)))) (sym w) (zone-name n))))
 
 abbrev ReadingOk : List Part → Reading → Type 0

@@ -6,10 +6,11 @@ use Prim.Native.Nat.{ℕ, suc, _+_, _≤_, _<_}
 use native.Mathlib.Omega.{arith}
 use lib.Dec.{eqb}
 use lib.ListN.{length, take, drop, getD}
-use borrow.Author.Tests.{eq-eqb, ne-eqb, eqb-true}
+use borrow.Author.Tests.{eq-eqb, ne-eqb, eqb-true, lt-ltb, le-ltb}
 use denote.Enum.Declared.{tagOf}
 use types.Run.{OneOf, miss}
 use Rattle.octets.specs.Believed.Choice.{pick, both}
+use Rattle.octets.specs.Believed.Octets.{minusByte}
 use Rattle.octets.specs.Believed.Text.{part}
 use Rattle.octets.proofs.ChoiceLaws.{both-false}
 use Rattle.octets.proofs.Parts.{part-cons, part-none, part-drop, part-take}
@@ -20,8 +21,9 @@ use Rattle.scanner.proofs.Class.{the-type}
 use Rattle.scanner.specs.Ties.Meanings.{meaningAt}
 use Rattle.scanner.proofs.Unfolding.{SymbolAt}
 use Rattle.dates.specs.Believed.Parts.{Part, otherPart, noPart, isMark, isRun, keyOf, before, runs, partsOf, parts}
-use Rattle.dates.specs.Executable.Form.{firstKey, firstBytes, after}
-use Rattle.dates.specs.Ties.Steps.{left, span, RunEnds, TokenIs}
+use Rattle.dates.specs.Executable.Form.{firstKey, firstBytes, after, pastDash}
+use Rattle.dates.specs.declared.form.DigitRun.{DigitRun}
+use Rattle.dates.specs.Ties.Steps.{left, span, RunEnds, TokenIs, cursorSize, placed, PartIs, held, Holds, DigitRunIs, NamedIs, PastIs}
 
 -- ---- keys
 
@@ -192,3 +194,80 @@ module _ (classes text : List ℕ) (at end : ℕ) (h : end ≤ at) where
   part-unquoted {class} {start} {stop} x o =
       left-here classes text at end h ∙ ap (λ (s : Scanned). parts classes s) (x .same)
       ∙ ap (λ (r : List Part). r ++ parts classes (scanBy classes text stop)) (symbol classes text start stop class .0 o)
+
+-- ---- the part ahead of a cursor
+
+-- what holds of every list of four numbers holds of a cursor
+each-cursor : (P : List ℕ → Type 0) → ((a b c d : ℕ) → P (a ∷ b ∷ c ∷ d ∷ [])) → (cursor : List ℕ) → length cursor ≡ cursorSize → P cursor
+each-cursor P f (a ∷ b ∷ c ∷ d ∷ []) l = f a b c d
+each-cursor P f [] l = absurd (omega arith)
+each-cursor P f (a ∷ []) l = absurd (omega arith)
+each-cursor P f (a ∷ b ∷ []) l = absurd (omega arith)
+each-cursor P f (a ∷ b ∷ c ∷ []) l = absurd (omega arith)
+each-cursor P f (a ∷ b ∷ c ∷ d ∷ x ∷ xs) l = absurd (omega arith)
+
+module _ {classes text : List ℕ} {l : List Part} where
+  pub put-ahead : (cursor : List ℕ) → length cursor ≡ cursorSize → {key start stop end : ℕ} {next : List ℕ} → next ≡ placed key start stop end cursor
+      → TokenIs classes text l (record { key = key; start = start; stop = stop; end = end }) → PartIs classes text l next
+  put-ahead cursor s {key} {start} {stop} {end} e x =
+      rw e (each-cursor (λ c. PartIs classes text l (placed key start stop end c)) (λ a b c d. record { sized = refl; token = x }) cursor s)
+
+-- the cursor tells which parts it holds
+pub held-is : {classes text : List ℕ} {l : List Part} {cursor : List ℕ} → PartIs classes text l cursor → held classes text cursor ≡ l
+unfolding held firstKey firstBytes after
+held-is {l = []} {cursor = cursor} x = rw (eq-eqb (getD cursor 0 0) noPart (sym (x .token .key-is)))
+held-is {l = p ∷ r} {cursor = cursor} x =
+    let t = x .token in
+    rw (ne-eqb (getD cursor 0 0) noPart (λ e. let z : _≡_ {A = ℕ} 0 1 = cc (t .last e) in omega arith), ← t .key-is, ← t .bytes-are, ← t .rest-is)
+
+pub holding : {classes text : List ℕ} {l : List Part} {cursor : List ℕ} → PartIs classes text l cursor → Holds classes text cursor
+holding x = rw (held-is x) x
+
+-- what is told of the parts that a cursor holds is told of the parts that are ahead of it
+module _ {classes text : List ℕ} {l : List Part} {cursor next : List ℕ} (x : PartIs classes text l cursor) where
+  pub digits-ahead : {n : DigitRun} → DigitRunIs classes text (held classes text cursor) next n → DigitRunIs classes text l next n
+  digits-ahead y = rw (held-is x) at y
+
+  pub mark-ahead : {mark : ℕ} {r : Bool} → PastIs classes text (held classes text cursor) mark next r → PastIs classes text l mark next r
+  mark-ahead y = rw (held-is x) at y
+
+module _ {classes text : List ℕ} {l : List Part} {cursor : List ℕ} where
+  -- past a mark, or before what is no mark
+  pub passed : {mark : ℕ} {r : Bool} → PastIs classes text l mark cursor r → r ≡ true → (eqb (firstKey l) mark ≡ true) × PartIs classes text (after l) cursor
+  passed x e = (x .is ∙ e, rw e at (x .next))
+
+  pub not-passed : {mark : ℕ} {r : Bool} → PastIs classes text l mark cursor r → r ≡ false → (eqb (firstKey l) mark ≡ false) × PartIs classes text l cursor
+  not-passed x e = (x .is ∙ e, rw e at (x .next))
+
+  pub dash-passed : {r : Bool} → PastIs classes text l minusByte cursor r → PartIs classes text (pastDash l) cursor
+  unfolding pastDash
+  dash-passed x = rw (x .is) (x .next)
+
+  -- past a name of a table, or before what is none
+  pub past-name : {names : List (List ℕ)} {n : ℕ} → NamedIs classes text names l cursor n → n < length names → PartIs classes text (after l) cursor
+  past-name {names} {n} x h = rw (lt-ltb n (length names) h) at (x .next)
+
+  pub no-name : {names : List (List ℕ)} {n : ℕ} → NamedIs classes text names l cursor n → length names ≤ n → PartIs classes text l cursor
+  no-name {names} {n} x h = rw (le-ltb n (length names) h) at (x .next)
+
+-- a cursor before a position of a text
+module _ (classes text : List ℕ) (at : ℕ) where
+  abbrev start : List ℕ
+  start = otherPart ∷ at ∷ at ∷ at ∷ []
+
+  pub from-spot : at ≤ length text → Holds classes text start × (left classes text at at ≡ after (held classes text start))
+  unfolding held firstKey firstBytes after
+  from-spot h = (
+    record {
+      sized = refl;
+      token = record {
+        key-is = refl;
+        bytes-are = refl;
+        rest-is = refl;
+        last = λ e. absurd (omega arith);
+        order = omega arith;
+        spot = record { order = omega arith; inside = h };
+      };
+    },
+    refl,
+  )

@@ -7,8 +7,8 @@ ghost use Rattle.octets.specs.Believed.Choice.{pick};
 ghost use Rattle.octets.specs.Believed.Text.{part};
 ghost use Rattle.dates.specs.Believed.Names.{ahead, behind};
 ghost use Rattle.dates.specs.Believed.Grammar.{decimal, offsetOf};
-ghost use Rattle.dates.specs.Executable.Form.{digitsOf, after, moreDigits, pastMore, secondAfter, hourOf, zoneNamed, zoneOf, hourAfter, pastDash, yearAfter, monthAfter, dayAfter, readingOf};
-ghost use Rattle.dates.specs.Ties.Steps.{rows, ascend, Within, left, DigitRunIs, NamedIs, SpotIs, ClockIs, ZoneFoundIs};
+ghost use Rattle.dates.specs.Executable.Form.{secondAfter, minuteAfter, hourOf, zoneNamed, zoneSigned, zoneOf, hourAfter, yearAfter, monthAfter, dayAfter, readingOf};
+ghost use Rattle.dates.specs.Ties.Steps.{rows, ascend, left, Holds, held, DigitRunIs, NamedIs, PastIs, ClockIs, ZoneFoundIs};
 use crate::names::DAY_ENDS;
 use crate::names::DAYS;
 use crate::names::MONTH_ENDS;
@@ -18,9 +18,13 @@ use crate::names::ZONE_MINUTES;
 use crate::names::ZONES;
 use crate::parts::COLON;
 use crate::parts::COMMA;
+use crate::parts::KEY;
 use crate::parts::MINUS;
 use crate::parts::NO_PART;
+use crate::parts::OTHER_PART;
 use crate::parts::PLUS;
+use crate::parts::START;
+use crate::parts::STOP;
 use octets::classes::DIGIT;
 use octets::classes::LETTER;
 
@@ -47,37 +51,22 @@ pub(crate) enum Reading {
     Right(Written),
 }
 
-// A run of digits: how many, their value if they are at most six, and where the next part is.
+// A run of digits: how many, and their value if they are at most six.
 struct DigitRun {
     count: usize,
     value: u64,
-    at: usize,
-    end: usize,
 }
 
-// A name's place in its table, and where the next part is.
-struct Named {
-    place: usize,
-    at: usize,
-    end: usize,
-}
-
-// Where the next part is.
-struct Spot {
-    at: usize,
-    end: usize,
-}
-
-// Hour, minute and second, and where the next part is.
+// Hour, minute and second.
 enum Clock {
     NoClock,
-    Time(u64, u64, u64, usize, usize),
+    Time(u64, u64, u64),
 }
 
-// A zone, and where the next part is.
+// A zone.
 enum ZoneRead {
     NoZone,
-    Found(Offset, usize, usize),
+    Found(Offset),
 }
 
 // The value of a digit.
@@ -104,143 +93,121 @@ fn decimal(text: &[u8], start: usize, stop: usize) -> u64
     v
 }
 
-// The first part as a run of digits.
-fn read_digits(classes: &[u8; 256], text: &[u8], at: usize, end: usize) -> DigitRun
-    requires { ⌜ Within (now text) at end ⌝ }
-    ensures { λ r. ⌜ DigitRunIs (now (classes .entry)) (now (text .entry)) (digitsOf (left (now (classes .entry)) (now (text .entry)) at end)) (after (left (now (classes .entry)) (now (text .entry)) at end)) r ⌝ }
+// The part ahead as a run of digits; past it, if there are one to six.
+fn read_digits(classes: &[u8; 256], text: &[u8], cursor: &mut [usize; 4]) -> DigitRun
+    requires { ⌜ Holds (now classes) (now text) (now cursor) ⌝ }
+    ensures { λ r. ⌜ DigitRunIs (now (classes .entry)) (now (text .entry)) (held (now (classes .entry)) (now (text .entry)) (now (cursor .entry))) (now (cursor .exit)) r ⌝ }
 {
-    let t = crate::parts::next_part(classes, text, at, end);
-    let start = t.start;
-    let stop = t.stop;
-    if t.key != DIGIT {
-        return DigitRun {
-            count: 0,
-            value: 0,
-            at: stop,
-            end: t.end,
-        };
+    if cursor[KEY] != DIGIT as usize {
+        return DigitRun { count: 0, value: 0 };
     }
+    let start = cursor[START];
+    let stop = cursor[STOP];
     if 6 < stop - start {
         return DigitRun {
             count: stop - start,
             value: 0,
-            at: stop,
-            end: t.end,
         };
     }
-    let v = decimal(text, start, stop);
+    let value = decimal(text, start, stop);
+    crate::parts::step(classes, text, cursor);
     DigitRun {
         count: stop - start,
-        value: v,
-        at: stop,
-        end: t.end,
+        value,
     }
 }
 
-// The first part as a name of a table.
+// The place of the part ahead among the names of a table; past it, if it is one of them.
 fn read_name(
     classes: &[u8; 256],
     text: &[u8],
-    at: usize,
-    end: usize,
+    cursor: &mut [usize; 4],
     names: &[u8],
     ends: &[usize],
-) -> Named
-    requires { ⌜ Within (now text) at end × (ascend (length (now names)) 0 (now ends) ≡ true) ⌝ }
-    ensures { λ r. ⌜ NamedIs (now (classes .entry)) (now (text .entry)) (rows (now (names .entry)) 0 (now (ends .entry))) (left (now (classes .entry)) (now (text .entry)) at end) r ⌝ }
+) -> usize
+    requires { ⌜ Holds (now classes) (now text) (now cursor) × (ascend (length (now names)) 0 (now ends) ≡ true) ⌝ }
+    ensures { λ r. ⌜ NamedIs (now (classes .entry)) (now (text .entry)) (rows (now (names .entry)) 0 (now (ends .entry))) (held (now (classes .entry)) (now (text .entry)) (now (cursor .entry))) (now (cursor .exit)) r ⌝ }
 {
-    let t = crate::parts::next_part(classes, text, at, end);
-    let start = t.start;
-    let stop = t.stop;
-    if t.key != LETTER {
-        return Named {
-            place: ends.len(),
-            at: stop,
-            end: t.end,
-        };
+    if cursor[KEY] != LETTER as usize {
+        return ends.len();
     }
+    let start = cursor[START];
+    let stop = cursor[STOP];
     let place = crate::names::find(names, ends, &text[start..stop]);
-    Named {
-        place,
-        at: stop,
-        end: t.end,
+    if ends.len() <= place {
+        return place;
     }
+    crate::parts::step(classes, text, cursor);
+    place
 }
 
-// Past a "-" that may stand there.
-fn past_dash(classes: &[u8; 256], text: &[u8], at: usize, end: usize) -> Spot
-    requires { ⌜ Within (now text) at end ⌝ }
-    ensures { λ r. ⌜ SpotIs (now (classes .entry)) (now (text .entry)) (pastDash (left (now (classes .entry)) (now (text .entry)) at end)) r ⌝ }
+// Whether a mark stands ahead; past it, if it does.
+fn past(classes: &[u8; 256], text: &[u8], cursor: &mut [usize; 4], mark: u8) -> bool
+    requires { ⌜ Holds (now classes) (now text) (now cursor) ⌝ }
+    ensures { λ r. ⌜ PastIs (now (classes .entry)) (now (text .entry)) (held (now (classes .entry)) (now (text .entry)) (now (cursor .entry))) mark (now (cursor .exit)) r ⌝ }
 {
-    let t = crate::parts::next_part(classes, text, at, end);
-    if t.key == MINUS {
-        return Spot {
-            at: t.stop,
-            end: t.end,
-        };
+    if cursor[KEY] != mark as usize {
+        return false;
     }
-    Spot { at, end }
-}
-
-// A colon and a run of digits: no digits, if there is no colon.
-fn more_digits(classes: &[u8; 256], text: &[u8], at: usize, end: usize) -> DigitRun
-    requires { ⌜ Within (now text) at end ⌝ }
-    ensures { λ r. ⌜ DigitRunIs (now (classes .entry)) (now (text .entry)) (moreDigits (left (now (classes .entry)) (now (text .entry)) at end)) (pastMore (left (now (classes .entry)) (now (text .entry)) at end)) r ⌝ }
-{
-    let t = crate::parts::next_part(classes, text, at, end);
-    if t.key != COLON {
-        return DigitRun {
-            count: 0,
-            value: 0,
-            at,
-            end,
-        };
-    }
-    read_digits(classes, text, t.stop, t.end)
+    crate::parts::step(classes, text, cursor);
+    true
 }
 
 // The second, a colon and two digits, or none.
 fn second_after(
     classes: &[u8; 256],
     text: &[u8],
-    at: usize,
-    end: usize,
+    cursor: &mut [usize; 4],
     hour: u64,
     minute: u64,
 ) -> Clock
-    requires { ⌜ Within (now text) at end ⌝ }
-    ensures { λ r. ⌜ ClockIs (now (classes .entry)) (now (text .entry)) (secondAfter hour minute (left (now (classes .entry)) (now (text .entry)) at end)) r ⌝ }
+    requires { ⌜ Holds (now classes) (now text) (now cursor) ⌝ }
+    ensures { λ r. ⌜ ClockIs (now (classes .entry)) (now (text .entry)) (secondAfter hour minute (held (now (classes .entry)) (now (text .entry)) (now (cursor .entry)))) (now (cursor .exit)) r ⌝ }
 {
-    let n = more_digits(classes, text, at, end);
-    if n.count == 2 {
-        return Clock::Time(hour, minute, n.value, n.at, n.end);
+    if !past(classes, text, cursor, COLON) {
+        return Clock::Time(hour, minute, 0);
     }
-    Clock::Time(hour, minute, 0, at, end)
+    let n = read_digits(classes, text, cursor);
+    if n.count == 2 {
+        return Clock::Time(hour, minute, n.value);
+    }
+    Clock::NoClock
+}
+
+// The minute after two digits: a colon and four digits; or a colon, two and perhaps the second.
+fn minute_after(classes: &[u8; 256], text: &[u8], cursor: &mut [usize; 4], hour: u64) -> Clock
+    requires { ⌜ Holds (now classes) (now text) (now cursor) ⌝ }
+    ensures { λ r. ⌜ ClockIs (now (classes .entry)) (now (text .entry)) (minuteAfter hour (held (now (classes .entry)) (now (text .entry)) (now (cursor .entry)))) (now (cursor .exit)) r ⌝ }
+{
+    if !past(classes, text, cursor, COLON) {
+        return Clock::NoClock;
+    }
+    let n = read_digits(classes, text, cursor);
+    let v = n.value;
+    if n.count == 4 {
+        return Clock::Time(hour, v / 100, v % 100);
+    }
+    if n.count == 2 {
+        return second_after(classes, text, cursor, hour, v);
+    }
+    Clock::NoClock
 }
 
 // The hour in its six forms.
-fn read_hour(classes: &[u8; 256], text: &[u8], at: usize, end: usize) -> Clock
-    requires { ⌜ Within (now text) at end ⌝ }
-    ensures { λ r. ⌜ ClockIs (now (classes .entry)) (now (text .entry)) (hourOf (left (now (classes .entry)) (now (text .entry)) at end)) r ⌝ }
+fn read_hour(classes: &[u8; 256], text: &[u8], cursor: &mut [usize; 4]) -> Clock
+    requires { ⌜ Holds (now classes) (now text) (now cursor) ⌝ }
+    ensures { λ r. ⌜ ClockIs (now (classes .entry)) (now (text .entry)) (hourOf (held (now (classes .entry)) (now (text .entry)) (now (cursor .entry)))) (now (cursor .exit)) r ⌝ }
 {
-    let n = read_digits(classes, text, at, end);
+    let n = read_digits(classes, text, cursor);
     let v = n.value;
     if n.count == 6 {
-        return Clock::Time(v / 10000, v / 100 % 100, v % 100, n.at, n.end);
+        return Clock::Time(v / 10000, v / 100 % 100, v % 100);
     }
     if n.count == 4 {
-        return second_after(classes, text, n.at, n.end, v / 100, v % 100);
+        return second_after(classes, text, cursor, v / 100, v % 100);
     }
-    if n.count != 2 {
-        return Clock::NoClock;
-    }
-    let m = more_digits(classes, text, n.at, n.end);
-    let w = m.value;
-    if m.count == 4 {
-        return Clock::Time(v, w / 100, w % 100, m.at, m.end);
-    }
-    if m.count == 2 {
-        return second_after(classes, text, m.at, m.end, v, w);
+    if n.count == 2 {
+        return minute_after(classes, text, cursor, v);
     }
     Clock::NoClock
 }
@@ -264,65 +231,68 @@ fn offset_of(minus: bool, hhmm: u64) -> Offset
 }
 
 // A zone of the table.
-fn zone_named(classes: &[u8; 256], text: &[u8], at: usize, end: usize) -> ZoneRead
-    requires { ⌜ Within (now text) at end ⌝ }
-    ensures { λ r. ⌜ ZoneFoundIs (now (classes .entry)) (now (text .entry)) (zoneNamed (left (now (classes .entry)) (now (text .entry)) at end)) r ⌝ }
+fn zone_named(classes: &[u8; 256], text: &[u8], cursor: &mut [usize; 4]) -> ZoneRead
+    requires { ⌜ Holds (now classes) (now text) (now cursor) ⌝ }
+    ensures { λ r. ⌜ ZoneFoundIs (now (classes .entry)) (now (text .entry)) (zoneNamed (held (now (classes .entry)) (now (text .entry)) (now (cursor .entry)))) (now (cursor .exit)) r ⌝ }
 {
     let names = &ZONES;
     let ends = &ZONE_ENDS;
-    let n = read_name(classes, text, at, end, names, ends);
-    let place = n.place;
+    let place = read_name(classes, text, cursor, names, ends);
     if 43 <= place {
         return ZoneRead::NoZone;
     }
-    ZoneRead::Found(Offset::Minutes(ZONE_MINUTES[place]), n.at, n.end)
+    ZoneRead::Found(Offset::Minutes(ZONE_MINUTES[place]))
+}
+
+// The zone after a sign: four digits.
+fn zone_signed(classes: &[u8; 256], text: &[u8], cursor: &mut [usize; 4], minus: bool) -> ZoneRead
+    requires { ⌜ Holds (now classes) (now text) (now cursor) ⌝ }
+    ensures { λ r. ⌜ ZoneFoundIs (now (classes .entry)) (now (text .entry)) (zoneSigned (pick minus behind ahead) (held (now (classes .entry)) (now (text .entry)) (now (cursor .entry)))) (now (cursor .exit)) r ⌝ }
+{
+    let n = read_digits(classes, text, cursor);
+    if n.count != 4 {
+        return ZoneRead::NoZone;
+    }
+    ZoneRead::Found(offset_of(minus, n.value))
 }
 
 // The zone: a sign and four digits, or a name before which a "-" may stand.
-fn read_zone(classes: &[u8; 256], text: &[u8], at: usize, end: usize) -> ZoneRead
-    requires { ⌜ Within (now text) at end ⌝ }
-    ensures { λ r. ⌜ ZoneFoundIs (now (classes .entry)) (now (text .entry)) (zoneOf (left (now (classes .entry)) (now (text .entry)) at end)) r ⌝ }
+fn read_zone(classes: &[u8; 256], text: &[u8], cursor: &mut [usize; 4]) -> ZoneRead
+    requires { ⌜ Holds (now classes) (now text) (now cursor) ⌝ }
+    ensures { λ r. ⌜ ZoneFoundIs (now (classes .entry)) (now (text .entry)) (zoneOf (held (now (classes .entry)) (now (text .entry)) (now (cursor .entry)))) (now (cursor .exit)) r ⌝ }
 {
-    let t = crate::parts::next_part(classes, text, at, end);
-    if t.key == PLUS {
-        let n = read_digits(classes, text, t.stop, t.end);
-        if n.count != 4 {
-            return ZoneRead::NoZone;
-        }
-        return ZoneRead::Found(offset_of(false, n.value), n.at, n.end);
+    if past(classes, text, cursor, PLUS) {
+        return zone_signed(classes, text, cursor, false);
     }
-    if t.key != MINUS {
-        return zone_named(classes, text, at, end);
+    if !past(classes, text, cursor, MINUS) {
+        return zone_named(classes, text, cursor);
     }
-    let n = read_digits(classes, text, t.stop, t.end);
-    if n.count != 4 {
-        return zone_named(classes, text, t.stop, t.end);
+    if cursor[KEY] == DIGIT as usize {
+        return zone_signed(classes, text, cursor, true);
     }
-    ZoneRead::Found(offset_of(true, n.value), n.at, n.end)
+    zone_named(classes, text, cursor)
 }
 
 // The hour, the zone and the end, after the year.
 fn hour_after(
     classes: &[u8; 256],
     text: &[u8],
-    at: usize,
-    end: usize,
+    cursor: &mut [usize; 4],
     name: usize,
     day: u64,
     month: usize,
     year: u64,
 ) -> Reading
-    requires { ⌜ Within (now text) at end ⌝ }
-    ensures { λ r. ⌜ r ≡ hourAfter name day month year (left (now (classes .entry)) (now (text .entry)) at end) ⌝ }
+    requires { ⌜ Holds (now classes) (now text) (now cursor) ⌝ }
+    ensures { λ r. ⌜ r ≡ hourAfter name day month year (held (now (classes .entry)) (now (text .entry)) (now (cursor .entry))) ⌝ }
 {
-    let Clock::Time(hour, minute, second, a, b) = read_hour(classes, text, at, end) else {
+    let Clock::Time(hour, minute, second) = read_hour(classes, text, cursor) else {
         return Reading::Wrong;
     };
-    let ZoneRead::Found(zone, c, d) = read_zone(classes, text, a, b) else {
+    let ZoneRead::Found(zone) = read_zone(classes, text, cursor) else {
         return Reading::Wrong;
     };
-    let t = crate::parts::next_part(classes, text, c, d);
-    if t.key != NO_PART {
+    if cursor[KEY] != NO_PART as usize {
         return Reading::Wrong;
     }
     Reading::Right(Written {
@@ -341,21 +311,20 @@ fn hour_after(
 fn year_after(
     classes: &[u8; 256],
     text: &[u8],
-    at: usize,
-    end: usize,
+    cursor: &mut [usize; 4],
     name: usize,
     day: u64,
     month: usize,
 ) -> Reading
-    requires { ⌜ Within (now text) at end ⌝ }
-    ensures { λ r. ⌜ r ≡ yearAfter name day month (left (now (classes .entry)) (now (text .entry)) at end) ⌝ }
+    requires { ⌜ Holds (now classes) (now text) (now cursor) ⌝ }
+    ensures { λ r. ⌜ r ≡ yearAfter name day month (held (now (classes .entry)) (now (text .entry)) (now (cursor .entry))) ⌝ }
 {
-    let n = read_digits(classes, text, at, end);
+    let n = read_digits(classes, text, cursor);
     if n.count == 2 {
-        return hour_after(classes, text, n.at, n.end, name, day, month, n.value + 1900);
+        return hour_after(classes, text, cursor, name, day, month, n.value + 1900);
     }
     if n.count == 4 {
-        return hour_after(classes, text, n.at, n.end, name, day, month, n.value);
+        return hour_after(classes, text, cursor, name, day, month, n.value);
     }
     Reading::Wrong
 }
@@ -364,39 +333,54 @@ fn year_after(
 fn month_after(
     classes: &[u8; 256],
     text: &[u8],
-    at: usize,
-    end: usize,
+    cursor: &mut [usize; 4],
     name: usize,
     day: u64,
 ) -> Reading
-    requires { ⌜ Within (now text) at end ⌝ }
-    ensures { λ r. ⌜ r ≡ monthAfter name day (left (now (classes .entry)) (now (text .entry)) at end) ⌝ }
+    requires { ⌜ Holds (now classes) (now text) (now cursor) ⌝ }
+    ensures { λ r. ⌜ r ≡ monthAfter name day (held (now (classes .entry)) (now (text .entry)) (now (cursor .entry))) ⌝ }
 {
     let names = &MONTHS;
     let ends = &MONTH_ENDS;
-    let n = read_name(classes, text, at, end, names, ends);
-    let place = n.place;
+    let place = read_name(classes, text, cursor, names, ends);
     if 12 <= place {
         return Reading::Wrong;
     }
-    let s = past_dash(classes, text, n.at, n.end);
-    year_after(classes, text, s.at, s.end, name, day, place)
+    past(classes, text, cursor, MINUS);
+    year_after(classes, text, cursor, name, day, place)
 }
 
 // The day and what comes after it.
-fn day_after(classes: &[u8; 256], text: &[u8], at: usize, end: usize, name: usize) -> Reading
-    requires { ⌜ Within (now text) at end ⌝ }
-    ensures { λ r. ⌜ r ≡ dayAfter name (left (now (classes .entry)) (now (text .entry)) at end) ⌝ }
+fn day_after(classes: &[u8; 256], text: &[u8], cursor: &mut [usize; 4], name: usize) -> Reading
+    requires { ⌜ Holds (now classes) (now text) (now cursor) ⌝ }
+    ensures { λ r. ⌜ r ≡ dayAfter name (held (now (classes .entry)) (now (text .entry)) (now (cursor .entry))) ⌝ }
 {
-    let n = read_digits(classes, text, at, end);
+    let n = read_digits(classes, text, cursor);
     if n.count < 1 {
         return Reading::Wrong;
     }
     if 2 < n.count {
         return Reading::Wrong;
     }
-    let s = past_dash(classes, text, n.at, n.end);
-    month_after(classes, text, s.at, s.end, name, n.value)
+    past(classes, text, cursor, MINUS);
+    month_after(classes, text, cursor, name, n.value)
+}
+
+// The date whose first part is ahead.
+fn read_ahead(classes: &[u8; 256], text: &[u8], cursor: &mut [usize; 4]) -> Reading
+    requires { ⌜ Holds (now classes) (now text) (now cursor) ⌝ }
+    ensures { λ r. ⌜ r ≡ readingOf (held (now (classes .entry)) (now (text .entry)) (now (cursor .entry))) ⌝ }
+{
+    let names = &DAYS;
+    let ends = &DAY_ENDS;
+    let place = read_name(classes, text, cursor, names, ends);
+    if 7 <= place {
+        return day_after(classes, text, cursor, 7);
+    }
+    if !past(classes, text, cursor, COMMA) {
+        return Reading::Wrong;
+    }
+    day_after(classes, text, cursor, place)
 }
 
 // The date that a text writes from a position on.
@@ -404,16 +388,7 @@ pub(crate) fn read_form(classes: &[u8; 256], text: &[u8], at: usize) -> Reading
     requires { ⌜ at ≤ length (now text) ⌝ }
     ensures { λ r. ⌜ r ≡ readingOf (left (now (classes .entry)) (now (text .entry)) at at) ⌝ }
 {
-    let names = &DAYS;
-    let ends = &DAY_ENDS;
-    let n = read_name(classes, text, at, at, names, ends);
-    let place = n.place;
-    if 7 <= place {
-        return day_after(classes, text, at, at, 7);
-    }
-    let t = crate::parts::next_part(classes, text, n.at, n.end);
-    if t.key != COMMA {
-        return Reading::Wrong;
-    }
-    day_after(classes, text, t.stop, t.end, place)
+    let mut cursor: [usize; 4] = [OTHER_PART as usize, at, at, at];
+    crate::parts::step(classes, text, &mut cursor);
+    read_ahead(classes, text, &mut cursor)
 }

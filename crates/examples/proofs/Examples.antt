@@ -10,11 +10,11 @@ use Rattle.dates.specs.Believed.Names.{called, place}
 use Rattle.dates.specs.Believed.Parts.{isMark, isRun, keyOf, runs, parts}
 use Rattle.dates.specs.Believed.Grammar.{decimal, offsetOf}
 use Rattle.dates.specs.Believed.Calendar.{leap, monthLength, daysBeforeMonth, daysOfYears, dayNumber}
-use Rattle.dates.specs.Executable.Form.{firstKey, firstBytes, after, done, digitsOf, named, upToSix, moreDigits, pastMore, secondAfter, hourOf, zoneNamed, zoneOf, hourAfter, pastDash, yearAfter, monthAfter, dayAfter, readingOf}
+use Rattle.dates.specs.Executable.Form.{firstKey, firstBytes, after, done, digitsOf, named, upToSix, secondAfter, minuteAfter, hourOf, zoneNamed, zoneSigned, zoneOf, hourAfter, pastDash, yearAfter, monthAfter, dayAfter, readingOf}
 use Rattle.dates.specs.Believed.Answers.{dayExists, timeExists, nameTrue, momentOf}
 use Rattle.dates.specs.Believed.Outcome.{dateAnswer}
 use Rattle.examples.specs.Believed.Examples.{ExamplesHold}
 
 pub examples-hold : ExamplesHold
-unfolding scanFrom symbolsOf charactersFrom kindOf classOf classTable lower same unlessFault called place isMark isRun keyOf runs parts decimal offsetOf leap monthLength daysBeforeMonth daysOfYears dayNumber firstKey firstBytes after done digitsOf named upToSix moreDigits pastMore secondAfter hourOf zoneNamed zoneOf hourAfter pastDash yearAfter monthAfter dayAfter readingOf dayExists timeExists nameTrue momentOf dateAnswer
+unfolding scanFrom symbolsOf charactersFrom kindOf classOf classTable lower same unlessFault called place isMark isRun keyOf runs parts decimal offsetOf leap monthLength daysBeforeMonth daysOfYears dayNumber firstKey firstBytes after done digitsOf named upToSix secondAfter minuteAfter hourOf zoneNamed zoneSigned zoneOf hourAfter pastDash yearAfter monthAfter dayAfter readingOf dayExists timeExists nameTrue momentOf dateAnswer
 examples-hold = (refl, (refl, (refl, (refl, (refl, (refl, (refl, (refl, (refl, (refl, (refl, (refl, (refl, tt)))))))))))))

@@ -18,7 +18,7 @@ use Rattle.dates.specs.Believed.Names.{called, place}
 use Rattle.dates.specs.Believed.Parts.{isMark, isRun, keyOf, runs, parts}
 use Rattle.dates.specs.Believed.Grammar.{decimal, offsetOf}
 use Rattle.dates.specs.Believed.Calendar.{leap, monthLength, daysBeforeMonth, daysOfYears, dayNumber}
-use Rattle.dates.specs.Executable.Form.{firstKey, firstBytes, after, done, digitsOf as digitsPart, named, upToSix, moreDigits, pastMore, secondAfter, hourOf, zoneNamed, zoneOf, hourAfter, pastDash, yearAfter, monthAfter, dayAfter, readingOf}
+use Rattle.dates.specs.Executable.Form.{firstKey, firstBytes, after, done, digitsOf as digitsPart, named, upToSix, secondAfter, minuteAfter, hourOf, zoneNamed, zoneSigned, zoneOf, hourAfter, pastDash, yearAfter, monthAfter, dayAfter, readingOf}
 use Rattle.dates.specs.Believed.Answers.{dayExists, timeExists, nameTrue, momentOf}
 use Rattle.dates.specs.Believed.Outcome.{dateAnswer}
 use Rattle.listing.specs.Believed.Lines.{digitsOf, signed, spaced}
@@ -55,5 +55,5 @@ AllHold [] = Unit {0}
 AllHold (row ∷ more) = (listing (row .edition) (ended (returnByte ∷ lineFeedByte ∷ []) (row .message)) ≡ ended (lineFeedByte ∷ []) (row .printed)) × AllHold more
 
 pub rows-hold : AllHold rows
-unfolding scanFrom symbolsOf charactersFrom kindOf classOf classOf822 classTable classTable822 lower same unlessFault nameHolds nameStartsWith crlf endsBody atLineStart atName atBody headerFrom knownNames knownIn answerIn answerFor called place isMark isRun keyOf runs parts decimal offsetOf leap monthLength daysBeforeMonth daysOfYears dayNumber firstKey firstBytes after done digitsPart named upToSix moreDigits pastMore secondAfter hourOf zoneNamed zoneOf hourAfter pastDash yearAfter monthAfter dayAfter readingOf dayExists timeExists nameTrue momentOf dateAnswer digitsOf signed spaced each fieldText
+unfolding scanFrom symbolsOf charactersFrom kindOf classOf classOf822 classTable classTable822 lower same unlessFault nameHolds nameStartsWith crlf endsBody atLineStart atName atBody headerFrom knownNames knownIn answerIn answerFor called place isMark isRun keyOf runs parts decimal offsetOf leap monthLength daysBeforeMonth daysOfYears dayNumber firstKey firstBytes after done digitsPart named upToSix secondAfter minuteAfter hourOf zoneNamed zoneSigned zoneOf hourAfter pastDash yearAfter monthAfter dayAfter readingOf dayExists timeExists nameTrue momentOf dateAnswer digitsOf signed spaced each fieldText
 rows-hold = (refl, (refl, (refl, (refl, (refl, (refl, (refl, (refl, (refl, (refl, tt))))))))))

@@ -46,14 +46,6 @@ digitsOf l = pick (eqb (firstKey l) digit) (firstBytes l) []
 unfoldable pub upToSix : List ℕ → ℕ
 upToSix d = pick (ltb 6 (length d)) 0 (decimal d)
 
--- the digits after a colon; none, if the first part is no colon
-unfoldable pub moreDigits : List Part → List ℕ
-moreDigits l = pick (eqb (firstKey l) colonByte) (digitsOf (after l)) []
-
--- the parts after them
-unfoldable pub pastMore : List Part → List Part
-pastMore l = pick (eqb (firstKey l) colonByte) (after (after l)) l
-
 -- its place among names; past the last, if it is none of them
 unfoldable pub named : List (List ℕ) → List Part → ℕ
 named names l = pick (eqb (firstKey l) letter) (place names (firstBytes l)) (length names)
@@ -65,11 +57,11 @@ pub data Hour : Type 0 where
   hour : ℕ → ℕ → ℕ → List Part → Hour
 
 -- the second, a colon and two digits, or none
-abbrev pub secondFrom : ℕ → ℕ → List ℕ → List Part → List Part → Hour
-secondFrom h m d rest l = pick (eqb (length d) 2) (hour h m (upToSix d) rest) (hour h m 0 l)
+abbrev pub secondFrom : ℕ → ℕ → List ℕ → List Part → Hour
+secondFrom h m d rest = pick (eqb (length d) 2) (hour h m (upToSix d) rest) noHour
 
 unfoldable pub secondAfter : ℕ → ℕ → List Part → Hour
-secondAfter h m l = secondFrom h m (moreDigits l) (pastMore l) l
+secondAfter h m l = pick (eqb (firstKey l) colonByte) (secondFrom h m (digitsOf (after l)) (after (after l))) (hour h m 0 l)
 
 -- after two digits: a colon and four; or a colon, two and perhaps the second
 abbrev pub minuteFrom : ℕ → List ℕ → List Part → Hour
@@ -77,12 +69,15 @@ minuteFrom h d rest =
     pick (eqb (length d) 4) (hour h (upToSix d / 100) (upToSix d % 100) rest)
     (pick (eqb (length d) 2) (secondAfter h (upToSix d) rest) noHour)
 
+unfoldable pub minuteAfter : ℕ → List Part → Hour
+minuteAfter h l = pick (eqb (firstKey l) colonByte) (minuteFrom h (digitsOf (after l)) (after (after l))) noHour
+
 -- six digits; four and perhaps the second; or two and what comes after them
 abbrev pub hourFrom : List ℕ → List Part → Hour
 hourFrom d rest =
     pick (eqb (length d) 6) (hour (upToSix d / 10000) (upToSix d / 100 % 100) (upToSix d % 100) rest)
     (pick (eqb (length d) 4) (secondAfter (upToSix d / 100) (upToSix d % 100) rest)
-    (pick (eqb (length d) 2) (minuteFrom (upToSix d) (moreDigits rest) (pastMore rest)) noHour))
+    (pick (eqb (length d) 2) (minuteAfter (upToSix d) rest) noHour))
 
 unfoldable pub hourOf : List Part → Hour
 hourOf l = hourFrom (digitsOf l) (after l)
@@ -101,13 +96,16 @@ unfoldable pub zoneNamed : List Part → Zoned
 zoneNamed l = zoneFrom (named zoneNames l) (after l)
 
 -- four digits after a sign
-abbrev pub signedFrom : (ℕ → ℕ → ℤ) → List ℕ → List Part → Zoned → Zoned
-signedFrom direction d rest otherwise = pick (eqb (length d) 4) (zoned (offsetOf direction (upToSix d)) rest) otherwise
+abbrev pub signedFrom : (ℕ → ℕ → ℤ) → List ℕ → List Part → Zoned
+signedFrom direction d rest = pick (eqb (length d) 4) (zoned (offsetOf direction (upToSix d)) rest) noZone
+
+unfoldable pub zoneSigned : (ℕ → ℕ → ℤ) → List Part → Zoned
+zoneSigned direction l = signedFrom direction (digitsOf l) (after l)
 
 unfoldable pub zoneOf : List Part → Zoned
 zoneOf l =
-    pick (eqb (firstKey l) plusByte) (signedFrom ahead (digitsOf (after l)) (after (after l)) noZone)
-    (pick (eqb (firstKey l) minusByte) (signedFrom behind (digitsOf (after l)) (after (after l)) (zoneNamed (after l))) (zoneNamed l))
+    pick (eqb (firstKey l) plusByte) (zoneSigned ahead (after l))
+    (pick (eqb (firstKey l) minusByte) (pick (eqb (firstKey (after l)) digit) (zoneSigned behind (after l)) (zoneNamed (after l))) (zoneNamed l))
 
 -- ---- the date: the place of the day's name, day, month and year come before the hour
 

@@ -3,17 +3,14 @@ use mathlib.Core.Path.{_≡_}
 use Prim.Native.Nat.{ℕ, suc, _+_, _≤_, _<_}
 use mathlib.Core.Bool.{Bool, true}
 use mathlib.Core.List.{List, [], _∷_, _++_}
-use lib.Dec.{eqb, leb}
-use lib.ListN.{length}
+use lib.Dec.{eqb, leb, ltb}
+use lib.ListN.{length, set, getD}
 use Rattle.octets.specs.Believed.Choice.{pick, both}
 use Rattle.octets.specs.Believed.Text.{part}
 use Rattle.scanner.specs.Believed.Scanning.{scanBy}
 use Rattle.dates.specs.Believed.Parts.{Part, noPart, keyOf, runs, parts}
-use Rattle.dates.specs.Executable.Form.{firstKey, firstBytes, after, upToSix, named, Hour, noHour, hour, Zoned, noZone, zoned}
-use Rattle.dates.specs.declared.parts.Token.{Token}
+use Rattle.dates.specs.Executable.Form.{firstKey, firstBytes, after, digitsOf, upToSix, named, Hour, noHour, hour, Zoned, noZone, zoned}
 use Rattle.dates.specs.declared.form.DigitRun.{DigitRun}
-use Rattle.dates.specs.declared.form.Named.{Named}
-use Rattle.dates.specs.declared.form.Spot.{Spot}
 use Rattle.dates.specs.declared.form.Offset.{Offset}
 use Rattle.dates.specs.declared.form.Clock.{Clock}
 use Rattle.dates.specs.declared.form.Clock.the-variants.{NoClock, Time}
@@ -49,6 +46,13 @@ pub record RunEnds (classes text : List ℕ) (at end key stop : ℕ) : Type 0 wh
   pub from : at ≤ stop
   pub within : stop ≤ end
 
+-- a part: its key, where it starts and stops, and the end of the symbol that it stands in
+pub record Token : Type 0 where
+  pub key : ℕ
+  pub start : ℕ
+  pub stop : ℕ
+  pub end : ℕ
+
 pub record TokenIs (classes text : List ℕ) (l : List Part) (t : Token) : Type 0 where
   pub key-is : firstKey l ≡ t .key
   pub bytes-are : firstBytes l ≡ part text (t .start) (t .stop)
@@ -57,35 +61,60 @@ pub record TokenIs (classes text : List ℕ) (l : List Part) (t : Token) : Type 
   pub order : t .start ≤ t .stop
   pub spot : Within text (t .stop) (t .end)
 
--- a run of digits, and the parts after it
-pub record DigitRunIs (classes text digits : List ℕ) (rest : List Part) (n : DigitRun) : Type 0 where
-  pub count-is : length digits ≡ n .count
-  pub value-is : upToSix digits ≡ n .value
+-- the places of a cursor
+abbrev pub cursorSize : ℕ
+cursorSize = 4
+
+-- a cursor with another part ahead
+abbrev pub placed : ℕ → ℕ → ℕ → ℕ → List ℕ → List ℕ
+placed key start stop end cursor = set (set (set (set cursor 0 key) 1 start) 2 stop) 3 end
+
+-- the part ahead
+abbrev pub tokenIn : List ℕ → Token
+tokenIn cursor = record { key = getD cursor 0 0; start = getD cursor 1 0; stop = getD cursor 2 0; end = getD cursor 3 0 }
+
+-- parts, of which the first is ahead
+pub record PartIs (classes text : List ℕ) (l : List Part) (cursor : List ℕ) : Type 0 where
+  pub sized : length cursor ≡ cursorSize
+  pub token : TokenIs classes text l (tokenIn cursor)
+
+-- the parts from the one ahead on
+unfoldable pub held : List ℕ → List ℕ → List ℕ → List Part
+held classes text cursor =
+    pick (eqb (getD cursor 0 0) noPart) []
+    (record { key = getD cursor 0 0; bytes = part text (getD cursor 1 0) (getD cursor 2 0) } ∷ left classes text (getD cursor 2 0) (getD cursor 3 0))
+
+-- a cursor that holds a part of a text, or that there is none left
+abbrev pub Holds : List ℕ → List ℕ → List ℕ → Type 0
+Holds classes text cursor = PartIs classes text (held classes text cursor) cursor
+
+-- the digits ahead; after one to six of them, the parts behind
+pub record DigitRunIs (classes text : List ℕ) (l : List Part) (cursor : List ℕ) (n : DigitRun) : Type 0 where
+  pub count-is : length (digitsOf l) ≡ n .count
+  pub value-is : upToSix (digitsOf l) ≡ n .value
   pub small : n .value < 1000000000000000000
-  pub rest-is : rest ≡ left classes text (n .at) (n .end)
-  pub spot : Within text (n .at) (n .end)
+  pub next : 1 ≤ n .count → n .count ≤ 6 → PartIs classes text (after l) cursor
 
-pub record NamedIs (classes text : List ℕ) (names : List (List ℕ)) (l : List Part) (n : Named) : Type 0 where
-  pub place-is : named names l ≡ n .place
-  pub rest-is : after l ≡ left classes text (n .at) (n .end)
-  pub spot : Within text (n .at) (n .end)
+pub record NamedIs (classes text : List ℕ) (names : List (List ℕ)) (l : List Part) (cursor : List ℕ) (n : ℕ) : Type 0 where
+  pub place-is : named names l ≡ n
+  pub next : PartIs classes text (pick (ltb n (length names)) (after l) l) cursor
 
-pub record SpotIs (classes text : List ℕ) (l : List Part) (s : Spot) : Type 0 where
-  pub is : l ≡ left classes text (s .at) (s .end)
-  pub spot : Within text (s .at) (s .end)
+pub record PastIs (classes text : List ℕ) (l : List Part) (mark : ℕ) (cursor : List ℕ) (r : Bool) : Type 0 where
+  pub is : eqb (firstKey l) mark ≡ r
+  pub next : PartIs classes text (pick r (after l) l) cursor
 
-pub record TimeIs (classes text : List ℕ) (x : Hour) (h m s at end : ℕ) : Type 0 where
-  pub is : x ≡ hour h m s (left classes text at end)
-  pub spot : Within text at end
+pub record TimeIs (classes text : List ℕ) (x : Hour) (h m s : ℕ) (cursor : List ℕ) : Type 0 where
+  pub is : x ≡ hour h m s (held classes text cursor)
+  pub holds : Holds classes text cursor
 
-abbrev pub ClockIs : List ℕ → List ℕ → Hour → Clock → Type 0
-ClockIs classes text x NoClock = x ≡ noHour
-ClockIs classes text x (Time h m s at end) = TimeIs classes text x h m s at end
+abbrev pub ClockIs : List ℕ → List ℕ → Hour → List ℕ → Clock → Type 0
+ClockIs classes text x cursor NoClock = x ≡ noHour
+ClockIs classes text x cursor (Time h m s) = TimeIs classes text x h m s cursor
 
-pub record ZoneFound (classes text : List ℕ) (x : Zoned) (offset : Offset) (at end : ℕ) : Type 0 where
-  pub is : x ≡ zoned offset (left classes text at end)
-  pub spot : Within text at end
+pub record ZoneFound (classes text : List ℕ) (x : Zoned) (offset : Offset) (cursor : List ℕ) : Type 0 where
+  pub is : x ≡ zoned offset (held classes text cursor)
+  pub holds : Holds classes text cursor
 
-abbrev pub ZoneFoundIs : List ℕ → List ℕ → Zoned → ZoneRead → Type 0
-ZoneFoundIs classes text x NoZone = x ≡ noZone
-ZoneFoundIs classes text x (Found offset at end) = ZoneFound classes text x offset at end
+abbrev pub ZoneFoundIs : List ℕ → List ℕ → Zoned → List ℕ → ZoneRead → Type 0
+ZoneFoundIs classes text x cursor NoZone = x ≡ noZone
+ZoneFoundIs classes text x cursor (Found offset) = ZoneFound classes text x offset cursor

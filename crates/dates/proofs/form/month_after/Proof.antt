@@ -3,37 +3,38 @@ use mathlib.Core.Path.{_≡_, refl}
 use borrow.Author.Tests.{lt-ltb, le-ltb}
 use Rattle.dates.specs.Believed.Names.{monthNames}
 use Rattle.dates.specs.Executable.Form.{named, monthAfter}
-use Rattle.dates.specs.Ties.Steps.{rows, ascend, left}
+use Rattle.dates.specs.Ties.Steps.{rows, ascend}
+use Rattle.dates.proofs.PartLaws.{held-is, holding, mark-ahead, dash-passed, past-name}
 use Rattle.dates.proofs.form.month_after.Statement.{statement}
 use Rattle.dates.proofs.form.month_after.Tie as tie
 
 read-name-requires : tie.Need-read-name-requires
 unfolding ascend
-read-name-requires c κs = (c .before .before .before .before .before .pre, refl)
+read-name-requires c κs = (c .before .before .before .before .before .before .pre, refl)
 
 returns : tie.Need-returns
 unfolding rows monthAfter
 returns c =
-    let a = c .before .before .before .before .before .before .before .args in
-    let read-name = c .before .read-name in
-    let e : named monthNames (left (a .classes .now) (a .text .now) (a .at) (a .end)) ≡ read-name .result .place = read-name .ensures .place-is in
+    let n = c .before .read-name .ensures in
+    let e : named monthNames _ ≡ c .before .read-name .result = n .place-is in
     rw (e, le-ltb _ 12 (c .if1 .taken))
 
-past-dash-requires : tie.Need-past-dash-requires
-past-dash-requires c κs = c .before .read-name .ensures .spot
+past-requires : tie.Need-past-requires
+unfolding rows
+past-requires c κs = holding (past-name (c .before .before .read-name .ensures) (c .before .if1 .left))
 
 year-after-requires : tie.Need-year-after-requires
-year-after-requires c κs = c .past-dash .ensures .spot
+year-after-requires c κs = holding (c .before .past .ensures .next)
 
 returns-2 : tie.Need-returns-2
 unfolding rows monthAfter
 returns-2 c =
-    let a = c .before .before .before .before .before .before .before .before .before .args in
-    let read-name = c .before .before .before .read-name in
-    let if1 = c .before .before .if1 in
-    let past-dash = c .before .past-dash in
-    let e : named monthNames (left (a .classes .now) (a .text .now) (a .at) (a .end)) ≡ read-name .result .place = read-name .ensures .place-is in
-    rw (e, lt-ltb _ 12 (if1 .left), read-name .ensures .rest-is, past-dash .ensures .is) (c .year-after .ensures)
+    let n = c .before .before .before .before .before .read-name .ensures in
+    let e : named monthNames _ ≡ c .before .before .before .before .before .read-name .result = n .place-is in
+    let y = dash-passed (mark-ahead (past-name n (c .before .before .before .before .if1 .left)) (c .before .before .past .ensures)) in
+    rw (e, lt-ltb _ 12 (c .before .before .before .before .if1 .left)) (rw (held-is y) at (c .year-after .ensures))
 
 pub month-after-spec : {M : Type 1} → statement M
-month-after-spec = tie.close (tie.spec read-name-requires returns past-dash-requires year-after-requires returns-2)
+month-after-spec =
+    tie.close
+    (tie.spec read-name-requires returns past-requires year-after-requires returns-2)

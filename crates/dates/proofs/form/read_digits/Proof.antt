@@ -7,30 +7,15 @@ use Rattle.dates.proofs.form.read_digits.Statement.{statement}
 use Rattle.dates.proofs.form.read_digits.Tie as tie
 
 returns : tie.Need-returns
-returns c = no-digits (c .before .before .next-part .ensures) (c .if1 .taken)
-
-sub-if2 : tie.Need-sub-if2
-sub-if2 c = c .before .before .next-part .ensures .order
-
-sub-t11 : tie.Need-sub-t11
-sub-t11 c = c .before .before .before .next-part .ensures .order
+returns c = no-digits (c .before .before .before .pre) (c .if1 .taken)
 
 returns-2 : tie.Need-returns-2
-returns-2 c = some-digits (c .before .before .before .next-part .ensures) (c .before .if1 .left) 0 (rw (lt-ltb 6 _ (c .if2 .taken))) (omega arith)
-
-decimal-requires : tie.Need-decimal-requires
-decimal-requires c κs =
-    let next-part = c .before .before .before .next-part in
-    let x = next-part .ensures in
-    (x .order, omega arith, omega (arith, x .spot .order, x .spot .inside))
-
-sub-t10 : tie.Need-sub-t10
-sub-t10 c = c .before .before .before .before .next-part .ensures .order
+returns-2 c = some-digits (c .before .before .before .before .before .before .pre) (c .before .before .before .if1 .left) 0 (rw (lt-ltb 6 _ (c .if2 .taken))) (omega arith) (λ k. absurd (omega arith))
 
 returns-3 : tie.Need-returns-3
-returns-3 c =
-    let x = c .before .before .before .before .next-part .ensures in
-    some-digits x (c .before .before .if1 .left) (c .decimal .result) (rw (le-ltb 6 _ (c .before .if2 .left)) (c .decimal .ensures .0)) (c .decimal .ensures .1)
+returns-3 c = some-digits (c .before .before .before .before .before .before .before .before .before .pre) (c .before .before .before .before .before .before .if1 .left) (c .before .before .decimal .result) (rw (le-ltb 6 _ (c .before .before .before .if2 .left)) (c .before .before .decimal .ensures .0)) (c .before .before .decimal .ensures .1) (λ k. c .step .ensures)
 
 pub read-digits-spec : {M : Type 1} → statement M
-read-digits-spec = tie.close (tie.spec (λ c κs. search needs) returns sub-if2 sub-t11 returns-2 decimal-requires sub-t10 returns-3)
+read-digits-spec =
+    tie.close
+    (tie.spec (λ c. search needs) (λ c. search needs) returns (λ c. search needs) (λ c. search needs) (λ c. search needs) (λ c. search needs) returns-2 (λ c κs. search needs) (λ c κs. search needs) (λ c. search needs) returns-3)
