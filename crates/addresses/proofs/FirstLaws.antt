@@ -2,15 +2,20 @@
 use mathlib.Core.Path.{_≡_, refl, sym, ap, _∙_}
 use mathlib.Core.Bool.{Bool, true, false}
 use mathlib.Core.List.{List, [], _∷_}
-use Prim.Native.Nat.{ℕ, _/_, _≤_, _<_}
+use Prim.Native.Nat.{ℕ, _+_, _*_, _/_, _≤_, _<_}
 use native.Mathlib.Omega.{arith}
-use lib.ListN.{length, getD}
+use lib.ListN.{length, take, getD}
+use lib.Seq.{sets}
 use types.Run.{OneOf, miss}
 use denote.Enum.Declared.{tagOf}
 use Rattle.octets.specs.Believed.Numbers.{noListGoesOn, levelLimit}
 use Rattle.octets.specs.declared.answers.Answer.{Answer}
 use Rattle.octets.specs.declared.answers.Answer.the-variants.{Accepted, Refused, NoRoom}
-use Rattle.records.specs.Believed.AddressRecords.{addressRecordSize}
+use Rattle.octets.proofs.Parts.{staged}
+use Rattle.records.specs.Believed.AddressRecords.{addressLayout, addressRecordSize, tableBytes}
+use Rattle.records.proofs.TableLaws.{length-table}
+use Rattle.grammar.specs.Believed.Records.{records}
+use Rattle.grammar.proofs.Any.Records.{length-records}
 use Rattle.scanner.specs.Believed.Scanning.{scanBy}
 use Rattle.scanner.specs.Believed.Answers.{unlessFault, faultOf, foundAt}
 use Rattle.scanner.specs.Ties.Cursors.{endNumber, aheadOf, nextFrom, nextIn}
@@ -27,8 +32,9 @@ use Rattle.grammar.specs.declared.Whole.{Whole}
 use Rattle.grammar.specs.declared.Whole.the-variants as whole
 use Rattle.grammar.specs.declared.Whole.the-variants.{Listed}
 use Rattle.addresses.specs.Ties.Steps.{freeIn, faultAhead, ListStops, ListIs}
-use Rattle.addresses.specs.Ties.Whole.{endsWithin, EndsWithin, IsListed, IsRefused, WholeIs, TwiceIs, ListedClean, WholeFirst, FaultFirst}
+use Rattle.addresses.specs.Ties.Whole.{onceLimit, onceRoom, endsWithin, EndsWithin, IsListed, IsRefused, WholeIs, TwiceIs, ListedClean, WholeFirst, FaultFirst}
 use Rattle.addresses.proofs.CursorSteps.{found-in}
+use Rattle.addresses.proofs.BodyRecords.{accepted-half}
 use Rattle.addresses.proofs.AnyEdition.{twice-refused, twice-no-room, twice-written}
 use Rattle.addresses.proofs.WholeLaws.{outermost, verdict-listed, verdict-stops, verdict-closed, whole-listed, whole-stops, whole-closed}
 
@@ -121,3 +127,15 @@ module _ (classes text : List ℕ) where
     pub first-written : {dry half : List ℕ} {n : ℕ} (after : List ℕ) → ListedClean (answer levelLimit) classes text at dry half n → n ≤ length table / addressRecordSize → (w : Whole) → WholeFirst (answer levelLimit) classes text at table after w
         → FaultFirst (answer levelLimit) classes text at table after (Accepted n)
     first-written after l h w x = listed-first l (twice-written (answer levelLimit) classes text table after (l .listed) h w (as-whole after l w x))
+
+    -- one run beside the table, in room for all the records that so short a body can have
+    pub first-copied : (room half : List ℕ) {n : ℕ} {after : List ℕ} → at ≤ length text → length text ≤ at + onceLimit → onceRoom ≡ length room → ListedClean (answer levelLimit) classes text at room half n → n ≤ length table / addressRecordSize
+        → after ≡ sets table 0 (take (n * addressRecordSize) half) → FaultFirst (answer levelLimit) classes text at table after (Accepted n)
+    first-copied room half {n} {after} inside few large l h e =
+        let k = l .listed .derivation in
+        let rs = records k in
+        let c : n ≡ length rs = l .listed .count-is ∙ sym (length-records k) in
+        let size : n * addressRecordSize ≡ length (tableBytes rs) = omega (arith, length-table addressLayout rs, c) in
+        let fits : length (tableBytes rs) ≤ length room = omega (arith, size, large, few, accepted-half classes text at levelLimit inside (l .listed .verdict-is), l .listed .count-is) in
+        first-written after l h (Listed n)
+        record { listed = record { derivation = k; verdict-is = l .listed .verdict-is; count-is = l .listed .count-is; stored = e ∙ rw (l .listed .stored, size) (staged table room (tableBytes rs) fits) }; faultless = l .faultless }

@@ -14,7 +14,7 @@ ghost use Rattle.scanner.specs.Believed.Answers.{unlessFault};
 ghost use Rattle.scanner.specs.Ties.Cursors.{cursorSize, nextIn};
 ghost use Rattle.grammar.specs.Executable.Machine733.{answer};
 ghost use Rattle.addresses.specs.Ties.Steps.{wordAhead, endsAhead, closesAhead, reading, refusedNext, enclosureKind, PhraseIs, NodesAre, TypedAtomIs, MarkAhead, MailboxIs, LoneAhead, LoneIs, CloseIs, Entered, ListIs, BeginsAddress, AddressAhead, NamedFirst, EnclosedIs, ColonFirst, TypedAhead, TypedIs};
-ghost use Rattle.addresses.specs.Ties.Whole.{Fitting, WholeFirst, FaultFirst, EndsWithin};
+ghost use Rattle.addresses.specs.Ties.Whole.{Fitting, onceLimit, onceRoom, WholeFirst, FaultFirst, EndsWithin};
 ghost use Rattle.addresses.specs.Believed.Outcome.{AnsweredBy, outcome};
 ghost use Rattle.addresses.specs.Believed.Within.{listWithin};
 ghost use Rattle.addresses.specs.Believed.Condition3.{Condition3};
@@ -27,6 +27,7 @@ use octets::numbers::ENDS_TOO_SOON;
 use octets::numbers::LEVEL_LIMIT;
 use octets::numbers::NO_LIST_GOES_ON;
 use octets::numbers::TOO_MANY_LEVELS;
+use octets::writing::copy_front;
 use records::Span;
 use records::address::ADDRESS_RECORD_SIZE;
 use records::address::AddressRecord;
@@ -46,6 +47,12 @@ use scanner::cursor::step;
 const FREE: usize = 3;
 
 const LAST: usize = 4;
+
+// A body of up to so many bytes is read once, beside the table.
+const ONCE_LIMIT: usize = 1024;
+
+// The bytes of the records that it can have.
+const ONCE_ROOM: usize = ONCE_LIMIT / 2 * ADDRESS_RECORD_SIZE;
 
 // What encloses a list.
 enum Enclosure {
@@ -583,6 +590,31 @@ fn read_twice(classes: &[u8; 256], text: &[u8], table: &mut [u8], at: usize) -> 
     }
 }
 
+// Room for the records of a body that is read once.
+fn once_room() -> [u8; ONCE_ROOM]
+    ensures { λ r. ⌜ onceRoom ≡ length r ⌝ }
+{
+    [0; ONCE_ROOM]
+}
+
+// A short body: one run, beside the table; its records are copied if there is room. They always fit there, one for each two bytes.
+fn read_once(classes: &[u8; 256], text: &[u8], table: &mut [u8], at: usize) -> Answer
+    requires { ⌜ Fitting (now text) at × (length (now text) ≤ at + onceLimit) ⌝ }
+    ensures { λ r. ⌜ FaultFirst (answer levelLimit) (now (classes .entry)) (now (text .entry)) at (now (table .entry)) (now (table .exit)) r ⌝ }
+{
+    let mut staged = once_room();
+    match read_whole(classes, text, &mut staged, at) {
+        Whole::Refused(number, place) => fault_or(classes, text, at, number, place),
+        Whole::Listed(count) => {
+            if table.len() / ADDRESS_RECORD_SIZE < count {
+                return Answer::NoRoom(count);
+            }
+            copy_front(table, &staged, count * ADDRESS_RECORD_SIZE);
+            Answer::Accepted(count)
+        }
+    }
+}
+
 // Read the address list in the body of a message from start up to end, and write its records into the table.
 pub fn read_addresses(message: &[u8], start: usize, end: usize, table: &mut [u8]) -> Answer
     ensures outcome { λ r. ⌜ AnsweredBy (outcome (now (message .entry)) start end (now (table .entry))) r (now (table .exit)) ⌝ }
@@ -592,6 +624,9 @@ pub fn read_addresses(message: &[u8], start: usize, end: usize, table: &mut [u8]
         return Answer::Refused(number, place);
     }
     let classes = &CLASSES;
+    if end - start <= ONCE_LIMIT {
+        return read_once(classes, &message[..end], table, start);
+    }
     read_twice(classes, &message[..end], table, start)
 }
 
