@@ -581,7 +581,8 @@ fn read_twice(classes: &[u8; 256], text: &[u8], table: &mut [u8], at: usize) -> 
     match read_whole(classes, text, &mut table[..0], at) {
         Whole::Refused(number, place) => fault_or(classes, text, at, number, place),
         Whole::Listed(count) => {
-            if table.len() / ADDRESS_RECORD_SIZE < count {
+            let room = table.len() / ADDRESS_RECORD_SIZE;
+            if room < count {
                 return Answer::NoRoom(count);
             }
             read_whole(classes, text, table, at);
