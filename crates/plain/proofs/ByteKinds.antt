@@ -2,16 +2,16 @@
 use Prim.Native.Nat.{ℕ, _<_}
 use native.Mathlib.Decide.{decLt}
 use native.Mathlib.Omega.{arith}
-use mathlib.Core.Path.{_≡_}
+use mathlib.Core.Path.{_≡_, refl}
 use mathlib.Core.Bool.{Bool, true, false}
 use mathlib.Core.List.{List, [], _∷_}
-use borrow.Author.Tests.{ne-eqb, ltb-true}
-use lib.Dec.{ltb, eqb, T}
+use borrow.Author.Tests.{ne-eqb}
+use lib.Dec.{eqb, T}
 use lib.ListN.{getD, List·getD-eq-default}
 use mir.Val.{hasKey}
 use Rattle.octets.specs.Believed.Choice.{pick, either}
 use Rattle.octets.specs.Believed.Classes.{classOf, classTable, white, control, letter, openParenthesis, closeParenthesis, lessThan, greaterThan, atSign, comma, semicolon, colon, backslash, quote, above127, dot, openBracket, closeBracket}
-use Rattle.octets.proofs.Tables.{is-true, at}
+use Rattle.octets.proofs.Tables.{at}
 use Rattle.octets.specs.Believed.Tests.{every}
 use Rattle.scanner.specs.Believed.Kinds.{kindOfClass, kindOf}
 use Rattle.scanner.proofs.MoveLaws.{tag}
@@ -40,26 +40,33 @@ or-else : (test : Bool) {a b : _} → KindView a → KindView b → KindView (pi
 or-else true x y = x
 or-else false x y = y
 
-class-view : (c : ℕ) → c < dot → KindView (kindOfClass c)
-class-view c h =
+class-view : (c : ℕ) → eqb c dot ≡ false → eqb c openBracket ≡ false → eqb c closeBracket ≡ false → KindView (kindOfClass c)
+class-view c d o e =
     or-else (eqb c white) isWhite (or-else (eqb c control) isControl (or-else (eqb c openParenthesis) isOpen (or-else (eqb c closeParenthesis) isClose
     (or-else (eqb c lessThan) isLess (or-else (eqb c greaterThan) isGreater (or-else (eqb c atSign) isAt (or-else (eqb c comma) isComma
     (or-else (eqb c semicolon) isSemicolon (or-else (eqb c colon) isColon (or-else (eqb c backslash) isBackslash (or-else (eqb c quote) isQuote
-    (or-else (eqb c above127) isAbove (rw (ne-eqb c dot (λ e. omega arith), ne-eqb c openBracket (λ e. omega arith), ne-eqb c closeBracket (λ e. omega arith)) isPlain)))))))))))))
+    (or-else (eqb c above127) isAbove (rw (d, o, e) isPlain)))))))))))))
 
--- RFC 733 has no class for a dot or a square bracket
-no-dot : (b : ℕ) → getD classTable b 0 < dot
-unfolding classTable classOf
-no-dot b =
+-- a class that the table has nowhere
+abbrev isNot : ℕ → ℕ → Bool
+isNot d class = pick (eqb class d) false true
+
+is-false : (test : Bool) → T (pick test false true) → test ≡ false
+is-false true h = absurd h
+is-false false h = refl
+
+absent : (d : ℕ) → T (every (λ b class. isNot d class) 0 classTable) → T (isNot d 0) → (b : ℕ) → eqb (getD classTable b 0) d ≡ false
+unfolding classTable
+absent d t z b =
     elim (decLt b 256) [
-      | yes h ↦ ltb-true (getD classTable b 0) dot (is-true (ltb (getD classTable b 0) dot) (at (λ b class. ltb class dot) classTable 0 tt b (omega arith)))
-      | no h ↦ rw (List·getD-eq-default classTable 0 {n = b} (omega arith)) (omega arith)
+      | yes h ↦ is-false (eqb (getD classTable b 0) d) (at (λ b class. isNot d class) classTable 0 t b (omega arith))
+      | no h ↦ rw (List·getD-eq-default classTable 0 {n = b} (omega arith)) (is-false (eqb 0 d) z)
     ]
 
--- the kind of any byte
+-- the kind of any byte; RFC 733 has no class for a dot or a square bracket
 pub byte-view : (b : ℕ) → KindView (kindOf classTable b)
-unfolding kindOf
-byte-view b = or-else (eqb b 13) isReturn (class-view (getD classTable b 0) (no-dot b))
+unfolding kindOf classTable classOf
+byte-view b = or-else (eqb b 13) isReturn (class-view (getD classTable b 0) (absent dot tt tt b) (absent openBracket tt tt b) (absent closeBracket tt tt b))
 
 -- ---- data
 

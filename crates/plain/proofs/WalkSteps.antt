@@ -15,7 +15,7 @@ use Rattle.scanner.proofs.Next.{the-type as next-type}
 use Rattle.grammar.specs.Believed.Rfc733.{sameClass}
 use Rattle.addresses.proofs.ClassCases.{by-class-not}
 use Rattle.scanner.specs.Believed.Scanning.{Scanned, ended, next, faultAt, symbolsOf, scanBy}
-use Rattle.scanner.specs.Believed.Answers.{nextOf}
+use Rattle.scanner.specs.Believed.Answers.{foundAt, nextOf}
 use Rattle.scanner.specs.declared.Class.{Class}
 use Rattle.scanner.specs.declared.Class.the-variants.{Atom, Quoted, At, LessThan, GreaterThan, Comma, Semicolon, Colon, Stray, Dot, Literal}
 use Rattle.scanner.specs.declared.Next.{Next}
@@ -57,17 +57,17 @@ unwritten Literal o meaning place colon out n = (wrote-nothing _ _, refl)
 
 -- no symbol comes
 abbrev pub NoneComes : Next → Type 0
-NoneComes (Found class start end) = ⊥
+NoneComes (Found symbol) = ⊥
 NoneComes Ended = Unit {0}
 NoneComes (Fault number p) = Unit {0}
 
 pub none-comes : (coming : Next) → OneOf (1 ∷ 2 ∷ []) (tagOf next-type coming) → NoneComes coming
-none-comes (Found class start end) o = absurd (miss (1 ∷ 2 ∷ []) 0 tt o)
+none-comes (Found symbol) o = absurd (miss (1 ∷ 2 ∷ []) 0 tt o)
 none-comes Ended o = tt
 none-comes (Fault number p) o = tt
 
 pub not-found : (coming : Next) → OneOf (1 ∷ 2 ∷ []) (tagOf next-type coming) → false ≡ isColon coming
-not-found (Found class start end) o = absurd (miss (1 ∷ 2 ∷ []) 0 tt o)
+not-found (Found symbol) o = absurd (miss (1 ∷ 2 ∷ []) 0 tt o)
 not-found Ended o = refl
 not-found (Fault number p) o = refl
 
@@ -85,7 +85,7 @@ text-one place x = rw (x .same)
 
 -- what is left of the text, by the next symbol
 abbrev pub behind : ℕ → Next → ℕ
-behind length′ (Found class start end) = suc length′ - start
+behind length′ (Found symbol) = suc length′ - symbol .start
 behind length′ Ended = 0
 behind length′ (Fault number p) = 0
 
@@ -96,11 +96,11 @@ less-by later x h (a-symbol y) = rw (y .same) (omega (arith, x .starts, x .withi
 less-by later x h (a-fault e) = rw e (omega (arith, x .starts, x .within))
 
 -- it falls, after a symbol or further on
-pub behind-falls : {classes text : List ℕ} {at : ℕ} {class : Class} {first end : ℕ} {coming next′ : Next} (later : ℕ) → SymbolAt classes text at class first end → end ≤ later → coming ≡ Found class first end
+pub behind-falls : {classes text : List ℕ} {at : ℕ} {class : Class} {first end : ℕ} {coming next′ : Next} (later : ℕ) → SymbolAt classes text at class first end → end ≤ later → coming ≡ foundAt class first end
     → next′ ≡ nextOf (scanBy classes text later) → behind (length text) next′ < behind (length text) coming
 behind-falls {classes} {text} later x h e k = rw (e, k) (less-by later x h (unfolded classes text later))
 
-pub behind-less : {classes text : List ℕ} {at : ℕ} {class : Class} {first end : ℕ} {coming later : Next} → SymbolAt classes text at class first end → coming ≡ Found class first end
+pub behind-less : {classes text : List ℕ} {at : ℕ} {class : Class} {first end : ℕ} {coming later : Next} → SymbolAt classes text at class first end → coming ≡ foundAt class first end
     → later ≡ nextOf (scanBy classes text end) → behind (length text) later < behind (length text) coming
 behind-less {end = end} x e k = behind-falls end x (omega arith) e k
 
@@ -125,11 +125,11 @@ coming-first classes text start out e = record { at = start; is = e; counted = o
 
 module _ {classes text : List ℕ} {start : ℕ} {out₀ out : List ℕ} {n : ℕ} {place : Place} {coming : Next} (l : Coming classes text start out₀ out n place coming) where
   -- the symbol that comes
-  pub comes : {class : Class} {first end : ℕ} → coming ≡ Found class first end → SymbolAt classes text (l .at) class first end
+  pub comes : {class : Class} {first end : ℕ} → coming ≡ foundAt class first end → SymbolAt classes text (l .at) class first end
   comes e = found classes text (l .at) (sym e ∙ l .is)
 
   -- it is written
-  pub coming-next : {class : Class} {first end : ℕ} {later : Next} {colon : Bool} {out′ : List ℕ} {n′ : ℕ} {place′ : Place} → coming ≡ Found class first end → length text ≤ textLimit
+  pub coming-next : {class : Class} {first end : ℕ} {later : Next} {colon : Bool} {out′ : List ℕ} {n′ : ℕ} {place′ : Place} → coming ≡ foundAt class first end → length text ≤ textLimit
       → later ≡ nextOf (scanBy classes text end) → colon ≡ isColon later → length out′ ≡ length out
       → Wrote (symbolText class (meaningAt classes text class first end) place colon) out n out′ n′ → n′ ≤ n + 2 * length text + 3 → place′ ≡ after class place colon
       → Coming classes text start out₀ out′ n′ place′ later

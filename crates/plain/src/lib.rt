@@ -203,9 +203,10 @@ pub fn write_symbol(
 pub fn is_colon(next: Next) -> bool
     ensures { λ r. ⌜ r ≡ isColon next ⌝ }
 {
-    let Next::Found(class, start, end) = next else {
+    let Next::Found(symbol) = next else {
         return false;
     };
+    let class = symbol.class;
     match class {
         Class::Colon => true,
         _ => false,
@@ -221,12 +222,23 @@ fn write_by(classes: &[u8; 256], text: &[u8], start: usize, out: &mut [u8]) -> u
     let mut place = Place::Start;
     let mut coming = scanner::next_by(classes, text, start);
     loop {
-        let Next::Found(class, first, end) = coming else {
+        let Next::Found(symbol) = coming else {
             return n;
         };
-        coming = scanner::next_by(classes, text, end);
+        let class = symbol.class;
+        coming = scanner::next_by(classes, text, symbol.end);
         let colon = is_colon(coming);
-        n = put_symbol(classes, text, class, first, end, place, colon, out, n);
+        n = put_symbol(
+            classes,
+            text,
+            class,
+            symbol.start,
+            symbol.end,
+            place,
+            colon,
+            out,
+            n,
+        );
         place = places::after(class, place, colon);
     }
 }

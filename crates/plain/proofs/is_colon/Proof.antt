@@ -17,7 +17,7 @@ returns-2 : tie.Need-returns-2
 returns-2 c = search needs
 
 returns-3 : tie.Need-returns-3
-returns-3 c = let f = c .before .before .next .given in rw (f .1) (not-colon (f .0 .0) (c .match2 .keys2))
+returns-3 c = let f = c .before .before .next .given in rw (f .1) (not-colon (f .0 .0 .class) (c .match2 .keys2))
 
 pub is-colon-spec : {M : Type 1} → statement M
 is-colon-spec = tie.close (tie.spec enum-known-next returns enum-told returns-2 returns-3)

@@ -31,6 +31,6 @@ symbolIf can class meaning place colon rest = pick can (symbolText class meaning
 
 -- the next symbol is ":"
 abbrev pub isColon : Next → Bool
-isColon (Found class start end) = sameClass Colon class
+isColon (Found symbol) = sameClass Colon (symbol .class)
 isColon Ended = false
 isColon (Fault number p) = false
