@@ -10,6 +10,7 @@ use Rattle.octets.specs.Believed.Text.{part}
 use Rattle.records.specs.Believed.AddressRecords.{tableBytes}
 use Rattle.scanner.specs.Believed.Scanning.{scanBy}
 use Rattle.scanner.specs.Believed.Answers.{nextOf}
+use Rattle.scanner.specs.declared.Symbol.{Symbol}
 use Rattle.scanner.specs.declared.Next.{Next}
 use Rattle.scanner.specs.declared.Next.the-variants.{Found}
 use Rattle.scanner.specs.Ties.Meanings.{meaningAt}
@@ -21,7 +22,6 @@ use Rattle.grammar.specs.Executable.Machine733.{State, stepOn, step, run, judge
 use Rattle.grammar.specs.Executable.Machine733 as machine
 use Rattle.grammar.proofs.Rfc733.TreeRecords.{tree-records, tree-count}
 use Rattle.addresses.specs.Ties.Steps.{symbolsFrom, symbolsAhead, lexemeAt}
-use Rattle.scanner.specs.Ties.Steps.{Faultless}
 use Rattle.addresses.specs.Ties.Whole.{Body, WholeIs}
 use Rattle.addresses.proofs.NextLaws.{NextIs, next-is}
 use Rattle.engine.specs.Ties.Actions.{modeNumber, columns, endColumn, modeCount, entry, rowOf, actionOf, actionTable}
@@ -58,7 +58,6 @@ pub record Reading (classes text lent : List ℕ) (from : ℕ) (e : Engine) (sta
   pub stands : Stands text lent state e stack table
   pub reads : run levelLimit machine.start (symbolsFrom classes text from) ≡ run levelLimit state (symbolsFrom classes text (e .at))
   pub stood : stopOf classes text from ≡ standsBy step levelLimit state (symbolsFrom classes text (e .at))
-  pub faultless : Faultless classes text (e .at)
 
 pub reading-start : (classes text lent stack : List ℕ) {at : ℕ} → length stack ≡ stackSize → Body classes text at
     → Reading classes text lent at (record { mode = 0; depth = 0; free = 0; start = at; name = at; at = at }) stack lent
@@ -77,30 +76,29 @@ reading-start classes text lent stack n b =
       };
       reads = refl;
       stood = refl;
-      faultless = b .faultless;
     }
 
 meaning-is : (classes text : List ℕ) (c : Class) (start end : ℕ) → c ≡ Atom → meaningAt classes text c start end ≡ part text start end
 meaning-is classes text c start end e = rw e
 
 -- the next symbol follows
-follows : {classes text : List ℕ} {at a b : ℕ} {c : Class} → NextIs classes text at (Found c a b) → Follows text at c (lexemeAt classes text c a b) a b
-follows {classes} {text} {a = a} {b = b} {c = c} x =
-    record { start-is = refl; end-is = refl; from = x .ok .0; starts = x .ok .1 .starts; within = x .ok .1 .within; meaning = meaning-is classes text c a b }
+follows : {classes text : List ℕ} {at : ℕ} {f : Symbol} → NextIs classes text at (Found f) → Follows text at (f .class) (lexemeAt classes text (f .class) (f .start) (f .end)) (f .start) (f .end)
+follows {classes} {text} {f = f} x =
+    record { start-is = refl; end-is = refl; from = x .ok .0; starts = x .ok .1 .starts; within = x .ok .1 .within; meaning = meaning-is classes text (f .class) (f .start) (f .end) }
 
 stands-as : {text lent : List ℕ} {s s′ : State} {e : Engine} {stack stack′ table : List ℕ} → s′ ≡ s → stack′ ≡ stack → Stands text lent s e stack table → Stands text lent s′ e stack′ table
 stands-as p q x = rw (p, q) x
 
 module _ {classes text lent : List ℕ} {from : ℕ} {e : Engine} {stack table : List ℕ} (r : Reading classes text lent from e stack table) where
   pub reading-next : {next : Next} → next ≡ nextOf (scanBy classes text (e .at)) → NextIs classes text (e .at) next
-  reading-next {next} i = next-is classes text (e .at) next (r .faultless) i
+  reading-next {next} i = next-is classes text (e .at) next i
 
-  pub reading-turning : {a b : ℕ} {c : Class} {actions : List ℕ} {action : ℕ} (column : ℕ) → NextIs classes text (e .at) (Found c a b) → actions ≡ actionTable → column ≡ classNumber c
-      → action ≡ getD actions (e .mode * columns + column) 0 → Turning text lent (r .state) (lexemeAt classes text c a b) e action c a b stack table
-  reading-turning {c = c} column x q k i = record { stands = r .stands; follows = follows x; action-is = entry-of (r .stands) c column q k i }
+  pub reading-turning : {f : Symbol} {actions : List ℕ} {action : ℕ} (column : ℕ) → NextIs classes text (e .at) (Found f) → actions ≡ actionTable → column ≡ classNumber (f .class)
+      → action ≡ getD actions (e .mode * columns + column) 0 → Turning text lent (r .state) (lexemeAt classes text (f .class) (f .start) (f .end)) e action (f .class) (f .start) (f .end) stack table
+  reading-turning {f = f} column x q k i = record { stands = r .stands; follows = follows x; action-is = entry-of (r .stands) (f .class) column q k i }
 
   -- one symbol on
-  pub reading-on : {a b : ℕ} {c : Class} {e′ : Engine} {stack′ table′ : List ℕ} → NextIs classes text (e .at) (Found c a b) → GoesTo text lent (stepOn levelLimit (r .state) c (lexemeAt classes text c a b)) b e′ stack′ table′
+  pub reading-on : {f : Symbol} {e′ : Engine} {stack′ table′ : List ℕ} → NextIs classes text (e .at) (Found f) → GoesTo text lent (stepOn levelLimit (r .state) (f .class) (lexemeAt classes text (f .class) (f .start) (f .end))) (f .end) e′ stack′ table′
       → Reading classes text lent from e′ stack′ table′
   reading-on x g =
       record {
@@ -108,17 +106,16 @@ module _ {classes text lent : List ℕ} {from : ℕ} {e : Engine} {stack table :
         stands = g .stands;
         reads = r .reads ∙ ap (run levelLimit (r .state)) (x .same) ∙ rw (g .steps, g .at-is) refl;
         stood = r .stood ∙ ap (standsBy step levelLimit (r .state)) (x .same) ∙ rw (g .steps, g .at-is) refl;
-        faultless = rw (g .at-is) (x .ok .1 .faultless);
       }
 
   -- the symbol is refused
-  pub reading-stops : {a b n : ℕ} {c : Class} {stack′ : List ℕ} → NextIs classes text (e .at) (Found c a b) → StopsBy (stepOn levelLimit (r .state) c (lexemeAt classes text c a b)) n stack stack′ → StopsAtSymbol classes text lent from stack′ n a e
-  reading-stops {a} {b} {n} {c} x g =
-      let v : run levelLimit machine.start (symbolsFrom classes text from) ≡ stopped (g .why) (symbolsAhead classes text (Found c a b)) = r .reads ∙ ap (run levelLimit (r .state)) (x .same) ∙ rw (g .steps) refl in
+  pub reading-stops : {f : Symbol} {n : ℕ} {stack′ : List ℕ} → NextIs classes text (e .at) (Found f) → StopsBy (stepOn levelLimit (r .state) (f .class) (lexemeAt classes text (f .class) (f .start) (f .end))) n stack stack′ → StopsAtSymbol classes text lent from stack′ n (f .start) e
+  reading-stops {f} x g =
+      let v : run levelLimit machine.start (symbolsFrom classes text from) ≡ stopped (g .why) (symbolsAhead classes text (Found f)) = r .reads ∙ ap (run levelLimit (r .state)) (x .same) ∙ rw (g .steps) refl in
       record {
         table = table;
         stands = stands-as (r .stood ∙ ap (standsBy step levelLimit (r .state)) (x .same) ∙ rw (g .steps) refl) (g .kept) (r .stands);
-        refused = record { why = g .why; rest = symbolsAhead classes text (Found c a b); verdict-is = ap asForests (ap judge v); number-is = g .number-is; place-is = refl };
+        refused = record { why = g .why; rest = symbolsAhead classes text (Found f); verdict-is = ap asForests (ap judge v); number-is = g .number-is; place-is = refl };
       }
 
   -- no symbol is left

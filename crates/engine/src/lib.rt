@@ -465,12 +465,22 @@ fn run(
         at,
     };
     loop {
-        let Next::Found(class, start, end) = scanner::next_by(classes, text, engine.at) else {
+        let Next::Found(symbol) = scanner::next_by(classes, text, engine.at) else {
             return Stopped::AtEnd(engine);
         };
+        let class = symbol.class;
         let action = action_at(actions, engine.mode, class_number(class));
-        match turn(text, stack, table, engine, action, class, start, end) {
-            Turned::Stop(number) => return Stopped::AtSymbol(number, start, engine),
+        match turn(
+            text,
+            stack,
+            table,
+            engine,
+            action,
+            class,
+            symbol.start,
+            symbol.end,
+        ) {
+            Turned::Stop(number) => return Stopped::AtSymbol(number, symbol.start, engine),
             Turned::On(after) => engine = after,
         }
     }

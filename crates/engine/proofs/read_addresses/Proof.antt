@@ -1,14 +1,35 @@
 -- `engine::read_addresses` meets its contract: the checks and the first fault, then what the text holds; and condition 3. Assumes nothing.
-use mathlib.Core.Path.{refl, sym}
+use mathlib.Core.Path.{_≡_, refl, sym}
+use mathlib.Core.List.{List}
+use Prim.Native.Nat.{ℕ}
+use lib.ListN.{take}
 use lib.Seq.{length-take-le}
 use Rattle.octets.specs.Believed.Classes.{classOf, classTable}
-use Rattle.scanner.proofs.BodyChecks.{Clean, clean}
-use Rattle.addresses.proofs.AnyEdition.{clean-text}
-use Rattle.addresses.proofs.WholeLaws.{refused-promised, twice-promised}
+use Rattle.octets.specs.Believed.Numbers.{levelLimit}
+use Rattle.octets.specs.declared.answers.Answer.{Answer}
+use Rattle.octets.specs.declared.answers.Answer.the-variants.{Refused}
+use Rattle.scanner.specs.Believed.Answers.{bodyScanned}
+use Rattle.scanner.proofs.BodyChecks.{Clean, clean, when-refused}
+use Rattle.grammar.specs.Executable.Machine733.{answer}
+use Rattle.addresses.specs.Believed.Editions.{edition733}
+use Rattle.addresses.specs.Believed.Outcome.{refusal}
+use Rattle.addresses.specs.Ties.Whole.{TwiceIs}
+use Rattle.addresses.proofs.AnyEdition.{clean-text, twice-outcome}
+use Rattle.addresses.proofs.WholeLaws.{Promised, promised, settles}
 use Rattle.engine.specs.Ties.Actions.{actionTable}
 use borrow.Author.Needs.{needs}
 use Rattle.engine.proofs.read_addresses.Statement.{statement}
 use Rattle.engine.proofs.read_addresses.Tie as tie
+
+-- a body that is refused by the checks or by a fault, and one that is clean
+refused-promised : (message : List ℕ) (start end : ℕ) (table : List ℕ) {n p : ℕ} → Refused n p ≡ bodyScanned message start end → Promised message start end table (Refused n p) table
+refused-promised message start end table {n} {p} e = promised message start end table (refusal table n p) (when-refused message start end (refusal table) _ e)
+
+twice-promised : (message : List ℕ) (start end : ℕ) (table after : List ℕ) (r : Answer) → Clean message start end
+    → TwiceIs (answer levelLimit) classTable (take end message) start table after r → Promised message start end table r after
+twice-promised message start end table after r c x =
+    let o = twice-outcome edition733 (answer levelLimit) message start end (c .short) (c .ordered) (c .inside) (c .faultless) x in
+    (o, settles message start end table r after o)
 
 -- the body is in order and has no fault
 checked : (c : tie.At-match-keys2) → (let a = c .before .before .before .before .args in Clean (a .message .now) (a .start) (a .end))

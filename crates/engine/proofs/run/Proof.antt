@@ -22,8 +22,8 @@ loop-holds c = let a = c .before .before .args in (reading-start (a .classes .no
 next-by-requires : tie.Need-next-by-requires Inv-loop μ-loop
 next-by-requires c κs = search needs
 
-enum-known-class : tie.Need-enum-known-class Inv-loop μ-loop
-enum-known-class c = search needs
+enum-known-symbol : tie.Need-enum-known-symbol Inv-loop μ-loop
+enum-known-symbol c = search needs
 
 same-length : tie.Need-same-length Inv-loop μ-loop
 same-length c = search needs
@@ -38,12 +38,12 @@ class-number-requires : tie.Need-class-number-requires Inv-loop μ-loop
 class-number-requires c κs = search needs
 
 action-at-requires : tie.Need-action-at-requires Inv-loop μ-loop
-action-at-requires c κs = (mode-low (c .before .before .before .before .before .loop .inv .0 .stands), omega (arith, c .class-number .ensures .0, class-small (c .before .before .class .given .0 .0)))
+action-at-requires c κs = (mode-low (c .before .before .before .before .before .loop .inv .0 .stands), omega (arith, c .class-number .ensures .0, class-small (c .before .before .symbol .given .0 .0 .class)))
 
 turn-requires : tie.Need-turn-requires Inv-loop μ-loop
 turn-requires c κs =
     let column = c .before .before .before .class-number in
-    let found = c .before .before .before .before .before .class .given in
+    let found = c .before .before .before .before .before .symbol .given in
     let r = c .before .before .before .before .before .before .before .before .loop .inv .0 in
     let seen = rw (found .1) at (reading-next r (c .before .before .before .before .before .before .before .next-by .ensures)) in
     let pre = c .before .before .before .before .before .before .before .before .before .before .before .pre in
@@ -61,7 +61,7 @@ returns-2 c =
     let column = p .before .before .before .before .class-number in
     let q = p .before .before .before .before .before .before in
     let r = q .before .before .before .loop .inv .0 in
-    let seen = rw (q .class .given .1) at (reading-next r (q .before .before .next-by .ensures)) in
+    let seen = rw (q .symbol .given .1) at (reading-next r (q .before .before .next-by .ensures)) in
     let t = reading-turning r (column .result) seen (q .before .before .before .before .before .before .pre .1) (column .ensures .0) (p .before .before .before .action-at .ensures) in
     reading-stops r seen (rw (c .before .number .given .1) at (p .turn .ensures _ _ _ t))
 
@@ -74,7 +74,7 @@ loop-less c =
     let column = p .before .before .before .before .class-number in
     let q = p .before .before .before .before .before .before in
     let r = q .before .before .before .loop .inv .0 in
-    let seen = rw (q .class .given .1) at (reading-next r (q .before .before .next-by .ensures)) in
+    let seen = rw (q .symbol .given .1) at (reading-next r (q .before .before .next-by .ensures)) in
     let t = reading-turning r (column .result) seen (q .before .before .before .before .before .before .pre .1) (column .ensures .0) (p .before .before .before .action-at .ensures) in
     let g = rw (c .before .after .given .1) at (p .turn .ensures _ _ _ t) in
     omega (arith, g .at-is, seen .ok .0, seen .ok .1 .starts, seen .ok .1 .within)
@@ -85,7 +85,7 @@ loop-again c =
     let column = p .before .before .before .before .class-number in
     let q = p .before .before .before .before .before .before in
     let r = q .before .before .before .loop .inv .0 in
-    let seen = rw (q .class .given .1) at (reading-next r (q .before .before .next-by .ensures)) in
+    let seen = rw (q .symbol .given .1) at (reading-next r (q .before .before .next-by .ensures)) in
     let t = reading-turning r (column .result) seen (q .before .before .before .before .before .before .pre .1) (column .ensures .0) (p .before .before .before .action-at .ensures) in
     (reading-on r seen (rw (c .before .after .given .1) at (p .turn .ensures _ _ _ t)), search needs)
 
@@ -97,7 +97,7 @@ run-spec =
     μ-loop
     loop-holds
     next-by-requires
-    enum-known-class
+    enum-known-symbol
     same-length
     returns
     class-number-requires
