@@ -12,6 +12,7 @@ use borrow.Author.Tests.{eq-eqb, ne-eqb}
 use Rattle.octets.specs.Believed.Choice.{both}
 use Rattle.octets.specs.Believed.Numbers.{levelLimit, endsTooSoon, noListGoesOn}
 use Rattle.records.specs.Believed.AddressRecords.{AddressRecord, tableBytes}
+use Rattle.scanner.specs.declared.Symbol.{Symbol}
 use Rattle.scanner.specs.declared.Next.the-variants.{Found}
 use Rattle.grammar.specs.Believed.Language.{unfit, unfinished}
 use Rattle.grammar.proofs.Any.Records.{length-records}
@@ -20,7 +21,6 @@ use Rattle.grammar.specs.Believed.Rfc733.{sameClass}
 use Rattle.grammar.specs.Executable.Machine822.{start}
 use Rattle.grammar.proofs.Rfc822.Condition3.{decides}
 use Rattle.addresses.specs.Believed.Editions.{classIn822, takenIn822}
-use Rattle.scanner.specs.Ties.Steps.{Faultless}
 use Rattle.addresses.specs.Ties.Steps.{symbolsFrom, lexemeAt}
 use Rattle.addresses.specs.Ties.Whole.{IsListed, IsRefused}
 use Rattle.addresses.proofs.ClassCases.{tag, by-class-not}
@@ -44,9 +44,12 @@ module _ (classes text : List ℕ) where
     pub same : walkFrom (walkedIn start 0 0) (words at) ≡ walkFrom (walkedOf w rs) (words p)
     pub few : w .free ≤ p
     pub inside : p ≤ length text
-    pub faultless : Faultless classes text p
 
-  next-words : {p s e : ℕ} {class : Class} → NextIs classes text p (Found class s e) → words p ≡ of (classIn822 class s e) (lexemeAt classes text class s e) ∷ words e
+  -- a symbol as RFC 822 takes it
+  abbrev word-of : Symbol → Sym
+  word-of f = of (classIn822 (f .class) (f .start) (f .end)) (lexemeAt classes text (f .class) (f .start) (f .end))
+
+  next-words : {p : ℕ} {f : Symbol} → NextIs classes text p (Found f) → words p ≡ word-of f ∷ words (f .end)
   next-words x = ap takenIn822 (x .same)
 
   run-step : (f g : Walked) (x : Sym) (xs : List Sym) → stepFrom f x ≡ some g → walkFrom f (x ∷ xs) ≡ walkFrom g xs
@@ -55,29 +58,28 @@ module _ (classes text : List ℕ) where
   run-stop : (f : Walked) (x : Sym) (xs : List Sym) → stepFrom f x ≡ none → walkFrom f (x ∷ xs) ≡ stops (x ∷ xs)
   run-stop f x xs e = rw e
 
-  pub come-on : {at p s e : ℕ} {class : Class} {lent table after : List ℕ} {w v : Walk} → Come at lent table p w → NextIs classes text p (Found class s e)
-      → Goes w (classIn822 class s e) s e table after v → Come at lent after e v
-  come-on {at} {p} {s} {e} {class} {lent} {table} {after} {w} {v} c x g =
-      let (ss, h, q) = g .steps (lexemeAt classes text class s e .meaning) (c .rs) lent (c .holds) in
+  pub come-on : {at p : ℕ} {f : Symbol} {lent table after : List ℕ} {w v : Walk} → Come at lent table p w → NextIs classes text p (Found f)
+      → Goes w (classIn822 (f .class) (f .start) (f .end)) (f .start) (f .end) table after v → Come at lent after (f .end) v
+  come-on {f = f} {lent = lent} {w = w} {v = v} c x g =
+      let (ss, h, q) = g .steps (word-of f .lexeme .meaning) (c .rs) lent (c .holds) in
       record {
         rs = ss;
         holds = h;
         fine = g .fine;
-        same = c .same ∙ ap (walkFrom (walkedOf w (c .rs))) (next-words x) ∙ run-step (walkedOf w (c .rs)) (walkedOf v ss) (of (classIn822 class s e) (lexemeAt classes text class s e)) (words e) q;
+        same = c .same ∙ ap (walkFrom (walkedOf w (c .rs))) (next-words x) ∙ run-step (walkedOf w (c .rs)) (walkedOf v ss) (word-of f) (words (f .end)) q;
         few = omega (arith, g .few, c .few, x .ok .0, x .ok .1 .starts);
         inside = x .ok .1 .within;
-        faultless = x .ok .1 .faultless;
       }
 
-  pub stop-at : {at p s e : ℕ} {class : Class} {lent table after : List ℕ} {w : Walk} → Come at lent table p w → NextIs classes text p (Found class s e)
-      → Stops w (classIn822 class s e) s e table after → IsRefused verdict822 classes text at noListGoesOn s
-  stop-at {at} {p} {s} {e} {class} {lent} {w = w} c x g =
-      let t = of (classIn822 class s e) (lexemeAt classes text class s e) in
+  pub stop-at : {at p : ℕ} {f : Symbol} {lent table after : List ℕ} {w : Walk} → Come at lent table p w → NextIs classes text p (Found f)
+      → Stops w (classIn822 (f .class) (f .start) (f .end)) (f .start) (f .end) table after → IsRefused verdict822 classes text at noListGoesOn (f .start)
+  stop-at {at} {f = f} {lent = lent} {w = w} c x g =
+      let t = word-of f in
       record {
         why = unfit;
-        rest = t ∷ words e;
-        verdict-is = loop-stopped levelLimit 0 0 (words at) (t ∷ words e)
-            (c .same ∙ ap (walkFrom (walkedOf w (c .rs))) (next-words x) ∙ run-stop (walkedOf w (c .rs)) t (words e) (g .stops (lexemeAt classes text class s e .meaning) (c .rs) lent (c .holds)));
+        rest = t ∷ words (f .end);
+        verdict-is = loop-stopped levelLimit 0 0 (words at) (t ∷ words (f .end))
+            (c .same ∙ ap (walkFrom (walkedOf w (c .rs))) (next-words x) ∙ run-stop (walkedOf w (c .rs)) t (words (f .end)) (g .stops (t .lexeme .meaning) (c .rs) lent (c .holds)));
         number-is = refl;
         place-is = refl;
       }

@@ -262,18 +262,19 @@ fn read_whole(
     let mut p = at;
     let mut w = beginning();
     loop {
-        let Next::Found(class, start, end) = scanner::next_by(classes, text, p) else {
+        let Next::Found(symbol) = scanner::next_by(classes, text, p) else {
             if may_end(places, w) {
                 return Whole::Listed(w.free);
             }
             return Whole::Refused(ENDS_TOO_SOON, text.len());
         };
-        let taken = class_in(class, start, end);
-        let Stepped::On(v) = step(places, table, w, taken, start, end) else {
-            return Whole::Refused(NO_LIST_GOES_ON, start);
+        let class = symbol.class;
+        let taken = class_in(class, symbol.start, symbol.end);
+        let Stepped::On(v) = step(places, table, w, taken, symbol.start, symbol.end) else {
+            return Whole::Refused(NO_LIST_GOES_ON, symbol.start);
         };
         w = v;
-        p = end;
+        p = symbol.end;
     }
 }
 

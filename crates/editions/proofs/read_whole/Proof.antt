@@ -18,7 +18,7 @@ abbrev μ-loop : tie.MeasureT-loop
 
 -- what was seen
 seen : (c : tie.After-next-by Inv-loop μ-loop) → (let a = c .before .before .before .before .before .args in NextIs (a .classes .now) (a .text .now) (c .before .loop .p) (c .next-by .result))
-seen c = next-is _ _ _ (c .next-by .result) (c .before .loop .inv .faultless) (c .next-by .ensures)
+seen c = next-is _ _ _ (c .next-by .result) (c .next-by .ensures)
 
 beginning-requires : tie.Need-beginning-requires Inv-loop μ-loop
 beginning-requires c κs = search needs
@@ -34,14 +34,13 @@ loop-holds c =
       same = refl;
       few = omega arith;
       inside = p .inside;
-      faultless = p .faultless;
     })
 
 next-by-requires : tie.Need-next-by-requires Inv-loop μ-loop
 next-by-requires c κs = search needs
 
-enum-known-class : tie.Need-enum-known-class Inv-loop μ-loop
-enum-known-class c = search needs
+enum-known-symbol : tie.Need-enum-known-symbol Inv-loop μ-loop
+enum-known-symbol c = search needs
 
 may-end-requires : tie.Need-may-end-requires Inv-loop μ-loop
 may-end-requires c κs = (c .before .before .loop .inv .fine .place, c .before .before .before .before .before .before .pre .1)
@@ -65,7 +64,7 @@ returns-2 c =
     (sym (c .before .may-end .ensures) ∙ c .if1 .left)
 
 class-in-requires : tie.Need-class-in-requires Inv-loop μ-loop
-class-in-requires c κs = let x = rw (c .before .class .given .1) at (seen (c .before .before .before)) in x .ok .1 .starts
+class-in-requires c κs = let x = rw (c .before .symbol .given .1) at (seen (c .before .before .before)) in x .ok .1 .starts
 
 step-requires : tie.Need-step-requires Inv-loop μ-loop
 step-requires c κs =
@@ -84,18 +83,18 @@ same-length-3 c = stop-long (rw (c .enum-told .given .1) at (c .before .before .
 returns-3 : tie.Need-returns-3 Inv-loop μ-loop
 returns-3 c =
     let a = c .before .before .before .before .before .before .before .before .before .before .before .before .before .before .before .args in
-    let x = rw (c .before .before .before .before .before .before .before .before .class .given .1) at (seen (c .before .before .before .before .before .before .before .before .before .before)) in
+    let x = rw (c .before .before .before .before .before .before .before .before .symbol .given .1) at (seen (c .before .before .before .before .before .before .before .before .before .before)) in
     stop-at (a .classes .now) (a .text .now) (c .before .before .before .before .before .before .before .before .before .before .before .loop .inv) x (rw (c .before .before .before .before .before .before .class-in .ensures) at (rw (c .enum-told .given .1) at (c .before .before .before .before .step .ensures)))
 
 loop-less : tie.Need-loop-less Inv-loop μ-loop
 loop-less c =
-    let x = rw (c .before .before .before .before .before .before .before .before .before .class .given .1) at (seen (c .before .before .before .before .before .before .before .before .before .before .before)) in
+    let x = rw (c .before .before .before .before .before .before .before .before .before .symbol .given .1) at (seen (c .before .before .before .before .before .before .before .before .before .before .before)) in
     omega (arith, x .ok .0, x .ok .1 .starts, x .ok .1 .within)
 
 loop-again : tie.Need-loop-again Inv-loop μ-loop
 loop-again c =
     let a = c .before .before .before .before .before .before .before .before .before .before .before .before .before .before .before .before .args in
-    let x = rw (c .before .before .before .before .before .before .before .before .before .class .given .1) at (seen (c .before .before .before .before .before .before .before .before .before .before .before)) in
+    let x = rw (c .before .before .before .before .before .before .before .before .before .symbol .given .1) at (seen (c .before .before .before .before .before .before .before .before .before .before .before)) in
     come-on (a .classes .now) (a .text .now) (c .before .before .before .before .before .before .before .before .before .before .before .before .loop .inv) x (rw (c .before .before .before .before .before .before .before .class-in .ensures) at (rw (c .before .v .given .1) at (c .before .before .before .before .before .step .ensures)))
 
 pub read-whole-spec : {M : Type 1} → statement M
@@ -107,7 +106,7 @@ read-whole-spec =
     beginning-requires
     loop-holds
     next-by-requires
-    enum-known-class
+    enum-known-symbol
     may-end-requires
     same-length
     returns
