@@ -10,7 +10,7 @@ use Prim.Native.Nat.{ℕ, suc, _+_, _*_, _-_, _≤_, _<_}
 use native.Mathlib.Omega.{arith}
 use lib.ListN.{length, set, getD}
 use lib.Seq.{sets}
-use Rattle.octets.specs.Believed.Numbers.{noListGoesOn, tooManyLevels, levelLimit}
+use Rattle.octets.specs.Believed.Numbers.{tooManyLevels, levelLimit}
 use Rattle.octets.specs.Believed.Classes.{colon}
 use Rattle.octets.specs.Believed.Text.{part}
 use Rattle.octets.specs.declared.answers.Answer.{Answer}
@@ -23,20 +23,20 @@ use Rattle.scanner.specs.declared.Next.the-variants.{Found, Ended, Fault}
 use Rattle.scanner.specs.declared.cursor.Ahead.{Ahead}
 use Rattle.scanner.specs.declared.cursor.Ahead.the-variants.{Symbol, End, Faulty}
 use Rattle.scanner.proofs.CursorLaws.{each-cursor, Keeps, keeps-fourth}
-use Rattle.grammar.specs.Believed.Rfc733.{kindNumber, typedKind}
-use Rattle.grammar.specs.Executable.Trees733.{Class, Atom, At, Comma, Colon, Sym, Phrase}
-use Rattle.grammar.proofs.Rfc733.Readers.{ListEnds, endsAddress, endsList}
-use Rattle.addresses.specs.declared.Frame.{Frame}
+use Rattle.grammar.specs.Believed.Rfc733.{sameClass, kindNumber, typedKind}
+use Rattle.grammar.proofs.Symbols.{same-class}
+use Rattle.grammar.specs.Executable.Trees733.{Class, At, Comma, Colon}
+use Rattle.grammar.proofs.Rfc733.Readers.{ListEnds, endsAddress}
 use Rattle.addresses.specs.declared.TypedAtom.{TypedAtom}
 use Rattle.addresses.specs.declared.TypedAtom.the-variants.{Typed, Nameless}
 use Rattle.addresses.specs.declared.Enclosure.{Enclosure}
 use Rattle.addresses.specs.declared.Enclosure.the-variants.{Angle, Group}
-use Rattle.addresses.specs.Ties.Steps.{Reading, Refused, isWord, isQuoted, endsAhead, refusedNext, opening, freeIn, lastIn, frameAt, reading, symbolsFrom, symbolsAhead, faultFrom, faultAhead, GoesOn, Onward, Comes, Standing, FirstWord, WordsIs, PhraseIs, NoMark, Lone, LoneAhead, LoneIs, Ready, Opened, MarkAhead, MailboxIs, Opening, EnclosedIs, CloseIs, inner, AddressRead, AddressStops, AddressIs, AddressAhead, NamedFirst, ColonFirst, TypedFirst, TypedAhead, TypedIs, TypedOn, NamelessOn, TypedAtomIs, ListRead, ListStops, ListDone, ListReads, ListIs, Entered, BeginsAddress}
+use Rattle.addresses.specs.Ties.Steps.{isQuoted, endsAhead, refusedNext, opening, enclosureOf, freeIn, lastIn, frameAt, reading, symbolsAhead, faultFrom, faultAhead, GoesOn, Onward, Comes, PhraseIs, NoMark, LoneAhead, LoneIs, Ready, MarkAhead, MailboxIs, EnclosedIs, CloseIs, inner, AddressIs, AddressAhead, NamedFirst, ColonFirst, TypedFirst, TypedAhead, TypedIs, TypedOn, NamelessOn, TypedAtomIs, ListReads, ListIs, Entered, BeginsAddress}
 use Rattle.addresses.proofs.NextLaws.{NextIs}
-use Rattle.addresses.proofs.ClassCases.{tag, beginsNone}
+use Rattle.addresses.proofs.ClassCases.{tag, by-class, beginsNone}
 use Rattle.addresses.proofs.CursorSteps.{found-in, ends-in, refusal-at, refused-symbol, Stepped, met}
 use Rattle.addresses.proofs.CursorReads.{refused-onward}
-use Rattle.addresses.proofs.NamedLaws.{no-mark-found, phraseOf, named-is, named-lone, named-opening, named-before}
+use Rattle.addresses.proofs.NamedLaws.{no-mark-found, named-is, named-lone, named-opening, named-before}
 use Rattle.addresses.proofs.AddressLaws.{none-begins}
 use Rattle.addresses.proofs.EnclosedLaws.{deep-stops, inside-stops, typed-deep, typed-wanted, typed-stops, typed-read}
 use Rattle.addresses.proofs.ListLaws.{ListSoFar, list-start, list-comma, list-address, list-stops, list-end}
@@ -57,6 +57,14 @@ module _ (classes text : List ℕ) where
     refused-onward classes text (faultFrom classes text (getD before 2 0)) (length text) (nextIn before) r after q,
   )
 
+  -- the mark of an enclosed list opens what it says
+  pub opens : (class : Class) → OneOf (3 ∷ 7 ∷ []) (tag class) → Symbol class ≡ Symbol (opening (enclosureOf (Symbol class)))
+  opens class o = ap Symbol (sym (same-class (opening (enclosureOf (Symbol class))) class (by-class (3 ∷ 7 ∷ []) (λ c. sameClass (opening (enclosureOf (Symbol c))) c) tt class o)))
+
+  pub enclosed-as : (before : List ℕ) (levels parent : ℕ) {a : Ahead} (name : Span) (table after : List ℕ) (r : Bool) (cursor : List ℕ) → aheadOf (getD before 0 0) ≡ a
+      → EnclosedIs classes text before levels parent (enclosureOf (aheadOf (getD before 0 0))) name table after r cursor → EnclosedIs classes text before levels parent (enclosureOf a) name table after r cursor
+  enclosed-as before levels parent name table after r cursor e x = rw e at x
+
   -- an angle list without a name
   pub angle-ahead : (before : List ℕ) (levels parent : ℕ) → aheadOf (getD before 0 0) ≡ Symbol (opening Angle) → (table after : List ℕ) (r : Bool) (cursor : List ℕ)
       → EnclosedIs classes text before levels parent Angle record { start = getD before 1 0; end = getD before 1 0 } table after r cursor → AddressAhead classes text before levels parent table after r cursor
@@ -74,7 +82,7 @@ module _ (classes text : List ℕ) where
 
   -- ---- an address that begins with a word
 
-  module _ (before now : List ℕ) {levels parent : ℕ} {quoted lone : Bool} (p : NamedFirst classes text before levels parent quoted) (w : PhraseIs classes text before quoted lone now) where
+  module _ (before now : List ℕ) {levels parent : ℕ} {quoted lone : Bool} (p : NamedFirst classes text before levels parent) (q : quoted ≡ isQuoted (p .class)) (w : PhraseIs classes text before quoted lone now) where
     abbrev the-name : Span
     the-name = record { start = getD before 1 0; end = lastIn now }
 
@@ -107,7 +115,7 @@ module _ (classes text : List ℕ) where
     pub from-lone : (table after : List ℕ) (r : Bool) (cursor : List ℕ) → LoneIs classes text now levels parent lone the-name table after r cursor → AddressAhead classes text before levels parent table after r cursor
     from-lone table after r cursor x = (
       rw (found-in before (p .ahead-is), ← (w .free-kept))
-          (x .0 _ _ (named-is classes text (p .class) (p .first) (w .words)) (named-lone classes text (p .class) (getD before 1 0) (getD before 2 0) (p .quoted-is) (w .words))),
+          (x .0 _ _ (named-is classes text (p .class) (p .first) (w .words)) (named-lone classes text (p .class) (getD before 1 0) (getD before 2 0) q (w .words))),
       onward-from (w .goes-on .same) r cursor (x .1),
     )
 
@@ -194,12 +202,13 @@ module _ (classes text : List ℕ) where
         pub end : getD back 2 0 ≡ getD before 2 0
         pub free : freeIn back ≡ freeIn before
         pub sized : length back ≡ cursorSize
+        pub class : getD back 0 0 ≡ colon
 
       put-back : Back
       put-back =
-          let x = each-cursor (λ l. (getD (placed colon (getD before 1 0) (getD before 2 0) l) 1 0 ≡ getD before 1 0) × (getD (placed colon (getD before 1 0) (getD before 2 0) l) 2 0 ≡ getD before 2 0) × (freeIn (placed colon (getD before 1 0) (getD before 2 0) l) ≡ freeIn l) × (length (placed colon (getD before 1 0) (getD before 2 0) l) ≡ cursorSize))
-          (λ a b c d e. (refl, refl, refl, refl)) now (w .sized) in
-          record { start = x .0; end = x .1; free = x .2 ∙ w .free-kept; sized = x .3 }
+          let x = each-cursor (λ l. (getD (placed colon (getD before 1 0) (getD before 2 0) l) 1 0 ≡ getD before 1 0) × (getD (placed colon (getD before 1 0) (getD before 2 0) l) 2 0 ≡ getD before 2 0) × (freeIn (placed colon (getD before 1 0) (getD before 2 0) l) ≡ freeIn l) × (length (placed colon (getD before 1 0) (getD before 2 0) l) ≡ cursorSize) × (getD (placed colon (getD before 1 0) (getD before 2 0) l) 0 0 ≡ colon))
+          (λ a b c d e. (refl, refl, refl, refl, refl)) now (w .sized) in
+          record { start = x .0; end = x .1; free = x .2 ∙ w .free-kept; sized = x .3; class = x .4 }
 
       abbrev no-name : Span
       no-name = record { start = getD before 1 0; end = getD before 1 0 }
@@ -227,11 +236,15 @@ module _ (classes text : List ℕ) where
       pub nameless-end-at : getD then 2 0 ≡ getD before 2 0
       nameless-end-at = rw e (put-back w .end)
 
+      nameless-group : aheadOf (getD then 0 0) ≡ Symbol Colon
+      unfolding aheadOf
+      nameless-group = rw (e, put-back w .class) refl
+
       pub nameless-ahead-at : MarkAhead classes text then levels parent record { start = getD before 1 0; end = getD before 1 0 }
       nameless-ahead-at = rw e (nameless-ahead w)
 
-      pub from-nameless-at : (table after : List ℕ) (r : Bool) (cursor : List ℕ) → EnclosedIs classes text then levels parent Group record { start = getD before 1 0; end = getD before 1 0 } table after r cursor → AddressAhead classes text before levels parent table after r cursor
-      from-nameless-at table after r cursor x = from-nameless w table after r cursor (rw e at x)
+      pub from-nameless-at : (table after : List ℕ) (r : Bool) (cursor : List ℕ) → EnclosedIs classes text then levels parent (enclosureOf (aheadOf (getD then 0 0))) record { start = getD before 1 0; end = getD before 1 0 } table after r cursor → AddressAhead classes text before levels parent table after r cursor
+      from-nameless-at table after r cursor x = from-nameless w table after r cursor (rw e at (enclosed-as then levels parent record { start = getD before 1 0; end = getD before 1 0 } table after r cursor nameless-group x))
 
   -- what was found after the ":"
   pub typed-on : (before now : List ℕ) {r : TypedAtom} {first last : ℕ} → r ≡ Typed first last → TypedAtomIs classes text before r now → TypedOn classes text before first last now

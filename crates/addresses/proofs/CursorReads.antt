@@ -1,9 +1,9 @@
 -- What a cursor tells of what was read: phrases, nodes, typed atoms, and addresses without a list of their own. Assumes nothing.
 use mathlib.Core.Path.{_≡_, refl, sym, ap, _∙_}
-use mathlib.Core.Bool.{Bool, true, false, true≢false}
+use mathlib.Core.Bool.{Bool, true, false}
 use mathlib.Core.Logic.{_⊎_, inl, inr}
-use mathlib.Core.List.{List, [], _∷_}
-use Prim.Native.Nat.{ℕ, _+_, _*_, _-_, _≤_}
+use mathlib.Core.List.{List}
+use Prim.Native.Nat.{ℕ, _+_, _*_, _-_}
 use native.Mathlib.Omega.{arith}
 use lib.ListN.{length, set, getD}
 use lib.Seq.{sets}
@@ -12,20 +12,20 @@ use Rattle.octets.specs.declared.answers.Answer.{Answer}
 use Rattle.records.specs.Believed.AddressRecords.{recordBy, recordBytes, addressRecordSize}
 use Rattle.records.specs.declared.Span.{Span}
 use Rattle.scanner.specs.Believed.Answers.{foundAt}
-use Rattle.scanner.specs.Ties.Cursors.{cursorSize, aheadOf, nextFrom, nextIn}
+use Rattle.scanner.specs.Ties.Cursors.{aheadOf, nextFrom, nextIn}
 use Rattle.scanner.specs.declared.Next.{Next}
 use Rattle.scanner.specs.declared.Next.the-variants.{Found, Ended, Fault}
 use Rattle.scanner.specs.declared.cursor.Ahead.{Ahead}
 use Rattle.scanner.specs.declared.cursor.Ahead.the-variants.{Symbol, End, Faulty}
 use Rattle.scanner.proofs.CursorLaws.{keeps-fourth, keeps-fifth}
 use Rattle.grammar.specs.Believed.Rfc733.{sameClass}
-use Rattle.grammar.specs.Executable.Trees733.{Class, Atom, At, Colon, Sym, Phrase}
+use Rattle.grammar.specs.Executable.Trees733.{Class, Atom, Colon}
 use Rattle.grammar.proofs.Rfc733.Trees.{atomColon}
 use Rattle.addresses.specs.declared.Frame.{Frame}
 use Rattle.addresses.specs.declared.Enclosure.{Enclosure}
-use Rattle.addresses.specs.Ties.Steps.{Reading, Read, Refused, NodesRead, Stopped, isWord, wordAhead, endsAhead, endsAddressNext, refusedNext, freeIn, lastIn, frameAt, reading, nodesRead, loneQuoted, symbolsFrom, symbolsAhead, faultAhead, Onward, NodesEnd, NodesIs, NodesAre, PhraseIs, TypedOn, NamelessOn, AddressIs, Named, MarkAhead, MailboxIs, Lone, LoneAhead, LoneIs, closing, closesAhead, enclosureKind, CloseIs}
+use Rattle.addresses.specs.Ties.Steps.{Reading, Read, Refused, NodesRead, Stopped, isWord, wordAhead, endsAhead, refusedNext, freeIn, lastIn, frameAt, reading, symbolsFrom, faultAhead, Onward, NodesIs, NodesAre, PhraseIs, TypedOn, NamelessOn, MarkAhead, MailboxIs, LoneAhead, LoneIs, closesAhead, enclosureKind, CloseIs}
 use Rattle.addresses.proofs.NextLaws.{NextIs}
-use Rattle.addresses.proofs.CursorSteps.{by-ahead, found-in, ends-in, closes-in, Stands, closing-in, no-word-in, Stepped, met}
+use Rattle.addresses.proofs.CursorSteps.{by-ahead, found-in, ends-in, closes-in, closing-in, no-word-in, Stepped, met}
 use Rattle.addresses.proofs.PhraseLaws.{WordsSoFar, words-done}
 use Rattle.addresses.proofs.NodesLaws.{followsNode, NodesSoFar, NodeRead, nodes-end, stops-no-node, stops-node-wanted, stops-behind-node}
 use Rattle.addresses.proofs.TypedLaws.{no-atom, nothing, no-colon, nothing-behind, typed-follows}

@@ -5,22 +5,20 @@ use mathlib.Core.List.{List, [], _∷_}
 use types.Run.{OneOf, miss}
 use denote.Enum.Declared.{tagOf}
 use Rattle.scanner.proofs.cursor.Ahead as ahead-declared
-use Prim.Native.Nat.{ℕ, _≤_}
-use native.Mathlib.Omega.{arith}
-use lib.ListN.{length, set, getD}
+use Prim.Native.Nat.{ℕ}
+use lib.ListN.{length, getD}
 use Rattle.octets.specs.Believed.Numbers.{noListGoesOn, endsTooSoon}
 use Rattle.scanner.specs.Believed.Scanning.{scanBy}
 use Rattle.scanner.specs.Believed.Answers.{foundAt, nextOf}
 use Rattle.scanner.specs.Ties.Cursors.{cursorSize, faultNumber, placed, moved, aheadOf, nextFrom, nextIn}
 use Rattle.scanner.specs.declared.Next.{Next}
-use Rattle.scanner.specs.declared.Next.the-variants.{Found, Ended, Fault}
 use Rattle.scanner.specs.declared.cursor.Ahead.{Ahead}
 use Rattle.scanner.specs.declared.cursor.Ahead.the-variants.{Symbol, End, Faulty}
 use Rattle.scanner.proofs.CursorLaws.{leads-on, each-cursor}
 use Rattle.grammar.specs.Believed.Rfc733.{sameClass}
 use Rattle.grammar.specs.Executable.Trees733.{Class}
 use Rattle.addresses.specs.declared.Enclosure.{Enclosure}
-use Rattle.addresses.specs.Ties.Steps.{Reading, Refused, isWord, wordAhead, endsAhead, closing, closesAhead, endsAddressNext, closesNext, refusedNext, freeIn, lastIn, reading, symbolsAhead, faultFrom, faultAhead, Comes, Standing, NoWord}
+use Rattle.addresses.specs.Ties.Steps.{Refused, isWord, wordAhead, endsAhead, closing, closesAhead, endsAddressNext, closesNext, refusedNext, freeIn, lastIn, reading, symbolsAhead, NoWord}
 use Rattle.addresses.proofs.NextLaws.{NextIs, next-is}
 
 -- what was asked of what stands ahead

@@ -28,9 +28,6 @@ use Rattle.addresses.specs.declared.Frame.{Frame}
 use Rattle.records.specs.declared.Span.{Span}
 use Rattle.addresses.specs.declared.Enclosure.{Enclosure}
 use Rattle.addresses.specs.declared.Enclosure.the-variants.{Angle, Group}
-use types.Run.{OneOf, miss}
-use denote.Enum.Declared.{tagOf}
-use Rattle.scanner.proofs.Next as next-declared
 use Rattle.addresses.proofs.NextLaws.{NextIs}
 use Rattle.addresses.proofs.AddressLaws.{ends-next}
 

@@ -1,6 +1,6 @@
 -- A body is read first, and only a refusal looks for its first fault. Assumes nothing.
 use mathlib.Core.Path.{_≡_, refl, sym, ap, _∙_}
-use mathlib.Core.Bool.{Bool, true, false}
+use mathlib.Core.Bool.{true, false}
 use mathlib.Core.List.{List, [], _∷_}
 use Prim.Native.Nat.{ℕ, _+_, _*_, _/_, _≤_, _<_}
 use native.Mathlib.Omega.{arith}
@@ -17,10 +17,9 @@ use Rattle.records.proofs.TableLaws.{length-table}
 use Rattle.grammar.specs.Believed.Records.{records}
 use Rattle.grammar.proofs.Any.Records.{length-records}
 use Rattle.scanner.specs.Believed.Scanning.{scanBy}
-use Rattle.scanner.specs.Believed.Answers.{unlessFault, faultOf, foundAt}
+use Rattle.scanner.specs.Believed.Answers.{unlessFault}
 use Rattle.scanner.specs.Ties.Cursors.{endNumber, aheadOf, nextFrom, nextIn}
 use Rattle.scanner.specs.Ties.Steps.{Faultless}
-use Rattle.scanner.specs.declared.Next.{Next}
 use Rattle.scanner.specs.declared.Next.the-variants.{Ended, Fault}
 use Rattle.scanner.specs.declared.cursor.Ahead.{Ahead}
 use Rattle.scanner.specs.declared.cursor.Ahead.the-variants.{Symbol, End, Faulty}
@@ -32,11 +31,11 @@ use Rattle.grammar.specs.declared.Whole.{Whole}
 use Rattle.grammar.specs.declared.Whole.the-variants as whole
 use Rattle.grammar.specs.declared.Whole.the-variants.{Listed}
 use Rattle.addresses.specs.Ties.Steps.{freeIn, faultAhead, ListStops, ListIs}
-use Rattle.addresses.specs.Ties.Whole.{onceLimit, onceRoom, endsWithin, EndsWithin, IsListed, IsRefused, WholeIs, TwiceIs, ListedClean, WholeFirst, FaultFirst}
+use Rattle.addresses.specs.Ties.Whole.{onceLimit, onceRoom, endsWithin, EndsWithin, IsRefused, WholeIs, TwiceIs, ListedClean, WholeFirst, FaultFirst}
 use Rattle.addresses.proofs.CursorSteps.{found-in}
 use Rattle.addresses.proofs.BodyRecords.{accepted-half}
 use Rattle.addresses.proofs.AnyEdition.{twice-refused, twice-no-room, twice-written}
-use Rattle.addresses.proofs.WholeLaws.{outermost, verdict-listed, verdict-stops, verdict-closed, whole-listed, whole-stops, whole-closed}
+use Rattle.addresses.proofs.WholeLaws.{outermost, verdict-listed, verdict-stops, verdict-closed, whole-listed, whole-closed}
 
 -- the cursor with which a body is entered
 abbrev pub origin : ℕ → List ℕ

@@ -13,7 +13,7 @@ use Rattle.grammar.proofs.Symbols.{each-of}
 use Rattle.grammar.specs.Executable.Trees733.{Class, Quoted, Lexeme, Sym, of, Word, atomWord, quotedWord, Phrase, one, more}
 use Rattle.grammar.proofs.Rfc733.Trees.{wordSymbol, phraseThen}
 use Rattle.grammar.proofs.Rfc733.TreeRecords.{wordLexeme, phraseStart, phraseEnd}
-use Rattle.addresses.specs.Ties.Steps.{isWord, isQuoted, loneQuoted, symbolsFrom, lexemeAt, symbolsAhead, faultFrom, faultAhead, NoWord, WordsIs}
+use Rattle.addresses.specs.Ties.Steps.{isWord, isQuoted, loneQuoted, symbolsFrom, lexemeAt, symbolsAhead, faultFrom, NoWord, WordsIs}
 use Rattle.addresses.proofs.NextLaws.{NextIs}
 
 -- the word of a class

@@ -11,9 +11,9 @@ ghost use Rattle.octets.specs.declared.answers.Answer.the-variants.{Refused};
 ghost use Rattle.records.specs.Believed.AddressRecords.{recordBy, recordBytes, addressRecordSize};
 ghost use Rattle.scanner.specs.Believed.Scanning.{scanBy};
 ghost use Rattle.scanner.specs.Believed.Answers.{unlessFault};
-ghost use Rattle.scanner.specs.Ties.Cursors.{cursorSize, nextIn};
+ghost use Rattle.scanner.specs.Ties.Cursors.{cursorSize, aheadOf, nextIn};
 ghost use Rattle.grammar.specs.Executable.Machine733.{answer};
-ghost use Rattle.addresses.specs.Ties.Steps.{wordAhead, endsAhead, closesAhead, reading, refusedNext, enclosureKind, PhraseIs, NodesAre, TypedAtomIs, MarkAhead, MailboxIs, LoneAhead, LoneIs, CloseIs, Entered, ListIs, BeginsAddress, AddressAhead, NamedFirst, EnclosedIs, ColonFirst, TypedAhead, TypedIs};
+ghost use Rattle.addresses.specs.Ties.Steps.{wordAhead, quotedAhead, endsAhead, closesAhead, enclosureOf, reading, refusedNext, enclosureKind, PhraseIs, NodesAre, TypedAtomIs, MarkAhead, MailboxIs, LoneAhead, LoneIs, CloseIs, Entered, ListIs, BeginsAddress, AddressAhead, NamedFirst, EnclosedIs, ColonFirst, TypedAhead, TypedIs};
 ghost use Rattle.addresses.specs.Ties.Whole.{Fitting, onceLimit, onceRoom, WholeFirst, FaultFirst, EndsWithin};
 ghost use Rattle.addresses.specs.Believed.Outcome.{AnsweredBy, outcome};
 ghost use Rattle.addresses.specs.Believed.Within.{listWithin};
@@ -99,6 +99,19 @@ fn is_word(ahead: Ahead) -> bool
             Class::Atom | Class::Quoted => true,
             _ => false,
         },
+        _ => false,
+    }
+}
+
+// Whether a quoted-string stands ahead.
+fn is_quoted(ahead: Ahead) -> bool
+    ensures { λ r. ⌜ r ≡ quotedAhead ahead ⌝ }
+{
+    let Ahead::Symbol(class) = ahead else {
+        return false;
+    };
+    match class {
+        Class::Quoted => true,
         _ => false,
     }
 }
@@ -275,6 +288,19 @@ fn closes(enclosure: Enclosure, ahead: Ahead) -> bool
     }
 }
 
+// What a mark encloses: "<" an angle list, and ":" a group.
+fn enclosure_of(ahead: Ahead) -> Enclosure
+    ensures { λ r. ⌜ r ≡ enclosureOf ahead ⌝ }
+{
+    let Ahead::Symbol(class) = ahead else {
+        return Enclosure::Group;
+    };
+    match class {
+        Class::LessThan => Enclosure::Angle,
+        _ => Enclosure::Group,
+    }
+}
+
 // The kind of an enclosed list.
 fn enclosure_kind(enclosure: Enclosure) -> u8
     ensures { λ r. ⌜ r ≡ enclosureKind enclosure ⌝ }
@@ -363,28 +389,18 @@ fn read_address(
         return refuse(text, cursor);
     };
     match class {
-        Class::Atom => read_named(classes, text, table, cursor, levels, parent, false),
-        Class::Quoted => read_named(classes, text, table, cursor, levels, parent, true),
+        Class::Atom | Class::Quoted => read_named(classes, text, table, cursor, levels, parent),
         Class::LessThan => {
             let start = cursor[START];
             let name = Span { start, end: start };
-            read_enclosed(
-                classes,
-                text,
-                table,
-                cursor,
-                levels,
-                parent,
-                Enclosure::Angle,
-                name,
-            )
+            read_enclosed(classes, text, table, cursor, levels, parent, name)
         }
         Class::Colon => read_colon(classes, text, table, cursor, levels, parent),
         _ => refuse(text, cursor),
     }
 }
 
-// An address that begins with a word; quoted: whether that is a quoted-string.
+// An address that begins with a word.
 fn read_named(
     classes: &[u8; 256],
     text: &[u8],
@@ -392,12 +408,12 @@ fn read_named(
     cursor: &mut [usize; 5],
     levels: usize,
     parent: usize,
-    quoted: bool,
 ) -> bool
-    requires { ⌜ NamedFirst (now classes) (now text) (now cursor) levels parent quoted ⌝ }
+    requires { ⌜ NamedFirst (now classes) (now text) (now cursor) levels parent ⌝ }
     ensures { λ r. ⌜ AddressAhead (now (classes .entry)) (now (text .entry)) (now (cursor .entry)) levels parent (now (table .entry)) (now (table .exit)) r (now (cursor .exit)) ⌝ }
 {
     let start = cursor[START];
+    let quoted = is_quoted(ahead_of(cursor[CLASS]));
     let lone = read_words(classes, text, cursor, quoted);
     let end = cursor[LAST];
     let name = Span { start, end };
@@ -406,24 +422,13 @@ fn read_named(
     };
     match mark {
         Class::At => read_mailbox(classes, text, table, cursor, levels, parent, name),
-        Class::LessThan => read_enclosed(
+        Class::LessThan | Class::Colon => read_enclosed(
             classes,
             text,
             table,
             cursor,
             levels,
             parent,
-            Enclosure::Angle,
-            name,
-        ),
-        Class::Colon => read_enclosed(
-            classes,
-            text,
-            table,
-            cursor,
-            levels,
-            parent,
-            Enclosure::Group,
             name,
         ),
         _ => read_lone(classes, text, table, cursor, levels, parent, lone, name),
@@ -438,12 +443,12 @@ fn read_enclosed(
     cursor: &mut [usize; 5],
     levels: usize,
     parent: usize,
-    enclosure: Enclosure,
     name: Span,
 ) -> bool
     requires { ⌜ MarkAhead (now classes) (now text) (now cursor) levels parent name ⌝ }
-    ensures { λ r. ⌜ EnclosedIs (now (classes .entry)) (now (text .entry)) (now (cursor .entry)) levels parent enclosure name (now (table .entry)) (now (table .exit)) r (now (cursor .exit)) ⌝ }
+    ensures { λ r. ⌜ EnclosedIs (now (classes .entry)) (now (text .entry)) (now (cursor .entry)) levels parent (enclosureOf (aheadOf (getD (now (cursor .entry)) 0 0))) name (now (table .entry)) (now (table .exit)) r (now (cursor .exit)) ⌝ }
 {
+    let enclosure = enclosure_of(ahead_of(cursor[CLASS]));
     if levels == 0 {
         let place = cursor[START];
         put(cursor, FAULT, place, TOO_MANY_LEVELS as usize); // at its opening mark
@@ -488,16 +493,7 @@ fn read_colon(
         TypedAtom::Nameless => {
             put(cursor, COLON as usize, start, end);
             let name = Span { start, end: start };
-            read_enclosed(
-                classes,
-                text,
-                table,
-                cursor,
-                levels,
-                parent,
-                Enclosure::Group,
-                name,
-            )
+            read_enclosed(classes, text, table, cursor, levels, parent, name)
         }
     }
 }

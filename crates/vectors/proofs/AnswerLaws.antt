@@ -20,7 +20,7 @@ use Rattle.records.specs.Believed.AddressRecords.{recordBy, addressRecordSize, 
 use Rattle.records.specs.Believed.FieldRecords.{fieldOf, fieldRecordSize, fieldIn}
 use Rattle.listing.specs.Believed.Lines.{decimal, spaced}
 use Rattle.scanner.specs.Believed.Answers.{nextInBody}
-use Rattle.scanner.specs.declared.Class.{Class}
+use Rattle.scanner.specs.declared.Symbol.{Symbol}
 use Rattle.scanner.specs.declared.Next.{Next}
 use Rattle.scanner.specs.declared.Next.the-variants.{Found, Ended, Fault}
 use Rattle.vectors.specs.Believed.Answers.{line, bracketed, frontText, addressNumbers, fieldNumbers, counted, keptNote, refusesAt, untouchedByte, untouchedNumber, untouched, rowLine, rows, markOf, symbolThen, symbols}
@@ -170,7 +170,7 @@ module _ (left : ℕ) (message : List ℕ) (at end : ℕ) (rest : List ℕ) wher
   unfolding symbols
   symbols-next h = by-step left (left - 1) message at end rest (omega arith)
 
-  pub symbols-found : 0 < left → {c : Class} {first last : ℕ} → nextInBody message at end ≡ Found c first last → symbols left message at end rest ≡ line (markOf c) (first ∷ last ∷ []) (symbols (left - 1) message last end rest)
+  pub symbols-found : 0 < left → {symbol : Symbol} → nextInBody message at end ≡ Found symbol → symbols left message at end rest ≡ line (markOf (symbol .class)) (symbol .start ∷ symbol .end ∷ []) (symbols (left - 1) message (symbol .end) end rest)
   symbols-found h e = symbols-next h ∙ ap (λ (x : Next). symbolThen x (λ p. symbols (left - 1) message p end rest) rest) e
 
   pub symbols-ended : 0 < left → nextInBody message at end ≡ Ended → symbols left message at end rest ≡ rest

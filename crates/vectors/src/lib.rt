@@ -584,10 +584,11 @@ fn put_symbols(message: &[u8], start: usize, end: usize, out: &mut [u8], n: usiz
     let mut left: usize = 65536;
     while 0 < left {
         match next_symbol(message, p, end) {
-            Next::Found(class, first, behind) => {
-                let place = [first as u64, behind as u64];
+            Next::Found(symbol) => {
+                let class = symbol.class;
+                let place = [symbol.start as u64, symbol.end as u64];
                 m = put_line(mark(class), &place, out, m);
-                p = behind;
+                p = symbol.end;
             }
             Next::Ended => return m,
             Next::Fault(number, position) => {

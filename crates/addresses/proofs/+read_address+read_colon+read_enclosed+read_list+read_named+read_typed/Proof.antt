@@ -7,14 +7,12 @@ use native.Mathlib.Omega.{arith}
 use Prim.Native.Nat.{_+_, _*_, _-_}
 use lib.ListN.{length, getD}
 use Rattle.scanner.specs.declared.cursor.Ahead.the-variants.{Symbol}
-use Rattle.grammar.specs.Executable.Trees733.{Atom, Quoted}
 use Rattle.grammar.proofs.Rfc733.Readers.{endsAddress, endsList}
-use Rattle.addresses.specs.declared.Enclosure.the-variants.{Angle, Group}
-use Rattle.addresses.specs.Ties.Steps.{endsAhead, Entered}
+use Rattle.addresses.specs.Ties.Steps.{isWord, quotedAhead, endsAhead, enclosureOf, Entered}
 use Rattle.addresses.proofs.ClassCases.{by-class, by-class-not, no-symbol-ahead, at-or-stray}
 use Rattle.addresses.proofs.CursorSteps.{told, same-not, found-in, Stepped, stepped}
-use Rattle.addresses.proofs.CursorCycle.{none-ahead, angle-ahead, end-ahead, lone-ahead, mark-ahead, mark-later, no-mark-ahead, from-lone, from-mailbox, from-enclosed, enclosed-deep, list-from, entered-in, enclosed-inside, enclosed-done, typed-on, nameless-on, typed-ahead, from-typed, nameless-end-at, nameless-ahead-at, from-nameless-at, typed-too-deep, typed-refused, child-begins, child-later, typed-inside, typed-done, leftOf, ListGoes, goes-start, comma-less, goes-comma, address-begins, address-later, goes-stops, goes-address, address-less, goes-end}
-use Rattle.scanner.specs.Ties.Cursors.{nextIn}
+use Rattle.addresses.proofs.CursorCycle.{none-ahead, opens, enclosed-as, angle-ahead, end-ahead, lone-ahead, mark-ahead, mark-later, no-mark-ahead, from-lone, from-mailbox, from-enclosed, enclosed-deep, list-from, entered-in, enclosed-inside, enclosed-done, typed-on, nameless-on, typed-ahead, from-typed, nameless-end-at, nameless-ahead-at, from-nameless-at, typed-too-deep, typed-refused, child-begins, child-later, typed-inside, typed-done, leftOf, ListGoes, goes-start, comma-less, goes-comma, address-begins, address-later, goes-stops, goes-address, address-less, goes-end}
+use Rattle.scanner.specs.Ties.Cursors.{aheadOf, nextIn}
 use Prim.Native.Nat.{ℕ, _<_}
 use borrow.Fn.Kinds.{In}
 use borrow.Fn.PlainCycle.{Measures, is, falls, and}
@@ -37,7 +35,9 @@ use Rattle.addresses.proofs.read_typed.Reads as read-typed
 use Rattle.addresses.proofs.read_typed.Kinds as read-typed-kinds
 use Rattle.addresses.proofs.+read_address+read_colon+read_enclosed+read_list+read_named+read_typed.Lts-read_typed as read-typed-lts
 use Rattle.addresses.proofs.close_list.Reads as close-list-reads
+use Rattle.addresses.proofs.enclosure_of.Reads as enclosure-of-reads
 use Rattle.addresses.proofs.ends_address.Reads as ends-address-reads
+use Rattle.addresses.proofs.is_quoted.Reads as is-quoted-reads
 use Rattle.addresses.proofs.put_record.Reads as put-record-reads
 use Rattle.addresses.proofs.read_lone.Reads as read-lone-reads
 use Rattle.addresses.proofs.read_mailbox.Reads as read-mailbox-reads
@@ -140,13 +140,13 @@ abbrev read-colon-calls : ℕ → read-colon-lts.Claims
 read-colon-calls t = (typed-atom-reads.Asked, typed-atom-reads.Learnt, read-typed-below t, read-typed.Post, put-reads.Asked, put-reads.Learnt, read-enclosed-below t, read-enclosed.Post)
 
 abbrev read-enclosed-calls : ℕ → read-enclosed-lts.Claims
-read-enclosed-calls t = (put-reads.Asked, put-reads.Learnt, read-list-below t, read-list.Post, close-list-reads.Asked, close-list-reads.Learnt)
+read-enclosed-calls t = (ahead-of-reads.Asked, ahead-of-reads.Learnt, enclosure-of-reads.Asked, enclosure-of-reads.Learnt, put-reads.Asked, put-reads.Learnt, read-list-below t, read-list.Post, close-list-reads.Asked, close-list-reads.Learnt)
 
 abbrev read-list-calls : ℕ → read-list-lts.Claims
 read-list-calls t = (step-reads.Asked, step-reads.Learnt, ahead-of-reads.Asked, ahead-of-reads.Learnt, read-address-below t, read-address.Post)
 
 abbrev read-named-calls : ℕ → read-named-lts.Claims
-read-named-calls t = (read-words-reads.Asked, read-words-reads.Learnt, ahead-of-reads.Asked, ahead-of-reads.Learnt, read-lone-reads.Asked, read-lone-reads.Learnt, read-mailbox-reads.Asked, read-mailbox-reads.Learnt, read-enclosed-below t, read-enclosed.Post)
+read-named-calls t = (ahead-of-reads.Asked, ahead-of-reads.Learnt, is-quoted-reads.Asked, is-quoted-reads.Learnt, read-words-reads.Asked, read-words-reads.Learnt, read-lone-reads.Asked, read-lone-reads.Learnt, read-mailbox-reads.Asked, read-mailbox-reads.Learnt, read-enclosed-below t, read-enclosed.Post)
 
 abbrev read-typed-calls : ℕ → read-typed-lts.Claims
 read-typed-calls t = (put-reads.Asked, put-reads.Learnt, step-reads.Asked, step-reads.Learnt, ahead-of-reads.Asked, ahead-of-reads.Learnt, ends-address-reads.Asked, ends-address-reads.Learnt, refuse-reads.Asked, refuse-reads.Learnt, read-address-below t, read-address.Post, typed-kind-reads.Asked, typed-kind-reads.Learnt, put-record-reads.Asked, put-record-reads.Learnt)
@@ -166,20 +166,11 @@ read-address-refuse-requires t c κs = c .before .before .before .before .before
 read-address-returns : (t : ℕ) → read-address-lts.Need-returns (read-address-calls t) (read-address-at t) read-address.Post
 read-address-returns t c = absurd (true≢false (sym (no-symbol-ahead endsAhead true refl refl (c .before .before .before .ahead-of .result) (c .before .before .match .keys2)) ∙ ap endsAhead (c .before .before .before .ahead-of .ensures) ∙ c .before .before .before .before .before .before .before .pre .1 .begins))
 
+read-address-read-named-requires : (t : ℕ) → read-address-lts.Need-read-named-requires (read-address-calls t) (read-address-at t) read-address.Post
+read-address-read-named-requires t c κs = (omega (arith, c .before .before .before .before .before .before .before .before .before .before .pre .0, c .before .before .before .before .before .before .before .before .before .before .pre .1 .stands .starts, c .before .before .before .before .before .before .before .before .before .before .pre .1 .stands .within), record { class = c .before .before .before .before .class .given .0 .0; ahead-is = sym (c .before .before .before .before .before .before .ahead-of .ensures) ∙ c .before .before .before .before .class .given .1; first = record { word = by-class (0 ∷ 1 ∷ []) isWord tt (c .before .before .before .before .class .given .0 .0) (c .before .before .match2 .keys1); stands = c .before .before .before .before .before .before .before .before .before .before .pre .1 .stands }; ready = c .before .before .before .before .before .before .before .before .before .before .pre .1 .ready; sized = c .before .before .before .before .before .before .before .before .before .before .pre .1 .sized })
+
 read-address-enum-told : (t : ℕ) → read-address-lts.Need-enum-told (read-address-calls t) (read-address-at t) read-address.Post
 read-address-enum-told t c = search needs
-
-read-address-read-named-requires : (t : ℕ) → read-address-lts.Need-read-named-requires (read-address-calls t) (read-address-at t) read-address.Post
-read-address-read-named-requires t c κs = (omega (arith, c .before .before .before .before .before .before .before .before .before .before .before .pre .0, c .before .before .before .before .before .before .before .before .before .before .before .pre .1 .stands .starts, c .before .before .before .before .before .before .before .before .before .before .before .pre .1 .stands .within), record { class = Atom; ahead-is = (sym (c .before .before .before .before .before .before .before .ahead-of .ensures) ∙ c .before .before .before .before .before .class .given .1 ∙ ap Symbol (c .before .before .enum-told .given .1)); quoted-is = refl; first = record { word = refl; stands = c .before .before .before .before .before .before .before .before .before .before .before .pre .1 .stands }; ready = c .before .before .before .before .before .before .before .before .before .before .before .pre .1 .ready; sized = c .before .before .before .before .before .before .before .before .before .before .before .pre .1 .sized })
-
-read-address-enum-told-2 : (t : ℕ) → read-address-lts.Need-enum-told-2 (read-address-calls t) (read-address-at t) read-address.Post
-read-address-enum-told-2 t c = search needs
-
-read-address-read-named-requires-2 : (t : ℕ) → read-address-lts.Need-read-named-requires-2 (read-address-calls t) (read-address-at t) read-address.Post
-read-address-read-named-requires-2 t c κs = (omega (arith, c .before .before .before .before .before .before .before .before .before .before .before .pre .0, c .before .before .before .before .before .before .before .before .before .before .before .pre .1 .stands .starts, c .before .before .before .before .before .before .before .before .before .before .before .pre .1 .stands .within), record { class = Quoted; ahead-is = (sym (c .before .before .before .before .before .before .before .ahead-of .ensures) ∙ c .before .before .before .before .before .class .given .1 ∙ ap Symbol (c .before .before .enum-told2 .given .1)); quoted-is = refl; first = record { word = refl; stands = c .before .before .before .before .before .before .before .before .before .before .before .pre .1 .stands }; ready = c .before .before .before .before .before .before .before .before .before .before .before .pre .1 .ready; sized = c .before .before .before .before .before .before .before .before .before .before .before .pre .1 .sized })
-
-read-address-enum-told-3 : (t : ℕ) → read-address-lts.Need-enum-told-3 (read-address-calls t) (read-address-at t) read-address.Post
-read-address-enum-told-3 t c = search needs
 
 read-address-element-copy-out-start : (t : ℕ) → read-address-lts.Need-element-copy-out-start (read-address-calls t) (read-address-at t) read-address.Post
 read-address-element-copy-out-start t c = search needs
@@ -187,11 +178,11 @@ read-address-element-copy-out-start t c = search needs
 read-address-read-enclosed-requires : (t : ℕ) → read-address-lts.Need-read-enclosed-requires (read-address-calls t) (read-address-at t) read-address.Post
 read-address-read-enclosed-requires t c κs = (omega (arith, c .before .before .before .before .before .before .before .before .before .before .before .before .pre .0, c .before .before .before .before .before .before .before .before .before .before .before .before .pre .1 .stands .starts, c .before .before .before .before .before .before .before .before .before .before .before .before .pre .1 .stands .within), record { opened = record { stands = c .before .before .before .before .before .before .before .before .before .before .before .before .pre .1 .stands; behind = omega arith; ready = c .before .before .before .before .before .before .before .before .before .before .before .before .pre .1 .ready }; sized = c .before .before .before .before .before .before .before .before .before .before .before .before .pre .1 .sized })
 
-read-address-enum-told-4 : (t : ℕ) → read-address-lts.Need-enum-told-4 (read-address-calls t) (read-address-at t) read-address.Post
-read-address-enum-told-4 t c = search needs
+read-address-enum-told-2 : (t : ℕ) → read-address-lts.Need-enum-told-2 (read-address-calls t) (read-address-at t) read-address.Post
+read-address-enum-told-2 t c = search needs
 
 read-address-read-colon-requires : (t : ℕ) → read-address-lts.Need-read-colon-requires (read-address-calls t) (read-address-at t) read-address.Post
-read-address-read-colon-requires t c κs = (omega (arith, c .before .before .before .before .before .before .before .before .before .before .before .pre .0, c .before .before .before .before .before .before .before .before .before .before .before .pre .1 .stands .starts, c .before .before .before .before .before .before .before .before .before .before .before .pre .1 .stands .within), record { ahead-is = (sym (c .before .before .before .before .before .before .before .ahead-of .ensures) ∙ c .before .before .before .before .before .class .given .1 ∙ ap Symbol (c .before .before .enum-told4 .given .1)); stands = c .before .before .before .before .before .before .before .before .before .before .before .pre .1 .stands; ready = c .before .before .before .before .before .before .before .before .before .before .before .pre .1 .ready; sized = c .before .before .before .before .before .before .before .before .before .before .before .pre .1 .sized })
+read-address-read-colon-requires t c κs = (omega (arith, c .before .before .before .before .before .before .before .before .before .before .before .pre .0, c .before .before .before .before .before .before .before .before .before .before .before .pre .1 .stands .starts, c .before .before .before .before .before .before .before .before .before .before .before .pre .1 .stands .within), record { ahead-is = (sym (c .before .before .before .before .before .before .before .ahead-of .ensures) ∙ c .before .before .before .before .before .class .given .1 ∙ ap Symbol (c .before .before .enum-told2 .given .1)); stands = c .before .before .before .before .before .before .before .before .before .before .before .pre .1 .stands; ready = c .before .before .before .before .before .before .before .before .before .before .before .pre .1 .ready; sized = c .before .before .before .before .before .before .before .before .before .before .before .pre .1 .sized })
 
 read-address-refuse-requires-2 : (t : ℕ) → read-address-lts.Need-refuse-requires-2 (read-address-calls t) (read-address-at t) read-address.Post
 read-address-refuse-requires-2 t c κs = c .before .before .before .before .before .before .before .before .before .pre .1 .sized
@@ -206,22 +197,16 @@ read-address-same-length-2 : (t : ℕ) → read-address-lts.Need-same-length-2 (
 read-address-same-length-2 t c = search needs
 
 read-address-returns-3 : (t : ℕ) → read-address-lts.Need-returns-3 (read-address-calls t) (read-address-at t) read-address.Post
-read-address-returns-3 t c = c .before .before .read-named2 .ensures
+read-address-returns-3 t c = angle-ahead (c .before .before .before .before .before .before .before .before .before .before .before .before .before .before .before .args .classes .now) (c .before .before .before .before .before .before .before .before .before .before .before .before .before .before .before .args .text .now) (c .before .before .before .before .before .before .before .before .before .before .before .before .before .before .before .args .cursor .now) (c .before .before .before .before .before .before .before .before .before .before .before .before .before .before .before .args .levels) (c .before .before .before .before .before .before .before .before .before .before .before .before .before .before .before .args .parent) (sym (c .before .before .before .before .before .before .before .before .before .before .before .ahead-of .ensures) ∙ c .before .before .before .before .before .before .before .before .before .class .given .1 ∙ ap Symbol (c .before .before .before .before .before .before .enum-told .given .1)) (c .before .before .before .before .before .before .before .before .before .before .before .before .before .before .before .args .table .now) (c .before .before .read-enclosed .last .1 .1 .0) (c .before .before .read-enclosed .result) (c .before .before .read-enclosed .last .1 .1 .1 .0) (enclosed-as (c .before .before .before .before .before .before .before .before .before .before .before .before .before .before .before .args .classes .now) (c .before .before .before .before .before .before .before .before .before .before .before .before .before .before .before .args .text .now) (c .before .before .before .before .before .before .before .before .before .before .before .before .before .before .before .args .cursor .now) (c .before .before .before .before .before .before .before .before .before .before .before .before .before .before .before .args .levels) (c .before .before .before .before .before .before .before .before .before .before .before .before .before .before .before .args .parent) (record { start = getD (c .before .before .before .before .before .before .before .before .before .before .before .before .before .before .before .args .cursor .now) 1 0; end = getD (c .before .before .before .before .before .before .before .before .before .before .before .before .before .before .before .args .cursor .now) 1 0 }) (c .before .before .before .before .before .before .before .before .before .before .before .before .before .before .before .args .table .now) (c .before .before .read-enclosed .last .1 .1 .0) (c .before .before .read-enclosed .result) (c .before .before .read-enclosed .last .1 .1 .1 .0) (sym (c .before .before .before .before .before .before .before .before .before .before .before .ahead-of .ensures) ∙ c .before .before .before .before .before .before .before .before .before .class .given .1 ∙ ap Symbol (c .before .before .before .before .before .before .enum-told .given .1)) (c .before .before .read-enclosed .ensures))
 
 read-address-same-length-3 : (t : ℕ) → read-address-lts.Need-same-length-3 (read-address-calls t) (read-address-at t) read-address.Post
 read-address-same-length-3 t c = search needs
 
 read-address-returns-4 : (t : ℕ) → read-address-lts.Need-returns-4 (read-address-calls t) (read-address-at t) read-address.Post
-read-address-returns-4 t c = angle-ahead (c .before .before .before .before .before .before .before .before .before .before .before .before .before .before .before .args .classes .now) (c .before .before .before .before .before .before .before .before .before .before .before .before .before .before .before .args .text .now) (c .before .before .before .before .before .before .before .before .before .before .before .before .before .before .before .args .cursor .now) (c .before .before .before .before .before .before .before .before .before .before .before .before .before .before .before .args .levels) (c .before .before .before .before .before .before .before .before .before .before .before .before .before .before .before .args .parent) (sym (c .before .before .before .before .before .before .before .before .before .before .before .ahead-of .ensures) ∙ c .before .before .before .before .before .before .before .before .before .class .given .1 ∙ ap Symbol (c .before .before .before .before .before .before .enum-told3 .given .1)) (c .before .before .before .before .before .before .before .before .before .before .before .before .before .before .before .args .table .now) (c .before .before .read-enclosed .last .1 .1 .0) (c .before .before .read-enclosed .result) (c .before .before .read-enclosed .last .1 .1 .1 .0) (c .before .before .read-enclosed .ensures)
-
-read-address-same-length-4 : (t : ℕ) → read-address-lts.Need-same-length-4 (read-address-calls t) (read-address-at t) read-address.Post
-read-address-same-length-4 t c = search needs
+read-address-returns-4 t c = c .before .before .read-colon .ensures
 
 read-address-returns-5 : (t : ℕ) → read-address-lts.Need-returns-5 (read-address-calls t) (read-address-at t) read-address.Post
-read-address-returns-5 t c = c .before .before .read-colon .ensures
-
-read-address-returns-6 : (t : ℕ) → read-address-lts.Need-returns-6 (read-address-calls t) (read-address-at t) read-address.Post
-read-address-returns-6 t c = none-ahead (c .before .before .before .before .before .before .before .before .before .before .args .classes .now) (c .before .before .before .before .before .before .before .before .before .before .args .text .now) (c .before .before .before .before .before .before .before .before .before .before .args .cursor .now) (c .before .before .before .before .before .before .before .before .before .before .args .levels) (c .before .before .before .before .before .before .before .before .before .before .args .parent) (sym (c .before .before .before .before .before .before .ahead-of .ensures) ∙ c .before .before .before .before .class .given .1) (at-or-stray (c .before .before .before .before .class .given .0 .0) (c .before .before .match2 .keys5) (ap endsAhead (sym (sym (c .before .before .before .before .before .before .ahead-of .ensures) ∙ c .before .before .before .before .class .given .1)) ∙ c .before .before .before .before .before .before .before .before .before .before .pre .1 .begins)) (c .before .before .before .before .before .before .before .before .before .before .args .table .now) (c .refuse2 .result) (c .refuse2 .last .1 .0) (c .refuse2 .ensures)
+read-address-returns-5 t c = none-ahead (c .before .before .before .before .before .before .before .before .before .before .args .classes .now) (c .before .before .before .before .before .before .before .before .before .before .args .text .now) (c .before .before .before .before .before .before .before .before .before .before .args .cursor .now) (c .before .before .before .before .before .before .before .before .before .before .args .levels) (c .before .before .before .before .before .before .before .before .before .before .args .parent) (sym (c .before .before .before .before .before .before .ahead-of .ensures) ∙ c .before .before .before .before .class .given .1) (at-or-stray (c .before .before .before .before .class .given .0 .0) (c .before .before .match2 .keys4) (ap endsAhead (sym (sym (c .before .before .before .before .before .before .ahead-of .ensures) ∙ c .before .before .before .before .class .given .1)) ∙ c .before .before .before .before .before .before .before .before .before .before .pre .1 .begins)) (c .before .before .before .before .before .before .before .before .before .before .args .table .now) (c .refuse2 .result) (c .refuse2 .last .1 .0) (c .refuse2 .ensures)
 
 read-colon-element-copy-out-start : (t : ℕ) → read-colon-lts.Need-element-copy-out-start (read-colon-calls t) (read-colon-at t) read-colon.Post
 read-colon-element-copy-out-start t c = search needs
@@ -262,6 +247,16 @@ read-colon-same-length-2 t c = search needs
 read-colon-returns-2 : (t : ℕ) → read-colon-lts.Need-returns-2 (read-colon-calls t) (read-colon-at t) read-colon.Post
 read-colon-returns-2 t c = from-nameless-at (c .before .before .before .before .before .before .before .before .before .before .before .before .before .before .before .args .classes .now) (c .before .before .before .before .before .before .before .before .before .before .before .before .before .before .before .args .text .now) (c .before .before .before .before .before .before .before .before .before .before .before .before .before .before .before .args .cursor .now) (c .before .before .before .before .before .before .before .before .before .typed-atom .last .1 .1 .0) (c .before .before .before .before .before .before .before .before .before .before .before .before .before .before .before .pre .1) (nameless-on (c .before .before .before .before .before .before .before .before .before .before .before .before .before .before .before .args .classes .now) (c .before .before .before .before .before .before .before .before .before .before .before .before .before .before .before .args .text .now) (c .before .before .before .before .before .before .before .before .before .before .before .before .before .before .before .args .cursor .now) (c .before .before .before .before .before .before .before .before .before .typed-atom .last .1 .1 .0) (c .before .before .before .before .before .before .before .enum-told .given .1) (c .before .before .before .before .before .before .before .before .before .typed-atom .ensures)) (c .before .before .before .before .before .put .last .0) (c .before .before .before .before .before .put .ensures) (c .before .before .before .before .before .before .before .before .before .before .before .before .before .before .before .args .table .now) (c .before .before .read-enclosed .last .1 .1 .0) (c .before .before .read-enclosed .result) (c .before .before .read-enclosed .last .1 .1 .1 .0) (c .before .before .read-enclosed .ensures)
 
+read-enclosed-element-copy-out-ahead-of :
+    (t : ℕ) → read-enclosed-lts.Need-element-copy-out-ahead-of (read-enclosed-calls t) (read-enclosed-at t) read-enclosed.Post
+read-enclosed-element-copy-out-ahead-of t c = search needs
+
+read-enclosed-ahead-of-requires : (t : ℕ) → read-enclosed-lts.Need-ahead-of-requires (read-enclosed-calls t) (read-enclosed-at t) read-enclosed.Post
+read-enclosed-ahead-of-requires t c κs = search needs
+
+read-enclosed-enclosure-of-requires : (t : ℕ) → read-enclosed-lts.Need-enclosure-of-requires (read-enclosed-calls t) (read-enclosed-at t) read-enclosed.Post
+read-enclosed-enclosure-of-requires t c κs = search needs
+
 read-enclosed-element-copy-out-place : (t : ℕ) → read-enclosed-lts.Need-element-copy-out-place (read-enclosed-calls t) (read-enclosed-at t) read-enclosed.Post
 read-enclosed-element-copy-out-place t c = search needs
 
@@ -272,13 +267,13 @@ read-enclosed-put-requires : (t : ℕ) → read-enclosed-lts.Need-put-requires (
 read-enclosed-put-requires t c κs = search needs
 
 read-enclosed-returns : (t : ℕ) → read-enclosed-lts.Need-returns (read-enclosed-calls t) (read-enclosed-at t) read-enclosed.Post
-read-enclosed-returns t c = enclosed-deep (c .before .before .before .before .before .before .args .classes .now) (c .before .before .before .before .before .before .args .text .now) (c .before .before .before .before .before .before .args .cursor .now) (c .before .before .before .before .before .before .args .levels) (c .before .before .before .before .before .before .args .parent) (c .before .before .before .before .before .before .args .enclosure) (c .before .before .before .before .before .before .args .name) (c .before .before .before .before .before .before .pre .1) (c .before .before .before .if1 .taken) (c .before .before .before .before .before .before .args .table .now) (c .put .last .0) (c .put .ensures)
+read-enclosed-returns t c = enclosed-deep (c .before .before .before .before .before .before .before .before .before .args .classes .now) (c .before .before .before .before .before .before .before .before .before .args .text .now) (c .before .before .before .before .before .before .before .before .before .args .cursor .now) (c .before .before .before .before .before .before .before .before .before .args .levels) (c .before .before .before .before .before .before .before .before .before .args .parent) (enclosureOf (aheadOf (getD (c .before .before .before .before .before .before .before .before .before .args .cursor .now) 0 0))) (c .before .before .before .before .before .before .before .before .before .args .name) (c .before .before .before .before .before .before .before .before .before .pre .1) (c .before .before .before .if1 .taken) (c .before .before .before .before .before .before .before .before .before .args .table .now) (c .put .last .0) (c .put .ensures)
 
 read-enclosed-element-copy-out-number : (t : ℕ) → read-enclosed-lts.Need-element-copy-out-number (read-enclosed-calls t) (read-enclosed-at t) read-enclosed.Post
 read-enclosed-element-copy-out-number t c = search needs
 
 read-enclosed-add-below : (t : ℕ) → read-enclosed-lts.Need-add-below (read-enclosed-calls t) (read-enclosed-at t) read-enclosed.Post
-read-enclosed-add-below t c = let p = c .before .before .before .before .pre .1 .opened in omega (arith, p .ready .number-low, p .ready .short, p .behind, p .stands .starts, p .stands .within)
+read-enclosed-add-below t c = let p = c .before .before .before .before .before .before .before .pre .1 .opened in omega (arith, p .ready .number-low, p .ready .short, p .behind, p .stands .starts, p .stands .within)
 
 read-enclosed-element-write-cursor : (t : ℕ) → read-enclosed-lts.Need-element-write-cursor (read-enclosed-calls t) (read-enclosed-at t) read-enclosed.Post
 read-enclosed-element-write-cursor t c = search needs
@@ -287,22 +282,22 @@ read-enclosed-sub-read-list : (t : ℕ) → read-enclosed-lts.Need-sub-read-list
 read-enclosed-sub-read-list t c = omega (arith, c .before .before .before .if1 .left)
 
 read-enclosed-read-list-requires : (t : ℕ) → read-enclosed-lts.Need-read-list-requires (read-enclosed-calls t) (read-enclosed-at t) read-enclosed.Post
-read-enclosed-read-list-requires t c κs = let p = c .before .before .before .before .before .before .pre .1 .opened in (omega (arith, c .before .before .before .before .before .before .pre .0, c .before .before .before .if1 .left, list-from (c .before .before .before .before .before .before .args .classes .now) (c .before .before .before .before .before .before .args .text .now) (c .before .before .before .before .before .before .args .cursor .now) (c .before .before .before .before .before .before .args .levels) (c .before .before .before .before .before .before .args .parent) (c .before .before .before .before .before .before .args .enclosure) (c .before .before .before .before .before .before .args .name) (c .before .before .before .before .before .before .pre .1)), entered-in (c .before .before .before .before .before .before .args .classes .now) (c .before .before .before .before .before .before .args .text .now) (c .before .before .before .before .before .before .args .cursor .now) (c .before .before .before .before .before .before .args .levels) (c .before .before .before .before .before .before .args .parent) (c .before .before .before .before .before .before .args .enclosure) (c .before .before .before .before .before .before .args .name) (c .before .before .before .before .before .before .pre .1) (c .before .before .before .if1 .left))
+read-enclosed-read-list-requires t c κs = let p = c .before .before .before .before .before .before .before .before .before .pre .1 .opened in (omega (arith, c .before .before .before .before .before .before .before .before .before .pre .0, c .before .before .before .if1 .left, list-from (c .before .before .before .before .before .before .before .before .before .args .classes .now) (c .before .before .before .before .before .before .before .before .before .args .text .now) (c .before .before .before .before .before .before .before .before .before .args .cursor .now) (c .before .before .before .before .before .before .before .before .before .args .levels) (c .before .before .before .before .before .before .before .before .before .args .parent) (enclosureOf (aheadOf (getD (c .before .before .before .before .before .before .before .before .before .args .cursor .now) 0 0))) (c .before .before .before .before .before .before .before .before .before .args .name) (c .before .before .before .before .before .before .before .before .before .pre .1)), entered-in (c .before .before .before .before .before .before .before .before .before .args .classes .now) (c .before .before .before .before .before .before .before .before .before .args .text .now) (c .before .before .before .before .before .before .before .before .before .args .cursor .now) (c .before .before .before .before .before .before .before .before .before .args .levels) (c .before .before .before .before .before .before .before .before .before .args .parent) (enclosureOf (aheadOf (getD (c .before .before .before .before .before .before .before .before .before .args .cursor .now) 0 0))) (c .before .before .before .before .before .before .before .before .before .args .name) (c .before .before .before .before .before .before .before .before .before .pre .1) (c .before .before .before .if1 .left))
 
 read-enclosed-same-length : (t : ℕ) → read-enclosed-lts.Need-same-length (read-enclosed-calls t) (read-enclosed-at t) read-enclosed.Post
 read-enclosed-same-length t c = search needs
 
 read-enclosed-returns-2 : (t : ℕ) → read-enclosed-lts.Need-returns-2 (read-enclosed-calls t) (read-enclosed-at t) read-enclosed.Post
-read-enclosed-returns-2 t c = enclosed-inside (c .before .before .before .before .before .before .before .before .before .before .args .classes .now) (c .before .before .before .before .before .before .before .before .before .before .args .text .now) (c .before .before .before .before .before .before .before .before .before .before .args .cursor .now) (c .before .before .before .before .before .before .before .before .before .before .args .levels) (c .before .before .before .before .before .before .before .before .before .before .args .parent) (c .before .before .before .before .before .before .before .before .before .before .args .enclosure) (c .before .before .before .before .before .before .before .before .before .before .args .name) (c .before .before .before .before .before .before .before .before .before .before .pre .1) (c .before .before .before .before .before .before .before .if1 .left) (c .before .before .before .before .before .before .before .before .before .before .args .table .now) (c .before .before .before .read-list .last .1 .1 .0) (c .before .before .before .read-list .last .1 .1 .1 .0) (rw (same-not (c .before .before .before .read-list .result) false (c .if2 .taken)) at (c .before .before .before .read-list .ensures))
+read-enclosed-returns-2 t c = enclosed-inside (c .before .before .before .before .before .before .before .before .before .before .before .before .before .args .classes .now) (c .before .before .before .before .before .before .before .before .before .before .before .before .before .args .text .now) (c .before .before .before .before .before .before .before .before .before .before .before .before .before .args .cursor .now) (c .before .before .before .before .before .before .before .before .before .before .before .before .before .args .levels) (c .before .before .before .before .before .before .before .before .before .before .before .before .before .args .parent) (enclosureOf (aheadOf (getD (c .before .before .before .before .before .before .before .before .before .before .before .before .before .args .cursor .now) 0 0))) (c .before .before .before .before .before .before .before .before .before .before .before .before .before .args .name) (c .before .before .before .before .before .before .before .before .before .before .before .before .before .pre .1) (c .before .before .before .before .before .before .before .if1 .left) (c .before .before .before .before .before .before .before .before .before .before .before .before .before .args .table .now) (c .before .before .before .read-list .last .1 .1 .0) (c .before .before .before .read-list .last .1 .1 .1 .0) (rw (same-not (c .before .before .before .read-list .result) false (c .if2 .taken)) at (c .before .before .before .read-list .ensures))
 
 read-enclosed-close-list-requires : (t : ℕ) → read-enclosed-lts.Need-close-list-requires (read-enclosed-calls t) (read-enclosed-at t) read-enclosed.Post
-read-enclosed-close-list-requires t c κs = let p = c .before .before .before .before .before .before .before .before .before .before .before .before .pre .1 .opened in (p .ready .levels-low, omega (arith, p .ready .number-low, p .ready .short, p .behind, p .stands .starts, p .stands .within), (rw (same-not (c .before .before .before .before .before .read-list .result) true (c .before .before .if2 .left)) at (c .before .before .before .before .before .read-list .ensures)) .1 .sized)
+read-enclosed-close-list-requires t c κs = let p = c .before .before .before .before .before .before .before .before .before .before .before .before .before .before .before .pre .1 .opened in (p .ready .levels-low, omega (arith, p .ready .number-low, p .ready .short, p .behind, p .stands .starts, p .stands .within), (rw (same-not (c .before .before .before .before .before .read-list .result) true (c .before .before .if2 .left)) at (c .before .before .before .before .before .read-list .ensures)) .1 .sized)
 
 read-enclosed-same-length-2 : (t : ℕ) → read-enclosed-lts.Need-same-length-2 (read-enclosed-calls t) (read-enclosed-at t) read-enclosed.Post
 read-enclosed-same-length-2 t c = search needs
 
 read-enclosed-returns-3 : (t : ℕ) → read-enclosed-lts.Need-returns-3 (read-enclosed-calls t) (read-enclosed-at t) read-enclosed.Post
-read-enclosed-returns-3 t c = enclosed-done (c .before .before .before .before .before .before .before .before .before .before .before .before .before .before .before .args .classes .now) (c .before .before .before .before .before .before .before .before .before .before .before .before .before .before .before .args .text .now) (c .before .before .before .before .before .before .before .before .before .before .before .before .before .before .before .args .cursor .now) (c .before .before .before .before .before .before .before .before .before .before .before .before .before .before .before .args .levels) (c .before .before .before .before .before .before .before .before .before .before .before .before .before .before .before .args .parent) (c .before .before .before .before .before .before .before .before .before .before .before .before .before .before .before .args .enclosure) (c .before .before .before .before .before .before .before .before .before .before .before .before .before .before .before .args .name) (c .before .before .before .before .before .before .before .before .before .before .before .before .before .before .before .pre .1) (c .before .before .before .before .before .before .before .before .before .before .before .before .if1 .left) (c .before .before .before .before .before .before .before .before .before .before .before .before .before .before .before .args .table .now) (c .before .before .before .before .before .before .before .before .read-list .last .1 .1 .0) (c .before .before .close-list .last .1 .1 .0) (c .before .before .before .before .before .before .before .before .read-list .last .1 .1 .1 .0) (c .before .before .close-list .result) (c .before .before .close-list .last .1 .1 .1 .0) (rw (same-not (c .before .before .before .before .before .before .before .before .read-list .result) true (c .before .before .before .before .before .if2 .left)) at (c .before .before .before .before .before .before .before .before .read-list .ensures)) (c .before .before .close-list .ensures)
+read-enclosed-returns-3 t c = enclosed-done (c .before .before .before .before .before .before .before .before .before .before .before .before .before .before .before .before .before .before .args .classes .now) (c .before .before .before .before .before .before .before .before .before .before .before .before .before .before .before .before .before .before .args .text .now) (c .before .before .before .before .before .before .before .before .before .before .before .before .before .before .before .before .before .before .args .cursor .now) (c .before .before .before .before .before .before .before .before .before .before .before .before .before .before .before .before .before .before .args .levels) (c .before .before .before .before .before .before .before .before .before .before .before .before .before .before .before .before .before .before .args .parent) (enclosureOf (aheadOf (getD (c .before .before .before .before .before .before .before .before .before .before .before .before .before .before .before .before .before .before .args .cursor .now) 0 0))) (c .before .before .before .before .before .before .before .before .before .before .before .before .before .before .before .before .before .before .args .name) (c .before .before .before .before .before .before .before .before .before .before .before .before .before .before .before .before .before .before .pre .1) (c .before .before .before .before .before .before .before .before .before .before .before .before .if1 .left) (c .before .before .before .before .before .before .before .before .before .before .before .before .before .before .before .before .before .before .args .table .now) (c .before .before .before .before .before .before .before .before .read-list .last .1 .1 .0) (c .before .before .close-list .last .1 .1 .0) (c .before .before .before .before .before .before .before .before .read-list .last .1 .1 .1 .0) (c .before .before .close-list .result) (c .before .before .close-list .last .1 .1 .1 .0) (rw (same-not (c .before .before .before .before .before .before .before .before .read-list .result) true (c .before .before .before .before .before .if2 .left)) at (c .before .before .before .before .before .before .before .before .read-list .ensures)) (rw (c .before .before .before .before .before .before .before .before .before .before .before .before .before .enclosure-of .ensures ∙ ap enclosureOf (c .before .before .before .before .before .before .before .before .before .before .before .before .before .before .ahead-of .ensures)) at (c .before .before .close-list .ensures))
 
 abbrev read-list-Inv-loop : read-list-lts.InvT-loop
 read-list-Inv-loop classes text table₀ cursor₀ levels parent table cursor =
@@ -368,74 +363,68 @@ read-list-loop-again-2 t c = (omega (arith, c .before .before .before .before .b
 read-named-element-copy-out-start : (t : ℕ) → read-named-lts.Need-element-copy-out-start (read-named-calls t) (read-named-at t) read-named.Post
 read-named-element-copy-out-start t c = search needs
 
-read-named-read-words-requires : (t : ℕ) → read-named-lts.Need-read-words-requires (read-named-calls t) (read-named-at t) read-named.Post
-read-named-read-words-requires t c κs = (c .before .before .before .before .pre .1 .sized, c .before .before .before .before .pre .1 .first .stands .within)
-
-read-named-element-copy-out-end : (t : ℕ) → read-named-lts.Need-element-copy-out-end (read-named-calls t) (read-named-at t) read-named.Post
-read-named-element-copy-out-end t c = search needs
-
 read-named-element-copy-out-ahead-of : (t : ℕ) → read-named-lts.Need-element-copy-out-ahead-of (read-named-calls t) (read-named-at t) read-named.Post
 read-named-element-copy-out-ahead-of t c = search needs
 
 read-named-ahead-of-requires : (t : ℕ) → read-named-lts.Need-ahead-of-requires (read-named-calls t) (read-named-at t) read-named.Post
 read-named-ahead-of-requires t c κs = search needs
 
+read-named-is-quoted-requires : (t : ℕ) → read-named-lts.Need-is-quoted-requires (read-named-calls t) (read-named-at t) read-named.Post
+read-named-is-quoted-requires t c κs = search needs
+
+read-named-read-words-requires : (t : ℕ) → read-named-lts.Need-read-words-requires (read-named-calls t) (read-named-at t) read-named.Post
+read-named-read-words-requires t c κs = (c .before .before .before .before .before .before .before .pre .1 .sized, c .before .before .before .before .before .before .before .pre .1 .first .stands .within)
+
+read-named-element-copy-out-end : (t : ℕ) → read-named-lts.Need-element-copy-out-end (read-named-calls t) (read-named-at t) read-named.Post
+read-named-element-copy-out-end t c = search needs
+
+read-named-element-copy-out-ahead-of-2 : (t : ℕ) → read-named-lts.Need-element-copy-out-ahead-of-2 (read-named-calls t) (read-named-at t) read-named.Post
+read-named-element-copy-out-ahead-of-2 t c = search needs
+
+read-named-ahead-of-requires-2 : (t : ℕ) → read-named-lts.Need-ahead-of-requires-2 (read-named-calls t) (read-named-at t) read-named.Post
+read-named-ahead-of-requires-2 t c κs = search needs
+
 read-named-enum-known-mark : (t : ℕ) → read-named-lts.Need-enum-known-mark (read-named-calls t) (read-named-at t) read-named.Post
 read-named-enum-known-mark t c = search needs
 
 read-named-read-lone-requires : (t : ℕ) → read-named-lts.Need-read-lone-requires (read-named-calls t) (read-named-at t) read-named.Post
-read-named-read-lone-requires t c κs = lone-ahead (c .before .before .before .before .before .before .before .before .before .before .before .args .classes .now) (c .before .before .before .before .before .before .before .before .before .before .before .args .text .now) (c .before .before .before .before .before .before .before .before .before .before .before .args .cursor .now) (c .before .before .before .before .before .before .read-words .last .1 .1 .0) (c .before .before .before .before .before .before .before .before .before .before .before .pre .1) (c .before .before .before .before .before .before .read-words .ensures) (end-ahead (c .before .before .before .before .before .before .before .before .before .before .before .args .classes .now) (c .before .before .before .before .before .before .before .before .before .before .before .args .text .now) (c .before .before .before .before .before .before .read-words .last .1 .1 .0) (c .before .before .before .ahead-of .ensures) (c .before .before .match .keys2) .0)
+read-named-read-lone-requires t c κs = lone-ahead (c .before .before .before .before .before .before .before .before .before .before .before .before .before .before .args .classes .now) (c .before .before .before .before .before .before .before .before .before .before .before .before .before .before .args .text .now) (c .before .before .before .before .before .before .before .before .before .before .before .before .before .before .args .cursor .now) (c .before .before .before .before .before .before .read-words .last .1 .1 .0) (c .before .before .before .before .before .before .before .before .before .before .before .before .before .before .pre .1) (c .before .before .before .before .before .before .before .before .is-quoted .ensures ∙ ap quotedAhead (c .before .before .before .before .before .before .before .before .before .ahead-of .ensures ∙ c .before .before .before .before .before .before .before .before .before .before .before .before .before .before .pre .1 .ahead-is)) (c .before .before .before .before .before .before .read-words .ensures) (end-ahead (c .before .before .before .before .before .before .before .before .before .before .before .before .before .before .args .classes .now) (c .before .before .before .before .before .before .before .before .before .before .before .before .before .before .args .text .now) (c .before .before .before .before .before .before .read-words .last .1 .1 .0) (c .before .before .before .ahead-of2 .ensures) (c .before .before .match .keys2) .0)
 
 read-named-same-length : (t : ℕ) → read-named-lts.Need-same-length (read-named-calls t) (read-named-at t) read-named.Post
 read-named-same-length t c = search needs
 
 read-named-returns : (t : ℕ) → read-named-lts.Need-returns (read-named-calls t) (read-named-at t) read-named.Post
-read-named-returns t c = from-lone (c .before .before .before .before .before .before .before .before .before .before .before .before .before .before .args .classes .now) (c .before .before .before .before .before .before .before .before .before .before .before .before .before .before .args .text .now) (c .before .before .before .before .before .before .before .before .before .before .before .before .before .before .args .cursor .now) (c .before .before .before .before .before .before .before .before .before .read-words .last .1 .1 .0) (c .before .before .before .before .before .before .before .before .before .before .before .before .before .before .pre .1) (c .before .before .before .before .before .before .before .before .before .read-words .ensures) (c .before .before .before .before .before .before .before .before .before .before .before .before .before .before .args .table .now) (c .before .before .read-lone .last .1 .1 .0) (c .before .before .read-lone .result) (c .before .before .read-lone .last .1 .1 .1 .0) (c .before .before .read-lone .ensures)
+read-named-returns t c = from-lone (c .before .before .before .before .before .before .before .before .before .before .before .before .before .before .before .before .before .args .classes .now) (c .before .before .before .before .before .before .before .before .before .before .before .before .before .before .before .before .before .args .text .now) (c .before .before .before .before .before .before .before .before .before .before .before .before .before .before .before .before .before .args .cursor .now) (c .before .before .before .before .before .before .before .before .before .read-words .last .1 .1 .0) (c .before .before .before .before .before .before .before .before .before .before .before .before .before .before .before .before .before .pre .1) (c .before .before .before .before .before .before .before .before .before .before .before .is-quoted .ensures ∙ ap quotedAhead (c .before .before .before .before .before .before .before .before .before .before .before .before .ahead-of .ensures ∙ c .before .before .before .before .before .before .before .before .before .before .before .before .before .before .before .before .before .pre .1 .ahead-is)) (c .before .before .before .before .before .before .before .before .before .read-words .ensures) (c .before .before .before .before .before .before .before .before .before .before .before .before .before .before .before .before .before .args .table .now) (c .before .before .read-lone .last .1 .1 .0) (c .before .before .read-lone .result) (c .before .before .read-lone .last .1 .1 .1 .0) (c .before .before .read-lone .ensures)
 
 read-named-enum-told : (t : ℕ) → read-named-lts.Need-enum-told (read-named-calls t) (read-named-at t) read-named.Post
 read-named-enum-told t c = search needs
 
 read-named-read-mailbox-requires : (t : ℕ) → read-named-lts.Need-read-mailbox-requires (read-named-calls t) (read-named-at t) read-named.Post
-read-named-read-mailbox-requires t c κs = mark-ahead (c .before .before .before .before .before .before .before .before .before .before .before .before .before .before .before .args .classes .now) (c .before .before .before .before .before .before .before .before .before .before .before .before .before .before .before .args .text .now) (c .before .before .before .before .before .before .before .before .before .before .before .before .before .before .before .args .cursor .now) (c .before .before .before .before .before .before .before .before .before .before .read-words .last .1 .1 .0) (c .before .before .before .before .before .before .before .before .before .before .before .before .before .before .before .pre .1) (c .before .before .before .before .before .before .before .before .before .before .read-words .ensures) (sym (c .before .before .before .before .before .before .before .ahead-of .ensures) ∙ c .before .before .before .before .before .mark .given .1)
-
-read-named-enum-told-2 : (t : ℕ) → read-named-lts.Need-enum-told-2 (read-named-calls t) (read-named-at t) read-named.Post
-read-named-enum-told-2 t c = search needs
+read-named-read-mailbox-requires t c κs = mark-ahead (c .before .before .before .before .before .before .before .before .before .before .before .before .before .before .before .before .before .before .args .classes .now) (c .before .before .before .before .before .before .before .before .before .before .before .before .before .before .before .before .before .before .args .text .now) (c .before .before .before .before .before .before .before .before .before .before .before .before .before .before .before .before .before .before .args .cursor .now) (c .before .before .before .before .before .before .before .before .before .before .read-words .last .1 .1 .0) (c .before .before .before .before .before .before .before .before .before .before .before .before .before .before .before .before .before .before .pre .1) (c .before .before .before .before .before .before .before .before .before .before .before .before .is-quoted .ensures ∙ ap quotedAhead (c .before .before .before .before .before .before .before .before .before .before .before .before .before .ahead-of .ensures ∙ c .before .before .before .before .before .before .before .before .before .before .before .before .before .before .before .before .before .before .pre .1 .ahead-is)) (c .before .before .before .before .before .before .before .before .before .before .read-words .ensures) (sym (c .before .before .before .before .before .before .before .ahead-of2 .ensures) ∙ c .before .before .before .before .before .mark .given .1)
 
 read-named-read-enclosed-requires : (t : ℕ) → read-named-lts.Need-read-enclosed-requires (read-named-calls t) (read-named-at t) read-named.Post
-read-named-read-enclosed-requires t c κs = let m = mark-ahead (c .before .before .before .before .before .before .before .before .before .before .before .before .before .before .before .args .classes .now) (c .before .before .before .before .before .before .before .before .before .before .before .before .before .before .before .args .text .now) (c .before .before .before .before .before .before .before .before .before .before .before .before .before .before .before .args .cursor .now) (c .before .before .before .before .before .before .before .before .before .before .read-words .last .1 .1 .0) (c .before .before .before .before .before .before .before .before .before .before .before .before .before .before .before .pre .1) (c .before .before .before .before .before .before .before .before .before .before .read-words .ensures) (sym (c .before .before .before .before .before .before .before .ahead-of .ensures) ∙ c .before .before .before .before .before .mark .given .1) in (omega (arith, c .before .before .before .before .before .before .before .before .before .before .before .before .before .before .before .pre .0, mark-later (c .before .before .before .before .before .before .before .before .before .before .before .before .before .before .before .args .classes .now) (c .before .before .before .before .before .before .before .before .before .before .before .before .before .before .before .args .text .now) (c .before .before .before .before .before .before .before .before .before .before .before .before .before .before .before .args .cursor .now) (c .before .before .before .before .before .before .before .before .before .before .read-words .last .1 .1 .0) (c .before .before .before .before .before .before .before .before .before .before .before .before .before .before .before .pre .1) (c .before .before .before .before .before .before .before .before .before .before .read-words .ensures) (sym (c .before .before .before .before .before .before .before .ahead-of .ensures) ∙ c .before .before .before .before .before .mark .given .1), m .opened .stands .within), m)
-
-read-named-enum-told-3 : (t : ℕ) → read-named-lts.Need-enum-told-3 (read-named-calls t) (read-named-at t) read-named.Post
-read-named-enum-told-3 t c = search needs
-
-read-named-read-enclosed-requires-2 : (t : ℕ) → read-named-lts.Need-read-enclosed-requires-2 (read-named-calls t) (read-named-at t) read-named.Post
-read-named-read-enclosed-requires-2 t c κs = let m = mark-ahead (c .before .before .before .before .before .before .before .before .before .before .before .before .before .before .before .args .classes .now) (c .before .before .before .before .before .before .before .before .before .before .before .before .before .before .before .args .text .now) (c .before .before .before .before .before .before .before .before .before .before .before .before .before .before .before .args .cursor .now) (c .before .before .before .before .before .before .before .before .before .before .read-words .last .1 .1 .0) (c .before .before .before .before .before .before .before .before .before .before .before .before .before .before .before .pre .1) (c .before .before .before .before .before .before .before .before .before .before .read-words .ensures) (sym (c .before .before .before .before .before .before .before .ahead-of .ensures) ∙ c .before .before .before .before .before .mark .given .1) in (omega (arith, c .before .before .before .before .before .before .before .before .before .before .before .before .before .before .before .pre .0, mark-later (c .before .before .before .before .before .before .before .before .before .before .before .before .before .before .before .args .classes .now) (c .before .before .before .before .before .before .before .before .before .before .before .before .before .before .before .args .text .now) (c .before .before .before .before .before .before .before .before .before .before .before .before .before .before .before .args .cursor .now) (c .before .before .before .before .before .before .before .before .before .before .read-words .last .1 .1 .0) (c .before .before .before .before .before .before .before .before .before .before .before .before .before .before .before .pre .1) (c .before .before .before .before .before .before .before .before .before .before .read-words .ensures) (sym (c .before .before .before .before .before .before .before .ahead-of .ensures) ∙ c .before .before .before .before .before .mark .given .1), m .opened .stands .within), m)
+read-named-read-enclosed-requires t c κs = let m = mark-ahead (c .before .before .before .before .before .before .before .before .before .before .before .before .before .before .before .before .before .args .classes .now) (c .before .before .before .before .before .before .before .before .before .before .before .before .before .before .before .before .before .args .text .now) (c .before .before .before .before .before .before .before .before .before .before .before .before .before .before .before .before .before .args .cursor .now) (c .before .before .before .before .before .before .before .before .before .read-words .last .1 .1 .0) (c .before .before .before .before .before .before .before .before .before .before .before .before .before .before .before .before .before .pre .1) (c .before .before .before .before .before .before .before .before .before .before .before .is-quoted .ensures ∙ ap quotedAhead (c .before .before .before .before .before .before .before .before .before .before .before .before .ahead-of .ensures ∙ c .before .before .before .before .before .before .before .before .before .before .before .before .before .before .before .before .before .pre .1 .ahead-is)) (c .before .before .before .before .before .before .before .before .before .read-words .ensures) (sym (c .before .before .before .before .before .before .ahead-of2 .ensures) ∙ c .before .before .before .before .mark .given .1) in (omega (arith, c .before .before .before .before .before .before .before .before .before .before .before .before .before .before .before .before .before .pre .0, mark-later (c .before .before .before .before .before .before .before .before .before .before .before .before .before .before .before .before .before .args .classes .now) (c .before .before .before .before .before .before .before .before .before .before .before .before .before .before .before .before .before .args .text .now) (c .before .before .before .before .before .before .before .before .before .before .before .before .before .before .before .before .before .args .cursor .now) (c .before .before .before .before .before .before .before .before .before .read-words .last .1 .1 .0) (c .before .before .before .before .before .before .before .before .before .before .before .before .before .before .before .before .before .pre .1) (c .before .before .before .before .before .before .before .before .before .before .before .is-quoted .ensures ∙ ap quotedAhead (c .before .before .before .before .before .before .before .before .before .before .before .before .ahead-of .ensures ∙ c .before .before .before .before .before .before .before .before .before .before .before .before .before .before .before .before .before .pre .1 .ahead-is)) (c .before .before .before .before .before .before .before .before .before .read-words .ensures) (sym (c .before .before .before .before .before .before .ahead-of2 .ensures) ∙ c .before .before .before .before .mark .given .1), m .opened .stands .within), m)
 
 read-named-read-lone-requires-2 : (t : ℕ) → read-named-lts.Need-read-lone-requires-2 (read-named-calls t) (read-named-at t) read-named.Post
-read-named-read-lone-requires-2 t c κs = lone-ahead (c .before .before .before .before .before .before .before .before .before .before .before .before .before .before .args .classes .now) (c .before .before .before .before .before .before .before .before .before .before .before .before .before .before .args .text .now) (c .before .before .before .before .before .before .before .before .before .before .before .before .before .before .args .cursor .now) (c .before .before .before .before .before .before .before .before .before .read-words .last .1 .1 .0) (c .before .before .before .before .before .before .before .before .before .before .before .before .before .before .pre .1) (c .before .before .before .before .before .before .before .before .before .read-words .ensures) (no-mark-ahead (c .before .before .before .before .before .before .before .before .before .before .before .before .before .before .args .classes .now) (c .before .before .before .before .before .before .before .before .before .before .before .before .before .before .args .text .now) (c .before .before .before .before .before .before .before .before .before .before .before .before .before .before .args .cursor .now) (c .before .before .before .before .before .before .before .before .before .read-words .last .1 .1 .0) (c .before .before .before .before .before .before .before .before .before .before .before .before .before .before .pre .1) (c .before .before .before .before .before .before .before .before .before .read-words .ensures) (sym (c .before .before .before .before .before .before .ahead-of .ensures) ∙ c .before .before .before .before .mark .given .1) (c .before .before .match2 .keys4))
+read-named-read-lone-requires-2 t c κs = lone-ahead (c .before .before .before .before .before .before .before .before .before .before .before .before .before .before .before .before .before .args .classes .now) (c .before .before .before .before .before .before .before .before .before .before .before .before .before .before .before .before .before .args .text .now) (c .before .before .before .before .before .before .before .before .before .before .before .before .before .before .before .before .before .args .cursor .now) (c .before .before .before .before .before .before .before .before .before .read-words .last .1 .1 .0) (c .before .before .before .before .before .before .before .before .before .before .before .before .before .before .before .before .before .pre .1) (c .before .before .before .before .before .before .before .before .before .before .before .is-quoted .ensures ∙ ap quotedAhead (c .before .before .before .before .before .before .before .before .before .before .before .before .ahead-of .ensures ∙ c .before .before .before .before .before .before .before .before .before .before .before .before .before .before .before .before .before .pre .1 .ahead-is)) (c .before .before .before .before .before .before .before .before .before .read-words .ensures) (no-mark-ahead (c .before .before .before .before .before .before .before .before .before .before .before .before .before .before .before .before .before .args .classes .now) (c .before .before .before .before .before .before .before .before .before .before .before .before .before .before .before .before .before .args .text .now) (c .before .before .before .before .before .before .before .before .before .before .before .before .before .before .before .before .before .args .cursor .now) (c .before .before .before .before .before .before .before .before .before .read-words .last .1 .1 .0) (c .before .before .before .before .before .before .before .before .before .before .before .before .before .before .before .before .before .pre .1) (c .before .before .before .before .before .before .before .before .before .before .before .is-quoted .ensures ∙ ap quotedAhead (c .before .before .before .before .before .before .before .before .before .before .before .before .ahead-of .ensures ∙ c .before .before .before .before .before .before .before .before .before .before .before .before .before .before .before .before .before .pre .1 .ahead-is)) (c .before .before .before .before .before .before .before .before .before .read-words .ensures) (sym (c .before .before .before .before .before .before .ahead-of2 .ensures) ∙ c .before .before .before .before .mark .given .1) (c .before .before .match2 .keys3))
 
 read-named-same-length-2 : (t : ℕ) → read-named-lts.Need-same-length-2 (read-named-calls t) (read-named-at t) read-named.Post
 read-named-same-length-2 t c = search needs
 
 read-named-returns-2 : (t : ℕ) → read-named-lts.Need-returns-2 (read-named-calls t) (read-named-at t) read-named.Post
-read-named-returns-2 t c = from-mailbox (c .before .before .before .before .before .before .before .before .before .before .before .before .before .before .before .before .before .before .args .classes .now) (c .before .before .before .before .before .before .before .before .before .before .before .before .before .before .before .before .before .before .args .text .now) (c .before .before .before .before .before .before .before .before .before .before .before .before .before .before .before .before .before .before .args .cursor .now) (c .before .before .before .before .before .before .before .before .before .before .before .before .before .read-words .last .1 .1 .0) (c .before .before .before .before .before .before .before .before .before .before .before .before .before .before .before .before .before .before .pre .1) (c .before .before .before .before .before .before .before .before .before .before .before .before .before .read-words .ensures) (sym (c .before .before .before .before .before .before .before .before .before .before .ahead-of .ensures) ∙ c .before .before .before .before .before .before .before .before .mark .given .1 ∙ ap Symbol (c .before .before .before .before .before .enum-told .given .1)) (c .before .before .before .before .before .before .before .before .before .before .before .before .before .before .before .before .before .before .args .table .now) (c .before .before .read-mailbox .last .1 .1 .0) (c .before .before .read-mailbox .result) (c .before .before .read-mailbox .last .1 .1 .1 .0) (c .before .before .read-mailbox .ensures)
+read-named-returns-2 t c = from-mailbox (c .before .before .before .before .before .before .before .before .before .before .before .before .before .before .before .before .before .before .before .before .before .args .classes .now) (c .before .before .before .before .before .before .before .before .before .before .before .before .before .before .before .before .before .before .before .before .before .args .text .now) (c .before .before .before .before .before .before .before .before .before .before .before .before .before .before .before .before .before .before .before .before .before .args .cursor .now) (c .before .before .before .before .before .before .before .before .before .before .before .before .before .read-words .last .1 .1 .0) (c .before .before .before .before .before .before .before .before .before .before .before .before .before .before .before .before .before .before .before .before .before .pre .1) (c .before .before .before .before .before .before .before .before .before .before .before .before .before .before .before .is-quoted .ensures ∙ ap quotedAhead (c .before .before .before .before .before .before .before .before .before .before .before .before .before .before .before .before .ahead-of .ensures ∙ c .before .before .before .before .before .before .before .before .before .before .before .before .before .before .before .before .before .before .before .before .before .pre .1 .ahead-is)) (c .before .before .before .before .before .before .before .before .before .before .before .before .before .read-words .ensures) (sym (c .before .before .before .before .before .before .before .before .before .before .ahead-of2 .ensures) ∙ c .before .before .before .before .before .before .before .before .mark .given .1 ∙ ap Symbol (c .before .before .before .before .before .enum-told .given .1)) (c .before .before .before .before .before .before .before .before .before .before .before .before .before .before .before .before .before .before .before .before .before .args .table .now) (c .before .before .read-mailbox .last .1 .1 .0) (c .before .before .read-mailbox .result) (c .before .before .read-mailbox .last .1 .1 .1 .0) (c .before .before .read-mailbox .ensures)
 
 read-named-same-length-3 : (t : ℕ) → read-named-lts.Need-same-length-3 (read-named-calls t) (read-named-at t) read-named.Post
 read-named-same-length-3 t c = search needs
 
 read-named-returns-3 : (t : ℕ) → read-named-lts.Need-returns-3 (read-named-calls t) (read-named-at t) read-named.Post
-read-named-returns-3 t c = from-enclosed (c .before .before .before .before .before .before .before .before .before .before .before .before .before .before .before .before .before .before .args .classes .now) (c .before .before .before .before .before .before .before .before .before .before .before .before .before .before .before .before .before .before .args .text .now) (c .before .before .before .before .before .before .before .before .before .before .before .before .before .before .before .before .before .before .args .cursor .now) (c .before .before .before .before .before .before .before .before .before .before .before .before .before .read-words .last .1 .1 .0) (c .before .before .before .before .before .before .before .before .before .before .before .before .before .before .before .before .before .before .pre .1) (c .before .before .before .before .before .before .before .before .before .before .before .before .before .read-words .ensures) Angle (sym (c .before .before .before .before .before .before .before .before .before .before .ahead-of .ensures) ∙ c .before .before .before .before .before .before .before .before .mark .given .1 ∙ ap Symbol (c .before .before .before .before .before .enum-told2 .given .1)) (c .before .before .before .before .before .before .before .before .before .before .before .before .before .before .before .before .before .before .args .table .now) (c .before .before .read-enclosed .last .1 .1 .0) (c .before .before .read-enclosed .result) (c .before .before .read-enclosed .last .1 .1 .1 .0) (c .before .before .read-enclosed .ensures)
+read-named-returns-3 t c = from-enclosed (c .before .before .before .before .before .before .before .before .before .before .before .before .before .before .before .before .before .before .before .before .args .classes .now) (c .before .before .before .before .before .before .before .before .before .before .before .before .before .before .before .before .before .before .before .before .args .text .now) (c .before .before .before .before .before .before .before .before .before .before .before .before .before .before .before .before .before .before .before .before .args .cursor .now) (c .before .before .before .before .before .before .before .before .before .before .before .before .read-words .last .1 .1 .0) (c .before .before .before .before .before .before .before .before .before .before .before .before .before .before .before .before .before .before .before .before .pre .1) (c .before .before .before .before .before .before .before .before .before .before .before .before .before .before .is-quoted .ensures ∙ ap quotedAhead (c .before .before .before .before .before .before .before .before .before .before .before .before .before .before .before .ahead-of .ensures ∙ c .before .before .before .before .before .before .before .before .before .before .before .before .before .before .before .before .before .before .before .before .pre .1 .ahead-is)) (c .before .before .before .before .before .before .before .before .before .before .before .before .read-words .ensures) (enclosureOf (Symbol (c .before .before .before .before .before .before .before .mark .given .0 .0))) ((sym (c .before .before .before .before .before .before .before .before .before .ahead-of2 .ensures) ∙ c .before .before .before .before .before .before .before .mark .given .1) ∙ opens (c .before .before .before .before .before .before .before .before .before .before .before .before .before .before .before .before .before .before .before .before .args .classes .now) (c .before .before .before .before .before .before .before .before .before .before .before .before .before .before .before .before .before .before .before .before .args .text .now) (c .before .before .before .before .before .before .before .mark .given .0 .0) (c .before .before .before .before .before .match2 .keys2)) (c .before .before .before .before .before .before .before .before .before .before .before .before .before .before .before .before .before .before .before .before .args .table .now) (c .before .before .read-enclosed .last .1 .1 .0) (c .before .before .read-enclosed .result) (c .before .before .read-enclosed .last .1 .1 .1 .0) (enclosed-as (c .before .before .before .before .before .before .before .before .before .before .before .before .before .before .before .before .before .before .before .before .args .classes .now) (c .before .before .before .before .before .before .before .before .before .before .before .before .before .before .before .before .before .before .before .before .args .text .now) (c .before .before .before .before .before .before .before .before .before .before .before .before .read-words .last .1 .1 .0) (c .before .before .before .before .before .before .before .before .before .before .before .before .before .before .before .before .before .before .before .before .args .levels) (c .before .before .before .before .before .before .before .before .before .before .before .before .before .before .before .before .before .before .before .before .args .parent) (record { start = getD (c .before .before .before .before .before .before .before .before .before .before .before .before .before .before .before .before .before .before .before .before .args .cursor .now) 1 0; end = getD (c .before .before .before .before .before .before .before .before .before .before .before .before .read-words .last .1 .1 .0) 4 0 }) (c .before .before .before .before .before .before .before .before .before .before .before .before .before .before .before .before .before .before .before .before .args .table .now) (c .before .before .read-enclosed .last .1 .1 .0) (c .before .before .read-enclosed .result) (c .before .before .read-enclosed .last .1 .1 .1 .0) (sym (c .before .before .before .before .before .before .before .before .before .ahead-of2 .ensures) ∙ c .before .before .before .before .before .before .before .mark .given .1) (c .before .before .read-enclosed .ensures))
 
 read-named-same-length-4 : (t : ℕ) → read-named-lts.Need-same-length-4 (read-named-calls t) (read-named-at t) read-named.Post
 read-named-same-length-4 t c = search needs
 
 read-named-returns-4 : (t : ℕ) → read-named-lts.Need-returns-4 (read-named-calls t) (read-named-at t) read-named.Post
-read-named-returns-4 t c = from-enclosed (c .before .before .before .before .before .before .before .before .before .before .before .before .before .before .before .before .before .before .args .classes .now) (c .before .before .before .before .before .before .before .before .before .before .before .before .before .before .before .before .before .before .args .text .now) (c .before .before .before .before .before .before .before .before .before .before .before .before .before .before .before .before .before .before .args .cursor .now) (c .before .before .before .before .before .before .before .before .before .before .before .before .before .read-words .last .1 .1 .0) (c .before .before .before .before .before .before .before .before .before .before .before .before .before .before .before .before .before .before .pre .1) (c .before .before .before .before .before .before .before .before .before .before .before .before .before .read-words .ensures) Group (sym (c .before .before .before .before .before .before .before .before .before .before .ahead-of .ensures) ∙ c .before .before .before .before .before .before .before .before .mark .given .1 ∙ ap Symbol (c .before .before .before .before .before .enum-told3 .given .1)) (c .before .before .before .before .before .before .before .before .before .before .before .before .before .before .before .before .before .before .args .table .now) (c .before .before .read-enclosed2 .last .1 .1 .0) (c .before .before .read-enclosed2 .result) (c .before .before .read-enclosed2 .last .1 .1 .1 .0) (c .before .before .read-enclosed2 .ensures)
-
-read-named-same-length-5 : (t : ℕ) → read-named-lts.Need-same-length-5 (read-named-calls t) (read-named-at t) read-named.Post
-read-named-same-length-5 t c = search needs
-
-read-named-returns-5 : (t : ℕ) → read-named-lts.Need-returns-5 (read-named-calls t) (read-named-at t) read-named.Post
-read-named-returns-5 t c = from-lone (c .before .before .before .before .before .before .before .before .before .before .before .before .before .before .before .before .before .args .classes .now) (c .before .before .before .before .before .before .before .before .before .before .before .before .before .before .before .before .before .args .text .now) (c .before .before .before .before .before .before .before .before .before .before .before .before .before .before .before .before .before .args .cursor .now) (c .before .before .before .before .before .before .before .before .before .before .before .before .read-words .last .1 .1 .0) (c .before .before .before .before .before .before .before .before .before .before .before .before .before .before .before .before .before .pre .1) (c .before .before .before .before .before .before .before .before .before .before .before .before .read-words .ensures) (c .before .before .before .before .before .before .before .before .before .before .before .before .before .before .before .before .before .args .table .now) (c .before .before .read-lone2 .last .1 .1 .0) (c .before .before .read-lone2 .result) (c .before .before .read-lone2 .last .1 .1 .1 .0) (c .before .before .read-lone2 .ensures)
+read-named-returns-4 t c = from-lone (c .before .before .before .before .before .before .before .before .before .before .before .before .before .before .before .before .before .before .before .before .args .classes .now) (c .before .before .before .before .before .before .before .before .before .before .before .before .before .before .before .before .before .before .before .before .args .text .now) (c .before .before .before .before .before .before .before .before .before .before .before .before .before .before .before .before .before .before .before .before .args .cursor .now) (c .before .before .before .before .before .before .before .before .before .before .before .before .read-words .last .1 .1 .0) (c .before .before .before .before .before .before .before .before .before .before .before .before .before .before .before .before .before .before .before .before .pre .1) (c .before .before .before .before .before .before .before .before .before .before .before .before .before .before .is-quoted .ensures ∙ ap quotedAhead (c .before .before .before .before .before .before .before .before .before .before .before .before .before .before .before .ahead-of .ensures ∙ c .before .before .before .before .before .before .before .before .before .before .before .before .before .before .before .before .before .before .before .before .pre .1 .ahead-is)) (c .before .before .before .before .before .before .before .before .before .before .before .before .read-words .ensures) (c .before .before .before .before .before .before .before .before .before .before .before .before .before .before .before .before .before .before .before .before .args .table .now) (c .before .before .read-lone2 .last .1 .1 .0) (c .before .before .read-lone2 .result) (c .before .before .read-lone2 .last .1 .1 .1 .0) (c .before .before .read-lone2 .ensures)
 
 read-typed-cast-put : (t : ℕ) → read-typed-lts.Need-cast-put (read-typed-calls t) (read-typed-at t) read-typed.Post
 read-typed-cast-put t c = search needs
@@ -527,14 +516,11 @@ pub +read-address+read-colon+read-enclosed+read-list+read-named+read-typed-spec 
     (read-address-enum-known-class t)
     (read-address-refuse-requires t)
     (read-address-returns t)
-    (read-address-enum-told t)
     (read-address-read-named-requires t)
-    (read-address-enum-told-2 t)
-    (read-address-read-named-requires-2 t)
-    (read-address-enum-told-3 t)
+    (read-address-enum-told t)
     (read-address-element-copy-out-start t)
     (read-address-read-enclosed-requires t)
-    (read-address-enum-told-4 t)
+    (read-address-enum-told-2 t)
     (read-address-read-colon-requires t)
     (read-address-refuse-requires-2 t)
     (read-address-same-length t)
@@ -543,9 +529,7 @@ pub +read-address+read-colon+read-enclosed+read-list+read-named+read-typed-spec 
     (read-address-returns-3 t)
     (read-address-same-length-3 t)
     (read-address-returns-4 t)
-    (read-address-same-length-4 t)
-    (read-address-returns-5 t)
-    (read-address-returns-6 t))
+    (read-address-returns-5 t))
     (λ t. read-colon-lts.spec (read-colon-calls t)
     (read-colon-at t)
     read-colon.Post
@@ -565,6 +549,9 @@ pub +read-address+read-colon+read-enclosed+read-list+read-named+read-typed-spec 
     (λ t. read-enclosed-lts.spec (read-enclosed-calls t)
     (read-enclosed-at t)
     read-enclosed.Post
+    (read-enclosed-element-copy-out-ahead-of t)
+    (read-enclosed-ahead-of-requires t)
+    (read-enclosed-enclosure-of-requires t)
     (read-enclosed-element-copy-out-place t)
     (read-enclosed-cast-put t)
     (read-enclosed-put-requires t)
@@ -606,29 +593,27 @@ pub +read-address+read-colon+read-enclosed+read-list+read-named+read-typed-spec 
     (read-named-at t)
     read-named.Post
     (read-named-element-copy-out-start t)
-    (read-named-read-words-requires t)
-    (read-named-element-copy-out-end t)
     (read-named-element-copy-out-ahead-of t)
     (read-named-ahead-of-requires t)
+    (read-named-is-quoted-requires t)
+    (read-named-read-words-requires t)
+    (read-named-element-copy-out-end t)
+    (read-named-element-copy-out-ahead-of-2 t)
+    (read-named-ahead-of-requires-2 t)
     (read-named-enum-known-mark t)
     (read-named-read-lone-requires t)
     (read-named-same-length t)
     (read-named-returns t)
     (read-named-enum-told t)
     (read-named-read-mailbox-requires t)
-    (read-named-enum-told-2 t)
     (read-named-read-enclosed-requires t)
-    (read-named-enum-told-3 t)
-    (read-named-read-enclosed-requires-2 t)
     (read-named-read-lone-requires-2 t)
     (read-named-same-length-2 t)
     (read-named-returns-2 t)
     (read-named-same-length-3 t)
     (read-named-returns-3 t)
     (read-named-same-length-4 t)
-    (read-named-returns-4 t)
-    (read-named-same-length-5 t)
-    (read-named-returns-5 t))
+    (read-named-returns-4 t))
     λ t. read-typed-lts.spec (read-typed-calls t)
     (read-typed-at t)
     read-typed.Post

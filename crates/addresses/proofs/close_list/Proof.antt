@@ -1,12 +1,8 @@
 -- `addresses::close_list` meets its contract. Assumes nothing.
 use borrow.Author.Needs.{needs}
-use mathlib.Core.Path.{_≡_, refl, sym, ap, _∙_}
-use mathlib.Core.Bool.{true, false, true≢false}
-use mathlib.Core.List.{[], _∷_}
-use native.Mathlib.Omega.{arith}
-use lib.ListN.{length, getD}
+use mathlib.Core.Bool.{true, false}
 use Rattle.addresses.specs.Ties.Steps.{endsAhead, closesAhead}
-use Rattle.addresses.proofs.CursorSteps.{told, told-not, stepped}
+use Rattle.addresses.proofs.CursorSteps.{told-not, stepped}
 use Rattle.addresses.proofs.CursorReads.{close-refused, behind-refused, close-done}
 use Rattle.addresses.proofs.close_list.Statement.{statement}
 use Rattle.addresses.proofs.close_list.Tie as tie

@@ -1,13 +1,11 @@
 -- `addresses::closes` meets its contract. Assumes nothing.
 use borrow.Author.Needs.{needs}
 use mathlib.Core.Path.{refl, sym, ap, _∙_}
-use mathlib.Core.Bool.{true, false}
+use mathlib.Core.Bool.{false}
 use mathlib.Core.List.{[], _∷_}
 use Rattle.grammar.specs.Believed.Rfc733.{sameClass}
 use Rattle.grammar.specs.Executable.Trees733.{GreaterThan, Semicolon}
-use Rattle.scanner.specs.declared.cursor.Ahead.{Ahead}
 use Rattle.addresses.specs.declared.Enclosure.{Enclosure}
-use Rattle.addresses.specs.declared.Enclosure.the-variants.{Angle, Group}
 use Rattle.addresses.specs.Ties.Steps.{closing, closesAhead}
 use Rattle.addresses.proofs.ClassCases.{by-class-not, no-symbol-ahead}
 use Rattle.addresses.proofs.closes.Statement.{statement}

@@ -1,7 +1,7 @@
 -- `addresses::ends_address` meets its contract. Assumes nothing.
 use borrow.Author.Needs.{needs}
 use mathlib.Core.Path.{refl, sym, ap, _∙_}
-use mathlib.Core.Bool.{true, false}
+use mathlib.Core.Bool.{true}
 use mathlib.Core.List.{[], _∷_}
 use Rattle.grammar.proofs.Rfc733.Readers.{endsAddress}
 use Rattle.addresses.specs.Ties.Steps.{endsAhead}

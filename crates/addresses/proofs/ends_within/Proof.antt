@@ -1,9 +1,7 @@
 -- `addresses::ends_within` meets its contract. Assumes nothing.
 use borrow.Author.Needs.{needs}
-use mathlib.Core.Path.{_≡_, refl, sym, ap, _∙_}
-use mathlib.Core.Bool.{true, false, true≢false}
-use native.Mathlib.Omega.{arith}
-use lib.ListN.{length, getD}
+use mathlib.Core.Path.{sym, _∙_}
+use mathlib.Core.Bool.{true, false}
 use Rattle.addresses.proofs.CursorSteps.{same-not}
 use Rattle.addresses.proofs.FirstLaws.{within-end, within-behind, within-stops}
 use Rattle.addresses.proofs.ends_within.Statement.{statement}

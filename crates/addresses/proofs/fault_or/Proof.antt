@@ -1,9 +1,6 @@
 -- `addresses::fault_or` meets its contract. Assumes nothing.
 use borrow.Author.Needs.{needs}
-use mathlib.Core.Path.{_≡_, refl, sym, ap, _∙_}
-use mathlib.Core.Bool.{true, false, true≢false}
-use native.Mathlib.Omega.{arith}
-use lib.ListN.{length, getD}
+use mathlib.Core.Path.{sym, _∙_}
 use Rattle.scanner.specs.Believed.Scanning.{scanBy}
 use Rattle.octets.specs.declared.answers.Answer.the-variants.{Refused}
 use Rattle.scanner.proofs.BodyChecks.{unless-refused, unless-none, fault-or-none}

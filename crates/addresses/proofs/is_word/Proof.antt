@@ -1,7 +1,7 @@
 -- `addresses::is_word` meets its contract. Assumes nothing.
 use borrow.Author.Needs.{needs}
 use mathlib.Core.Path.{refl, sym, ap, _∙_}
-use mathlib.Core.Bool.{true, false}
+use mathlib.Core.Bool.{false}
 use mathlib.Core.List.{[], _∷_}
 use Rattle.addresses.specs.Ties.Steps.{isWord, wordAhead}
 use Rattle.addresses.proofs.ClassCases.{by-class, by-class-not, no-symbol-ahead}

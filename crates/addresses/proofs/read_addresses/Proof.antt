@@ -1,8 +1,7 @@
 -- `addresses::read_addresses` meets its contract. Assumes nothing.
 use borrow.Author.Needs.{needs}
-use mathlib.Core.Path.{_≡_, refl, sym, ap, _∙_}
+use mathlib.Core.Path.{sym, _∙_}
 use native.Mathlib.Omega.{arith}
-use lib.ListN.{length}
 use lib.Seq.{length-take-le}
 use Rattle.octets.specs.Believed.Classes.{classTable, classOf}
 use Rattle.scanner.proofs.BodyChecks.{passed}

@@ -1,13 +1,10 @@
 -- `addresses::read_lone` meets its contract. Assumes nothing.
 use borrow.Author.Needs.{needs}
-use mathlib.Core.Path.{_≡_, refl, sym, ap, _∙_}
-use mathlib.Core.Bool.{true, false, true≢false}
-use mathlib.Core.List.{[], _∷_}
+use mathlib.Core.Bool.{true, false}
 use native.Mathlib.Omega.{arith}
-use lib.ListN.{length, getD}
 use mathlib.Core.Logic.{inl, inr}
 use Rattle.addresses.specs.Ties.Steps.{endsAhead}
-use Rattle.addresses.proofs.CursorSteps.{told, told-not, same-not}
+use Rattle.addresses.proofs.CursorSteps.{told-not, same-not}
 use Rattle.addresses.proofs.CursorReads.{lone-done, lone-refused}
 use Rattle.addresses.proofs.read_lone.Statement.{statement}
 use Rattle.addresses.proofs.read_lone.Tie as tie

@@ -1,10 +1,7 @@
 -- `addresses::read_mailbox` meets its contract. Assumes nothing.
 use borrow.Author.Needs.{needs}
-use mathlib.Core.Path.{_≡_, refl, sym, ap, _∙_}
-use mathlib.Core.Bool.{true, false, true≢false}
-use mathlib.Core.List.{[], _∷_}
+use mathlib.Core.Bool.{true, false}
 use native.Mathlib.Omega.{arith}
-use lib.ListN.{length, getD}
 use Rattle.addresses.proofs.CursorSteps.{same-not}
 use Rattle.addresses.proofs.CursorReads.{mailbox-done, mailbox-refused}
 use Rattle.addresses.proofs.read_mailbox.Statement.{statement}

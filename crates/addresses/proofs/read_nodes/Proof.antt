@@ -2,20 +2,16 @@
 use borrow.Author.Needs.{needs}
 use mathlib.Core.Path.{_≡_, refl, sym, ap, _∙_}
 use mathlib.Core.Bool.{true, false, true≢false}
-use mathlib.Core.List.{[], _∷_}
 use native.Mathlib.Omega.{arith}
 use Prim.Native.Nat.{_-_}
 use lib.ListN.{length, getD}
-use Rattle.octets.specs.Believed.Choice.{either}
 use Rattle.scanner.specs.Ties.Cursors.{cursorSize, nextIn}
-use Rattle.grammar.proofs.Rfc733.Readers.{endsAddress}
-use Rattle.scanner.specs.declared.cursor.Ahead.{Ahead}
 use Rattle.scanner.specs.declared.cursor.Ahead.the-variants.{Symbol}
 use Rattle.addresses.specs.Ties.Steps.{wordAhead, endsAhead, freeIn}
-use Rattle.addresses.proofs.ClassCases.{by-class-not, no-symbol-ahead, not-follows}
+use Rattle.addresses.proofs.ClassCases.{no-symbol-ahead, not-follows}
 use Rattle.addresses.proofs.CursorSteps.{told, told-not, stepped, met, met-word}
 use Rattle.addresses.proofs.CursorReads.{word-next, nodes-done, nodes-refused, nodes-behind, nodes-told}
-use Rattle.addresses.proofs.NodesLaws.{NodesSoFar, NodeRead, nodes-start, node-read, nodes-again}
+use Rattle.addresses.proofs.NodesLaws.{NodesSoFar, nodes-start, node-read, nodes-again}
 use Rattle.addresses.proofs.read_nodes.Statement.{statement}
 use Rattle.addresses.proofs.read_nodes.Tie as tie
 

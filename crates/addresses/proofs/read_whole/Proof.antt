@@ -1,9 +1,8 @@
 -- `addresses::read_whole` meets its contract. Assumes nothing.
 use borrow.Author.Needs.{needs}
-use mathlib.Core.Path.{_≡_, refl, sym, ap, _∙_}
-use mathlib.Core.Bool.{true, false, true≢false}
+use mathlib.Core.Path.{sym, _∙_}
+use mathlib.Core.Bool.{true, false}
 use native.Mathlib.Omega.{arith}
-use lib.ListN.{length, getD}
 use Rattle.addresses.proofs.CursorSteps.{same-not}
 use Rattle.addresses.proofs.WholeLaws.{whole-stops}
 use Rattle.addresses.proofs.FirstLaws.{small-number, first-end, first-behind}

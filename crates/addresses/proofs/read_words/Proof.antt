@@ -7,7 +7,7 @@ use Prim.Native.Nat.{_-_}
 use lib.ListN.{length, getD}
 use Rattle.scanner.specs.Ties.Cursors.{cursorSize}
 use Rattle.addresses.specs.Ties.Steps.{wordAhead, freeIn}
-use Rattle.addresses.proofs.CursorSteps.{told-not, Stepped, stepped, met, met-word}
+use Rattle.addresses.proofs.CursorSteps.{told-not, stepped, met, met-word}
 use Rattle.addresses.proofs.CursorReads.{phrase-done}
 use Rattle.addresses.proofs.PhraseLaws.{WordsSoFar, words-start, words-more}
 use Rattle.addresses.proofs.read_words.Statement.{statement}

@@ -1,8 +1,6 @@
 -- `addresses::refuse` meets its contract. Assumes nothing.
 use borrow.Author.Needs.{needs}
-use mathlib.Core.Path.{refl, sym, ap, _∙_}
-use mathlib.Core.Bool.{true, false}
-use mathlib.Core.List.{[], _∷_}
+use mathlib.Core.Path.{sym, _∙_}
 use Rattle.octets.specs.Believed.Numbers.{noListGoesOn, endsTooSoon}
 use lib.ListN.{length, getD}
 use Rattle.addresses.proofs.CursorSteps.{refusing, refused-symbol, refused-end}

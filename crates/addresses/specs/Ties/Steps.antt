@@ -6,6 +6,7 @@ use mathlib.Core.Option.{Option, none, some}
 use Prim.Native.Nat.{ℕ, _+_, _*_, _-_, _≤_, _<_}
 use lib.ListN.{length, getD}
 use lib.Seq.{sets}
+use Rattle.octets.specs.Believed.Choice.{pick}
 use Rattle.octets.specs.Believed.Numbers.{messageLimit, noListGoesOn, endsTooSoon, levelLimit}
 use Rattle.octets.specs.declared.answers.Answer.{Answer}
 use Rattle.octets.specs.declared.answers.Answer.the-variants.{Accepted, Refused as faultRefused}
@@ -84,6 +85,11 @@ wordAhead (Symbol class) = isWord class
 wordAhead End = false
 wordAhead Faulty = false
 
+abbrev pub quotedAhead : Ahead → Bool
+quotedAhead (Symbol class) = isQuoted class
+quotedAhead End = false
+quotedAhead Faulty = false
+
 abbrev pub endsAhead : Ahead → Bool
 endsAhead (Symbol class) = endsAddress class
 endsAhead End = true
@@ -109,6 +115,12 @@ opening Group = Colon
 abbrev pub closing : Enclosure → Class
 closing Angle = GreaterThan
 closing Group = Semicolon
+
+-- "<" opens an angle list, and any other mark a group
+abbrev pub enclosureOf : Ahead → Enclosure
+enclosureOf (Symbol class) = pick (sameClass LessThan class) Angle Group
+enclosureOf End = Group
+enclosureOf Faulty = Group
 
 abbrev pub closesAhead : Enclosure → Ahead → Bool
 closesAhead enclosure (Symbol class) = sameClass (closing enclosure) class
@@ -437,10 +449,9 @@ module _ (classes text : List ℕ) where
       ((xs : List Sym) → Opening enclosure xs (getD before 1 0) (getD before 2 0) span → AddressIs xs (frameAt levels parent before) (span .start) table after (reading r cursor))
       × Onward (faultFrom (getD before 2 0)) r cursor
 
-  pub record NamedFirst (cursor : List ℕ) (levels parent : ℕ) (quoted : Bool) : Type 0 where
+  pub record NamedFirst (cursor : List ℕ) (levels parent : ℕ) : Type 0 where
     pub class : Class
     pub ahead-is : aheadOf (getD cursor 0 0) ≡ Symbol class
-    pub quoted-is : quoted ≡ isQuoted class
     pub first : FirstWord class (getD cursor 1 0) (getD cursor 2 0)
     pub ready : Ready (frameAt levels parent cursor) (getD cursor 1 0)
     pub sized : length cursor ≡ cursorSize

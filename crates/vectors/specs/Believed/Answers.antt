@@ -136,7 +136,7 @@ markOf Literal = 91
 
 -- a symbol by its mark and its place, and then what follows; or "!" and the fault
 abbrev pub symbolThen : Next → (ℕ → List ℕ) → List ℕ → List ℕ
-symbolThen (Found class start end) more rest = line (markOf class) (start ∷ end ∷ []) (more end)
+symbolThen (Found symbol) more rest = line (markOf (symbol .class)) (symbol .start ∷ symbol .end ∷ []) (more (symbol .end))
 symbolThen Ended more rest = rest
 symbolThen (Fault number position) more rest = line 33 (number ∷ position ∷ []) rest
 
