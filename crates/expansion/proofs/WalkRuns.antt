@@ -11,7 +11,7 @@ use Rattle.octets.specs.Believed.Classes.{classTable}
 use Rattle.octets.specs.Believed.Numbers.{messageLimit, levelLimit, openingLimit, storeRecordSize, leadsNowhere}
 use Rattle.octets.proofs.Writes.{wrote-both}
 use Rattle.scanner.specs.Believed.Scanning.{scan, scanBy, symbolsOf}
-use Rattle.scanner.specs.Believed.Answers.{nextOf}
+use Rattle.scanner.specs.Believed.Answers.{foundAt, nextOf}
 use Rattle.scanner.specs.declared.Class.{Class}
 use Rattle.scanner.specs.declared.Next.{Next}
 use Rattle.scanner.specs.declared.Next.the-variants.{Found, Ended, Fault}
@@ -111,7 +111,7 @@ module _ (store : List ℕ) (i position depth : ℕ) (stage : Stage) (out : List
 
 -- no more is left than the text and one
 behind-low : (l : ℕ) (n : Next) → behind l n ≤ suc l
-behind-low l (Found class start end) = omega arith
+behind-low l (Found symbol) = omega arith
 behind-low l Ended = omega arith
 behind-low l (Fault number p) = omega arith
 
@@ -158,7 +158,7 @@ module _ (classes store text : List ℕ) (start : ℕ) (around : Around) (stage 
         }
 
     -- the symbol that comes
-    pub comes : {class : Class} {first end : ℕ} → coming ≡ Found class first end → SymbolAt classes text (l .at) class first end
+    pub comes : {class : Class} {first end : ℕ} → coming ≡ foundAt class first end → SymbolAt classes text (l .at) class first end
     comes e = found classes text (l .at) (sym e ∙ l .is)
 
     pub low : levels .many ≤ levelLimit
@@ -168,7 +168,7 @@ module _ (classes store text : List ℕ) (start : ℕ) (around : Around) (stage 
     pub room : stage .written ≤ textShare * stage .openings → here .written ≤ textShare * (here .openings + 1)
     room h = omega (arith, h, l .counted, l .from)
 
-    module _ {class : Class} {first end : ℕ} (e : coming ≡ Found class first end) where
+    module _ {class : Class} {first end : ℕ} (e : coming ≡ foundAt class first end) where
       abbrev x : SymbolAt classes text (l .at) class first end
       x = comes e
 

@@ -185,15 +185,26 @@ fn address_text(classes: &[u8; 256], text: &[u8], at: usize, own: &mut [u8]) -> 
     let mut place = Place::Start;
     let mut coming = scanner::next_by(classes, text, at);
     loop {
-        let Next::Found(class, first, end) = coming else {
+        let Next::Found(symbol) = coming else {
             return n;
         };
+        let class = symbol.class;
         match class {
             Class::GreaterThan | Class::Comma | Class::Semicolon => return n,
             _ => {
-                coming = scanner::next_by(classes, text, end);
+                coming = scanner::next_by(classes, text, symbol.end);
                 let colon = plain::is_colon(coming);
-                n = plain::write_symbol(classes, text, class, first, end, place, colon, own, n);
+                n = plain::write_symbol(
+                    classes,
+                    text,
+                    class,
+                    symbol.start,
+                    symbol.end,
+                    place,
+                    colon,
+                    own,
+                    n,
+                );
                 place = plain::places::after(class, place, colon);
             }
         }
@@ -228,13 +239,14 @@ fn held_at(classes: &[u8; 256], text: &[u8], at: usize) -> Held
 {
     let mut p = at;
     loop {
-        let Next::Found(class, first, end) = scanner::next_by(classes, text, p) else {
+        let Next::Found(symbol) = scanner::next_by(classes, text, p) else {
             return Held::Neither;
         };
+        let class = symbol.class;
         match class {
-            Class::Atom | Class::Quoted => p = end,
+            Class::Atom | Class::Quoted => p = symbol.end,
             Class::At => return Held::Single,
-            Class::LessThan => return Held::Angled(end),
+            Class::LessThan => return Held::Angled(symbol.end),
             _ => return Held::Neither,
         }
     }
@@ -249,25 +261,26 @@ fn only_mailboxes(classes: &[u8; 256], text: &[u8], at: usize) -> bool
     let mut words = false;
     let mut nodes = false;
     loop {
-        let Next::Found(class, first, end) = scanner::next_by(classes, text, p) else {
+        let Next::Found(symbol) = scanner::next_by(classes, text, p) else {
             return false;
         };
+        let class = symbol.class;
         match class {
             Class::Atom | Class::Quoted => {
                 words = !nodes;
-                p = end;
+                p = symbol.end;
             }
             Class::At => {
                 words = false;
                 nodes = true;
-                p = end;
+                p = symbol.end;
             }
             Class::Comma => {
                 if words {
                     return false;
                 }
                 nodes = false;
-                p = end;
+                p = symbol.end;
             }
             Class::GreaterThan => return !words,
             _ => return false,
@@ -294,20 +307,21 @@ fn first_stored(classes: &[u8; 256], text: &[u8], at: usize, store: &[u8]) -> Re
     let mut p = at;
     let mut starts = true;
     loop {
-        let Next::Found(class, first, end) = scanner::next_by(classes, text, p) else {
+        let Next::Found(symbol) = scanner::next_by(classes, text, p) else {
             return Record::Nowhere;
         };
+        let class = symbol.class;
         match class {
             Class::GreaterThan => return Record::Nowhere,
             Class::Comma => {
                 starts = true;
-                p = end;
+                p = symbol.end;
             }
             _ => match named_if(classes, text, p, store, starts) {
                 Record::Stored(i) => return Record::Stored(i),
                 Record::Nowhere => {
                     starts = false;
-                    p = end;
+                    p = symbol.end;
                 }
             },
         }
@@ -349,19 +363,23 @@ const INCLUDE: u8 = 5;
 fn include_word(classes: &[u8; 256], text: &[u8], at: usize) -> Include
     ensures { λ r. ⌜ IncludeWordIs (now (classes .entry)) (now (text .entry)) at r ⌝ }
 {
-    let Next::Found(word, first, end) = scanner::next_by(classes, text, at) else {
+    let Next::Found(word) = scanner::next_by(classes, text, at) else {
         return Include::Otherwise;
     };
-    match word {
+    let class = word.class;
+    let start = word.start;
+    let end = word.end;
+    match class {
         Class::Atom => {
-            if grammar::typed_kind(&text[first..end]) != INCLUDE {
+            if grammar::typed_kind(&text[start..end]) != INCLUDE {
                 return Include::Otherwise;
             }
-            let Next::Found(mark, place, behind) = scanner::next_by(classes, text, end) else {
+            let Next::Found(mark) = scanner::next_by(classes, text, end) else {
                 return Include::Otherwise;
             };
-            match mark {
-                Class::Colon => Include::Behind(behind),
+            let marked = mark.class;
+            match marked {
+                Class::Colon => Include::Behind(mark.end),
                 _ => Include::Otherwise,
             }
         }
@@ -390,28 +408,29 @@ fn include_end(classes: &[u8; 256], text: &[u8], at: usize) -> usize
     // In the angle list of the Include.
     let mut inner = false;
     loop {
-        let Next::Found(class, first, end) = scanner::next_by(classes, text, p) else {
+        let Next::Found(symbol) = scanner::next_by(classes, text, p) else {
             return p;
         };
+        let class = symbol.class;
         match class {
             Class::LessThan => {
                 inner = true;
-                p = end;
+                p = symbol.end;
             }
             Class::GreaterThan => {
                 if !inner {
                     return p;
                 }
                 inner = false;
-                p = end;
+                p = symbol.end;
             }
             Class::Comma | Class::Semicolon => {
                 if !inner {
                     return p;
                 }
-                p = end;
+                p = symbol.end;
             }
-            _ => p = end,
+            _ => p = symbol.end,
         }
     }
 }
@@ -598,19 +617,29 @@ fn walk(
     let mut levels = Levels { many: 0, typed: 0 };
     let mut coming = scanner::next_by(classes, text, start);
     loop {
-        let Next::Found(class, first, end) = coming else {
+        let Next::Found(symbol) = coming else {
             return Walked::Went(joined(here, here.openings));
         };
+        let class = symbol.class;
         let place = here.place;
-        match include_at(classes, text, class, place, end) {
+        match include_at(classes, text, class, place, symbol.end) {
             Include::Otherwise => {
-                coming = scanner::next_by(classes, text, end);
+                coming = scanner::next_by(classes, text, symbol.end);
                 let colon = plain::is_colon(coming);
                 levels = levels_after(class, place, colon, levels);
-                here = write_on(classes, text, class, first, end, colon, here, out);
+                here = write_on(
+                    classes,
+                    text,
+                    class,
+                    symbol.start,
+                    symbol.end,
+                    colon,
+                    here,
+                    out,
+                );
             }
             Include::Behind(behind) => {
-                let spot = spot_of(around, first, levels);
+                let spot = spot_of(around, symbol.start, levels);
                 let Record::Stored(i) = leads_to(classes, text, behind, levels, store) else {
                     return Walked::Stopped(LEADS_NOWHERE, spot.position, here.openings);
                 };
@@ -619,7 +648,7 @@ fn walk(
                     return walked;
                 };
                 here = further;
-                coming = scanner::next_by(classes, text, include_end(classes, text, end));
+                coming = scanner::next_by(classes, text, include_end(classes, text, symbol.end));
             }
         }
     }

@@ -12,7 +12,7 @@ use Rattle.expansion.proofs.include_word.Statement.{statement}
 use Rattle.expansion.proofs.include_word.Tie as tie
 
 -- the first symbol
-first : (c : tie.After-word) → (let a = c .before .before .before .before .args in let f = c .word .given .0 in SymbolAt (a .classes .now) (a .text .now) (a .at) (f .0) (f .1 .0) (f .1 .1 .0))
+first : (c : tie.After-word) → (let a = c .before .before .before .before .args in let f = c .word .given .0 .0 in SymbolAt (a .classes .now) (a .text .now) (a .at) (f .class) (f .start) (f .end))
 first c = found _ _ _ (sym (c .word .given .1) ∙ c .before .before .next-by .ensures)
 
 next-by-requires : tie.Need-next-by-requires
