@@ -31,6 +31,7 @@ use octets::numbers::TOO_MANY_OPENINGS;
 use plain::places::Place;
 use scanner::Class;
 use scanner::Next;
+use scanner::Symbol;
 
 // ---- the store
 
@@ -154,10 +155,11 @@ fn without_typed(levels: Levels) -> Levels
 }
 
 // The levels after a symbol.
-fn levels_after(class: Class, place: Place, colon: bool, levels: Levels) -> Levels
+fn levels_after(symbol: Symbol, place: Place, colon: bool, levels: Levels) -> Levels
     requires { ⌜ levels .many ≤ levelLimit ⌝ }
-    ensures { λ r. ⌜ LevelsAfter class place colon levels r ⌝ }
+    ensures { λ r. ⌜ LevelsAfter (symbol .class) place colon levels r ⌝ }
 {
+    let class = symbol.class;
     match class {
         Class::Atom => match plain::places::after_atom(place, colon) {
             Place::Typing => with_typed(levels),
@@ -194,17 +196,7 @@ fn address_text(classes: &[u8; 256], text: &[u8], at: usize, own: &mut [u8]) -> 
             _ => {
                 coming = scanner::next_by(classes, text, symbol.end);
                 let colon = plain::is_colon(coming);
-                n = plain::write_symbol(
-                    classes,
-                    text,
-                    class,
-                    symbol.start,
-                    symbol.end,
-                    place,
-                    colon,
-                    own,
-                    n,
-                );
+                n = plain::write_symbol(classes, text, symbol, place, colon, own, n);
                 place = plain::places::after(class, place, colon);
             }
         }
@@ -387,14 +379,15 @@ fn include_word(classes: &[u8; 256], text: &[u8], at: usize) -> Include
     }
 }
 
-// Whether an Include begins with a symbol that stands at a place and ends at a position.
-fn include_at(classes: &[u8; 256], text: &[u8], class: Class, place: Place, end: usize) -> Include
-    ensures { λ r. ⌜ IncludeIs (now (classes .entry)) (now (text .entry)) class place end r ⌝ }
+// Whether an Include begins with a symbol that stands at a place.
+fn include_at(classes: &[u8; 256], text: &[u8], symbol: Symbol, place: Place) -> Include
+    ensures { λ r. ⌜ IncludeIs (now (classes .entry)) (now (text .entry)) (symbol .class) place (symbol .end) r ⌝ }
 {
+    let class = symbol.class;
     match class {
         Class::Colon => match place {
             Place::Typing | Place::Word | Place::Node | Place::Closed => Include::Otherwise,
-            _ => include_word(classes, text, end),
+            _ => include_word(classes, text, symbol.end),
         },
         _ => Include::Otherwise,
     }
@@ -534,31 +527,20 @@ fn joined(stage: Stage, openings: usize) -> Stage
 fn write_on(
     classes: &[u8; 256],
     text: &[u8],
-    class: Class,
-    start: usize,
-    end: usize,
+    symbol: Symbol,
     colon: bool,
     stage: Stage,
     out: &mut [u8],
 ) -> Stage
-    requires { ⌜ (start < end) × (end ≤ length (now text)) × (length (now text) ≤ textLimit) × (stage .written ≤ writtenLimit) ⌝ }
-    ensures { λ r. ⌜ WriteOnIs (now (classes .entry)) (now (text .entry)) class start end colon stage (now (out .entry)) (now (out .exit)) r ⌝ }
+    requires { ⌜ (symbol .start < symbol .end) × (symbol .end ≤ length (now text)) × (length (now text) ≤ textLimit) × (stage .written ≤ writtenLimit) ⌝ }
+    ensures { λ r. ⌜ WriteOnIs (now (classes .entry)) (now (text .entry)) (symbol .class) (symbol .start) (symbol .end) colon stage (now (out .entry)) (now (out .exit)) r ⌝ }
 {
+    let class = symbol.class;
     let place = stage.place;
     Stage {
         place: plain::places::after(class, place, colon),
         openings: stage.openings,
-        written: plain::write_symbol(
-            classes,
-            text,
-            class,
-            start,
-            end,
-            place,
-            colon,
-            out,
-            stage.written,
-        ),
+        written: plain::write_symbol(classes, text, symbol, place, colon, out, stage.written),
     }
 }
 
@@ -620,23 +602,13 @@ fn walk(
         let Next::Found(symbol) = coming else {
             return Walked::Went(joined(here, here.openings));
         };
-        let class = symbol.class;
         let place = here.place;
-        match include_at(classes, text, class, place, symbol.end) {
+        match include_at(classes, text, symbol, place) {
             Include::Otherwise => {
                 coming = scanner::next_by(classes, text, symbol.end);
                 let colon = plain::is_colon(coming);
-                levels = levels_after(class, place, colon, levels);
-                here = write_on(
-                    classes,
-                    text,
-                    class,
-                    symbol.start,
-                    symbol.end,
-                    colon,
-                    here,
-                    out,
-                );
+                levels = levels_after(symbol, place, colon, levels);
+                here = write_on(classes, text, symbol, colon, here, out);
             }
             Include::Behind(behind) => {
                 let spot = spot_of(around, symbol.start, levels);

@@ -24,6 +24,7 @@ use places::Place;
 use scanner::Class;
 use scanner::Datum;
 use scanner::Next;
+use scanner::Symbol;
 
 pub mod places;
 
@@ -123,25 +124,24 @@ fn put_quoted(classes: &[u8; 256], text: &[u8], start: usize, out: &mut [u8], n:
 fn put_symbol(
     classes: &[u8; 256],
     text: &[u8],
-    class: Class,
-    start: usize,
-    end: usize,
+    symbol: Symbol,
     place: Place,
     colon: bool,
     out: &mut [u8],
     n: usize,
 ) -> usize
-    requires { ⌜ (start < end) × (end ≤ length (now text)) × (n + 2 * length (now text) + 3 ≤ countLimit) ⌝ }
-    ensures { λ r. ⌜ Wrote (symbolText class (meaningAt (now (classes .entry)) (now (text .entry)) class start end) place colon) (now (out .entry)) n (now (out .exit)) r × (r ≤ n + 2 * length (now (text .entry)) + 3) ⌝ }
+    requires { ⌜ (symbol .start < symbol .end) × (symbol .end ≤ length (now text)) × (n + 2 * length (now text) + 3 ≤ countLimit) ⌝ }
+    ensures { λ r. ⌜ Wrote (symbolText (symbol .class) (meaningAt (now (classes .entry)) (now (text .entry)) (symbol .class) (symbol .start) (symbol .end)) place colon) (now (out .entry)) n (now (out .exit)) r × (r ≤ n + 2 * length (now (text .entry)) + 3) ⌝ }
 {
+    let class = symbol.class;
     match class {
         Class::Atom => {
             let m = put_gap(out, n, places::gap_before(place, colon));
-            put_part(text, start, end, out, m)
+            put_part(text, symbol.start, symbol.end, out, m)
         }
         Class::Quoted => {
             let m = put_gap(out, n, places::gap_before(place, false));
-            put_quoted(classes, text, start, out, m)
+            put_quoted(classes, text, symbol.start, out, m)
         }
         Class::At => {
             let m = put(out, n, b' ');
@@ -183,18 +183,16 @@ fn can_write(text: &[u8], start: usize, end: usize, n: usize) -> bool
 pub fn write_symbol(
     classes: &[u8; 256],
     text: &[u8],
-    class: Class,
-    start: usize,
-    end: usize,
+    symbol: Symbol,
     place: Place,
     colon: bool,
     out: &mut [u8],
     n: usize,
 ) -> usize
-    ensures { λ r. ⌜ Wrote (symbolIf (canWrite (now (text .entry)) start end n) class (meaningAt (now (classes .entry)) (now (text .entry)) class start end) place colon) (now (out .entry)) n (now (out .exit)) r × (r ≤ n + 2 * length (now (text .entry)) + 3) ⌝ }
+    ensures { λ r. ⌜ Wrote (symbolIf (canWrite (now (text .entry)) (symbol .start) (symbol .end) n) (symbol .class) (meaningAt (now (classes .entry)) (now (text .entry)) (symbol .class) (symbol .start) (symbol .end)) place colon) (now (out .entry)) n (now (out .exit)) r × (r ≤ n + 2 * length (now (text .entry)) + 3) ⌝ }
 {
-    if can_write(text, start, end, n) {
-        return put_symbol(classes, text, class, start, end, place, colon, out, n);
+    if can_write(text, symbol.start, symbol.end, n) {
+        return put_symbol(classes, text, symbol, place, colon, out, n);
     }
     n
 }
@@ -228,17 +226,7 @@ fn write_by(classes: &[u8; 256], text: &[u8], start: usize, out: &mut [u8]) -> u
         let class = symbol.class;
         coming = scanner::next_by(classes, text, symbol.end);
         let colon = is_colon(coming);
-        n = put_symbol(
-            classes,
-            text,
-            class,
-            symbol.start,
-            symbol.end,
-            place,
-            colon,
-            out,
-            n,
-        );
+        n = put_symbol(classes, text, symbol, place, colon, out, n);
         place = places::after(class, place, colon);
     }
 }

@@ -144,7 +144,7 @@ walk-loop-less t c =
 walk-loop-again : (t : ℕ) → walk-lts.Need-loop-again (walk-claims t) (walk-at t) walk.Post walk-Inv-loop walk-μ-loop
 walk-loop-again t c =
     walking-symbol _ _ _ _ _ _ _ (c .before .before .before .before .before .before .before .before .before .before .before .before .before .loop .inv) (c .before .before .before .before .before .before .before .before .before .before .before .coming .given .1) (c .before .before .before .before .before .before .before .before .before .before .before .before .before .before .before .before .before .before .pre .1 .short) (rw (c .before .before .before .before .before .before .before .enum-told .given .1) at (c .before .before .before .before .before .before .before .before .before .include-at .ensures))
-    (c .before .before .before .before .before .before .next-by2 .ensures) (c .before .before .before .before .before .is-colon .ensures) (c .before .before .before .before .levels-after .ensures) (c .before .before .write-on .kept .1 .1 .1 .1 .1 .1 .1 .0) (c .before .before .write-on .ensures)
+    (c .before .before .before .before .before .before .next-by2 .ensures) (c .before .before .before .before .before .is-colon .ensures) (c .before .before .before .before .levels-after .ensures) (c .before .before .write-on .kept .1 .1 .1 .1 .1 .0) (c .before .before .write-on .ensures)
 
 walk-enum-known-behind : (t : ℕ) → walk-lts.Need-enum-known-behind (walk-claims t) (walk-at t) walk.Post walk-Inv-loop walk-μ-loop
 walk-enum-known-behind t c = search needs

@@ -63,7 +63,7 @@ loop-again c =
     let h = c .before .before .before .before .before .before .before .before .before .before .before .before .before .before .before .pre in
     let x = comes (l .inv) (f .1) in
     let w = rw (can-write (c .before .before .before .before .before .before .before .before .before .before .before .before .before .before .before .args .text .now) _ _ (l .n) (record { starts = x .starts; inside = x .within; short = h; low = omega (arith, l .inv .counted, x .from, x .starts, x .within, h) })) at (p .ensures) in
-    coming-next (l .inv) (f .1) (by-class-not (0 ∷ 1 ∷ 2 ∷ 3 ∷ 7 ∷ 8 ∷ 9 ∷ 10 ∷ []) endsAddress tt (f .0 .0 .class) (c .before .before .before .before .before .before .before .match2 .keys2)) h (c .before .before .before .before .before .before .next-by2 .ensures) (c .before .before .before .before .before .is-colon .ensures) (p .kept .1 .1 .1 .1 .1 .1 .1 .0) (w .0) (w .1) (c .after .ensures)
+    coming-next (l .inv) (f .1) (by-class-not (0 ∷ 1 ∷ 2 ∷ 3 ∷ 7 ∷ 8 ∷ 9 ∷ 10 ∷ []) endsAddress tt (f .0 .0 .class) (c .before .before .before .before .before .before .before .match2 .keys2)) h (c .before .before .before .before .before .before .next-by2 .ensures) (c .before .before .before .before .before .is-colon .ensures) (p .kept .1 .1 .1 .1 .1 .0) (w .0) (w .1) (c .after .ensures)
 
 pub address-text-spec : {M : Type 1} → statement M
 address-text-spec = tie.close (tie.spec Inv-loop μ-loop next-by-requires loop-holds enum-known-coming same-length returns same-length-2 returns-2 next-by-requires-2 is-colon-requires write-symbol-requires after-requires loop-less loop-again)

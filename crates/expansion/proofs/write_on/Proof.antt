@@ -19,7 +19,7 @@ returns c =
     let b = c .before .before .before .before .before .before .before in
     let a = b .args in
     let p = b .pre in
-    let w = rw (can-write (a .text .now) (a .start) (a .end) (a .stage .written) (record { starts = p .0; inside = p .1; short = p .2; low = p .3 })) at (c .before .before .write-symbol .ensures) in
+    let w = rw (can-write (a .text .now) (a .symbol .start) (a .symbol .end) (a .stage .written) (record { starts = p .0; inside = p .1; short = p .2; low = p .3 })) at (c .before .before .write-symbol .ensures) in
     record { place-is = c .before .before .before .before .after .ensures; openings-is = refl; wrote = w .0; counted = w .1 }
 
 pub write-on-spec : {M : Type 1} → statement M

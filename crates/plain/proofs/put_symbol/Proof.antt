@@ -147,7 +147,7 @@ returns-8 c =
     (rw (c .before .before .before .before .before .before .before .before .before .enum-told8 .given .1) (wrote-gap (c .before .before .before .before .before .before .before .gap-before-colon .ensures) (p .ensures .0) (q .ensures .0)), omega (arith, p .ensures .1, q .ensures .1))
 
 returns-9 : tie.Need-returns-9
-returns-9 c = (unwritten (c .before .before .before .args .class) (c .match .keys9) _ _ _ _ _ .0, omega arith)
+returns-9 c = (unwritten (c .before .before .before .args .symbol .class) (c .match .keys9) _ _ _ _ _ .0, omega arith)
 
 pub put-symbol-spec : {M : Type 1} → statement M
 put-symbol-spec =

@@ -51,7 +51,7 @@ loop-again : tie.Need-loop-again Inv-loop μ-loop
 loop-again c =
     let p = c .before .before .before .put-symbol in
     coming-next (c .before .before .before .before .before .before .before .before .before .before .loop .inv) (c .before .before .before .before .before .before .before .before .coming .given .1) (c .before .before .before .before .before .before .before .before .before .before .before .before .before .before .pre) (c .before .before .before .before .before .before .next-by2 .ensures) (c .before .before .before .before .before .is-colon .ensures)
-    (p .kept .1 .1 .1 .1 .1 .1 .1 .0) (p .ensures .0) (p .ensures .1) (c .after .ensures)
+    (p .kept .1 .1 .1 .1 .1 .0) (p .ensures .0) (p .ensures .1) (c .after .ensures)
 
 pub write-by-spec : {M : Type 1} → statement M
 write-by-spec =

@@ -12,7 +12,7 @@ can-write-requires c κs = search needs
 put-symbol-requires : tie.Need-put-symbol-requires
 put-symbol-requires c κs =
     let a = c .before .before .before .before .before .args in
-    let w = can-written (a .text .now) (a .start) (a .end) (a .n) (sym (c .before .before .can-write .ensures) ∙ c .before .if1 .taken) in
+    let w = can-written (a .text .now) (a .symbol .start) (a .symbol .end) (a .n) (sym (c .before .before .can-write .ensures) ∙ c .before .if1 .taken) in
     (w .starts, w .inside, omega (arith, w .short, w .low))
 
 same-length : tie.Need-same-length
