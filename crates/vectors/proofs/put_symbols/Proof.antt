@@ -22,8 +22,8 @@ loop-holds c = (refl, left-all _ _ _)
 next-symbol-requires : tie.Need-next-symbol-requires Inv-loop μ-loop
 next-symbol-requires c κs = search needs
 
-enum-known-class : tie.Need-enum-known-class Inv-loop μ-loop
-enum-known-class c = search needs
+enum-known-symbol : tie.Need-enum-known-symbol Inv-loop μ-loop
+enum-known-symbol c = search needs
 
 mark-requires : tie.Need-mark-requires Inv-loop μ-loop
 mark-requires c κs = search needs
@@ -49,8 +49,8 @@ returns c =
 enum-known-number : tie.Need-enum-known-number Inv-loop μ-loop
 enum-known-number c = search needs
 
-cast-t25 : tie.Need-cast-t25 Inv-loop μ-loop
-cast-t25 c = search needs
+cast-t24 : tie.Need-cast-t24 Inv-loop μ-loop
+cast-t24 c = search needs
 
 slice-aggregate-put-line-2 : tie.Need-slice-aggregate-put-line-2 Inv-loop μ-loop
 slice-aggregate-put-line-2 c = search needs
@@ -78,7 +78,7 @@ loop-again c =
     let put-line = c .before .before .put-line in
     let loop = c .before .before .before .before .before .before .before .before .before .before .before .loop in
     let args = c .before .before .before .before .before .before .before .before .before .before .before .before .before .before .args in
-    (put-line .kept .1 .1 .0 ∙ loop .inv .0, left-after (loop .inv .1) (λ rest. symbols-found (loop .left) (args .message .now) (loop .p) (args .end) rest (omega arith) (sym (c .before .before .before .before .before .before .before .before .before .next-symbol .ensures .1) ∙ c .before .before .before .before .before .before .before .class .given .1)) (rw (c .before .before .before .before .before .mark .ensures) at (put-line .ensures)))
+    (put-line .kept .1 .1 .0 ∙ loop .inv .0, left-after (loop .inv .1) (λ rest. symbols-found (loop .left) (args .message .now) (loop .p) (args .end) rest (omega arith) (sym (c .before .before .before .before .before .before .before .before .before .next-symbol .ensures .1) ∙ c .before .before .before .before .before .before .before .symbol .given .1)) (rw (c .before .before .before .before .before .mark .ensures) at (put-line .ensures)))
 
 same-length-3 : tie.Need-same-length-3 Inv-loop μ-loop
 same-length-3 c = c .before .loop .inv .0
@@ -97,7 +97,7 @@ put-symbols-spec =
     μ-loop
     loop-holds
     next-symbol-requires
-    enum-known-class
+    enum-known-symbol
     mark-requires
     slice-aggregate-put-line
     put-line-requires
@@ -105,7 +105,7 @@ put-symbols-spec =
     same-length
     returns
     enum-known-number
-    cast-t25
+    cast-t24
     slice-aggregate-put-line-2
     put-line-requires-2
     same-length-2
