@@ -9,5 +9,6 @@ pub mod Walks
 pub mod RoundTrips
 pub mod Examples
 pub mod WalkSteps
+pub mod TextBounds
 pub mod PlainLaws
 pub mod CanWrite

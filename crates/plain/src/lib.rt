@@ -33,6 +33,9 @@ const TEXT_LIMIT: usize = 1073741824;
 
 const WRITTEN_LIMIT: usize = 4611686018427387904;
 
+// The most bytes of plain text that a byte of a body leads to.
+const MOST_FOR_A_BYTE: usize = 4;
+
 // One byte.
 fn put(out: &mut [u8], n: usize, b: u8) -> usize
     requires { ⌜ n < countLimit ⌝ }
@@ -231,11 +234,14 @@ fn write_by(classes: &[u8; 256], text: &[u8], start: usize, out: &mut [u8]) -> u
     }
 }
 
-// Write that plain text if it fits; else write nothing and tell its length.
+// Write that plain text if it fits; else write nothing and tell its length. It is measured first only where the room may not be enough.
 fn write_fitting(classes: &[u8; 256], text: &[u8], start: usize, out: &mut [u8]) -> Answer
-    requires { ⌜ length (now text) ≤ textLimit ⌝ }
+    requires { ⌜ (start ≤ length (now text)) × (length (now text) ≤ textLimit) ⌝ }
     ensures { λ r. ⌜ (r ≡ fittingAnswer (writtenText (now (classes .entry)) (now (text .entry)) start) (now (out .entry))) × (now (out .exit) ≡ fittingText (writtenText (now (classes .entry)) (now (text .entry)) start) (now (out .entry))) ⌝ }
 {
+    if (text.len() - start) * MOST_FOR_A_BYTE <= out.len() {
+        return Answer::Accepted(write_by(classes, text, start, out));
+    }
     let needed = write_by(classes, text, start, &mut out[..0]);
     if out.len() < needed {
         return Answer::NoRoom(needed);

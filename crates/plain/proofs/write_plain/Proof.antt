@@ -34,7 +34,8 @@ write-fitting-requires c κs =
     let a = c .before .before .before .before .before .before .before .before .before .before .args in
     let r = c .before .before .before .before .before .before .read-addresses in
     let s = some-list (a .message .now) (a .start) (a .end) _ (r .result) (r .ensures .0 .answer-is) (c .before .before .before .match .keys2) in
-    omega (arith, length-take-le (a .end) (a .message .now) (s .body .clean .inside), s .body .clean .inside, s .body .clean .short)
+    let n = length-take-le (a .end) (a .message .now) (s .body .clean .inside) in
+    (omega (arith, n, s .body .clean .ordered), omega (arith, n, s .body .clean .inside, s .body .clean .short))
 
 same-length : tie.Need-same-length
 same-length c = search needs
