@@ -528,19 +528,13 @@ fn read_typed(
     }
     let from = atom.start;
     let to = atom.end;
+    let kind = typed_kind(&text[from..to]);
     let frame = Frame {
         levels,
         parent,
         number,
     };
-    put_record(
-        table,
-        frame,
-        typed_kind(&text[from..to]),
-        cursor[LAST],
-        start,
-        atom,
-    );
+    put_record(table, frame, kind, cursor[LAST], start, atom);
     true
 }
 

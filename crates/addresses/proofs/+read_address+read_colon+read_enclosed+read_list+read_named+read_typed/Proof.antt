@@ -475,13 +475,13 @@ read-typed-returns-3 : (t : ℕ) → read-typed-lts.Need-returns-3 (read-typed-c
 read-typed-returns-3 t c = typed-inside (c .before .before .before .before .before .before .before .before .before .before .before .before .before .before .before .before .args .classes .now) (c .before .before .before .before .before .before .before .before .before .before .before .before .before .before .before .before .args .text .now) (c .before .before .before .before .before .before .before .before .before .before .before .before .before .before .before .before .args .cursor .now) (c .before .before .before .before .before .before .before .before .before .before .before .before .before .before .before .before .args .levels) (c .before .before .before .before .before .before .before .before .before .before .before .before .before .before .before .before .args .parent) (c .before .before .before .before .before .before .before .before .before .before .before .before .before .before .before .before .args .start) (c .before .before .before .before .before .before .before .before .before .before .before .before .before .before .before .before .args .atom) (c .before .before .before .before .before .before .before .before .before .before .before .before .before .before .before .before .pre .1) (c .before .before .before .before .before .before .before .before .before .before .before .before .before .if1 .left) (c .before .before .before .before .before .before .before .before .before .before .before .step .last .1 .1 .0) (stepped (c .before .before .before .before .before .before .before .before .before .before .before .before .before .before .before .before .args .classes .now) (c .before .before .before .before .before .before .before .before .before .before .before .before .before .before .before .before .args .text .now) (c .before .before .before .before .before .before .before .before .before .before .before .before .before .before .before .before .args .cursor .now) (c .before .before .before .before .before .before .before .before .before .before .before .before .before .before .before .before .pre .1 .sized) (c .before .before .before .before .before .before .before .before .before .before .before .step .ensures)) (told endsAhead false (c .before .before .before .before .before .before .before .before .before .ahead-of .ensures) (c .before .before .before .before .before .before .before .before .ends-address .ensures) (c .before .before .before .before .before .before .before .if2 .left)) (c .before .before .before .before .before .before .before .before .before .before .before .before .before .before .before .before .args .table .now) (c .before .before .before .read-address .last .1 .1 .0) (c .before .before .before .read-address .last .1 .1 .1 .0) (rw (same-not (c .before .before .before .read-address .result) false (c .if3 .taken)) at (c .before .before .before .read-address .ensures))
 
 read-typed-sub-typed-kind : (t : ℕ) → read-typed-lts.Need-sub-typed-kind (read-typed-calls t) (read-typed-at t) read-typed.Post
-read-typed-sub-typed-kind t c = let t = c .before .before .before .before .before .before .before .before .before .before .before .before .before .before .before .before .before .pre .1 .first in omega (arith, t .follows .atom-starts)
+read-typed-sub-typed-kind t c = let t = c .before .before .before .before .before .before .before .before .before .before .before .before .before .before .before .before .pre .1 .first in omega (arith, t .follows .atom-starts)
 
 read-typed-part-typed-kind-start : (t : ℕ) → read-typed-lts.Need-part-typed-kind-start (read-typed-calls t) (read-typed-at t) read-typed.Post
-read-typed-part-typed-kind-start t c = let t = c .before .before .before .before .before .before .before .before .before .before .before .before .before .before .before .before .before .pre .1 .first in omega (arith, t .follows .atom-starts)
+read-typed-part-typed-kind-start t c = let t = c .before .before .before .before .before .before .before .before .before .before .before .before .before .before .before .before .pre .1 .first in omega (arith, t .follows .atom-starts)
 
 read-typed-part-typed-kind-end : (t : ℕ) → read-typed-lts.Need-part-typed-kind-end (read-typed-calls t) (read-typed-at t) read-typed.Post
-read-typed-part-typed-kind-end t c = let t = c .before .before .before .before .before .before .before .before .before .before .before .before .before .before .before .before .before .pre .1 .first in omega (arith, t .follows .end-before, t .follows .within)
+read-typed-part-typed-kind-end t c = let t = c .before .before .before .before .before .before .before .before .before .before .before .before .before .before .before .before .pre .1 .first in omega (arith, t .follows .end-before, t .follows .within)
 
 read-typed-typed-kind-requires : (t : ℕ) → read-typed-lts.Need-typed-kind-requires (read-typed-calls t) (read-typed-at t) read-typed.Post
 read-typed-typed-kind-requires t c κs = search needs
@@ -496,7 +496,7 @@ read-typed-same-length-2 : (t : ℕ) → read-typed-lts.Need-same-length-2 (read
 read-typed-same-length-2 t c = search needs
 
 read-typed-returns-4 : (t : ℕ) → read-typed-lts.Need-returns-4 (read-typed-calls t) (read-typed-at t) read-typed.Post
-read-typed-returns-4 t c = typed-done (c .before .before .before .before .before .before .before .before .before .before .before .before .before .before .before .before .before .before .before .before .before .before .before .args .classes .now) (c .before .before .before .before .before .before .before .before .before .before .before .before .before .before .before .before .before .before .before .before .before .before .before .args .text .now) (c .before .before .before .before .before .before .before .before .before .before .before .before .before .before .before .before .before .before .before .before .before .before .before .args .cursor .now) (c .before .before .before .before .before .before .before .before .before .before .before .before .before .before .before .before .before .before .before .before .before .before .before .args .levels) (c .before .before .before .before .before .before .before .before .before .before .before .before .before .before .before .before .before .before .before .before .before .before .before .args .parent) (c .before .before .before .before .before .before .before .before .before .before .before .before .before .before .before .before .before .before .before .before .before .before .before .args .start) (c .before .before .before .before .before .before .before .before .before .before .before .before .before .before .before .before .before .before .before .before .before .before .before .args .atom) (c .before .before .before .before .before .before .before .before .before .before .before .before .before .before .before .before .before .before .before .before .before .before .before .pre .1) (c .before .before .before .before .before .before .before .before .before .before .before .before .before .before .before .before .before .before .before .before .if1 .left) (c .before .before .before .before .before .before .before .before .before .before .before .before .before .before .before .before .before .before .step .last .1 .1 .0) (stepped (c .before .before .before .before .before .before .before .before .before .before .before .before .before .before .before .before .before .before .before .before .before .before .before .args .classes .now) (c .before .before .before .before .before .before .before .before .before .before .before .before .before .before .before .before .before .before .before .before .before .before .before .args .text .now) (c .before .before .before .before .before .before .before .before .before .before .before .before .before .before .before .before .before .before .before .before .before .before .before .args .cursor .now) (c .before .before .before .before .before .before .before .before .before .before .before .before .before .before .before .before .before .before .before .before .before .before .before .pre .1 .sized) (c .before .before .before .before .before .before .before .before .before .before .before .before .before .before .before .before .before .before .step .ensures)) (told endsAhead false (c .before .before .before .before .before .before .before .before .before .before .before .before .before .before .before .before .ahead-of .ensures) (c .before .before .before .before .before .before .before .before .before .before .before .before .before .before .before .ends-address .ensures) (c .before .before .before .before .before .before .before .before .before .before .before .before .before .before .if2 .left)) (c .before .before .before .before .before .before .before .before .before .before .before .before .before .before .before .before .before .before .before .before .before .before .before .args .table .now) (c .before .before .before .before .before .before .before .before .before .before .read-address .last .1 .1 .0) (c .before .before .put-record .last .0) (c .before .before .before .before .before .before .before .before .before .before .read-address .last .1 .1 .1 .0) (rw (same-not (c .before .before .before .before .before .before .before .before .before .before .read-address .result) true (c .before .before .before .before .before .before .before .if3 .left)) at (c .before .before .before .before .before .before .before .before .before .before .read-address .ensures)) (rw (c .before .before .before .before .typed-kind .ensures) at (c .before .before .put-record .ensures))
+read-typed-returns-4 t c = typed-done (c .before .before .before .before .before .before .before .before .before .before .before .before .before .before .before .before .before .before .before .before .before .before .before .args .classes .now) (c .before .before .before .before .before .before .before .before .before .before .before .before .before .before .before .before .before .before .before .before .before .before .before .args .text .now) (c .before .before .before .before .before .before .before .before .before .before .before .before .before .before .before .before .before .before .before .before .before .before .before .args .cursor .now) (c .before .before .before .before .before .before .before .before .before .before .before .before .before .before .before .before .before .before .before .before .before .before .before .args .levels) (c .before .before .before .before .before .before .before .before .before .before .before .before .before .before .before .before .before .before .before .before .before .before .before .args .parent) (c .before .before .before .before .before .before .before .before .before .before .before .before .before .before .before .before .before .before .before .before .before .before .before .args .start) (c .before .before .before .before .before .before .before .before .before .before .before .before .before .before .before .before .before .before .before .before .before .before .before .args .atom) (c .before .before .before .before .before .before .before .before .before .before .before .before .before .before .before .before .before .before .before .before .before .before .before .pre .1) (c .before .before .before .before .before .before .before .before .before .before .before .before .before .before .before .before .before .before .before .before .if1 .left) (c .before .before .before .before .before .before .before .before .before .before .before .before .before .before .before .before .before .before .step .last .1 .1 .0) (stepped (c .before .before .before .before .before .before .before .before .before .before .before .before .before .before .before .before .before .before .before .before .before .before .before .args .classes .now) (c .before .before .before .before .before .before .before .before .before .before .before .before .before .before .before .before .before .before .before .before .before .before .before .args .text .now) (c .before .before .before .before .before .before .before .before .before .before .before .before .before .before .before .before .before .before .before .before .before .before .before .args .cursor .now) (c .before .before .before .before .before .before .before .before .before .before .before .before .before .before .before .before .before .before .before .before .before .before .before .pre .1 .sized) (c .before .before .before .before .before .before .before .before .before .before .before .before .before .before .before .before .before .before .step .ensures)) (told endsAhead false (c .before .before .before .before .before .before .before .before .before .before .before .before .before .before .before .before .ahead-of .ensures) (c .before .before .before .before .before .before .before .before .before .before .before .before .before .before .before .ends-address .ensures) (c .before .before .before .before .before .before .before .before .before .before .before .before .before .before .if2 .left)) (c .before .before .before .before .before .before .before .before .before .before .before .before .before .before .before .before .before .before .before .before .before .before .before .args .table .now) (c .before .before .before .before .before .before .before .before .before .before .read-address .last .1 .1 .0) (c .before .before .put-record .last .0) (c .before .before .before .before .before .before .before .before .before .before .read-address .last .1 .1 .1 .0) (rw (same-not (c .before .before .before .before .before .before .before .before .before .before .read-address .result) true (c .before .before .before .before .before .before .before .if3 .left)) at (c .before .before .before .before .before .before .before .before .before .before .read-address .ensures)) (rw (c .before .before .before .before .before .typed-kind .ensures) at (c .before .before .put-record .ensures))
 
 pub +read-address+read-colon+read-enclosed+read-list+read-named+read-typed-spec :
     {M : Type 1} → statement M
