@@ -62,6 +62,3 @@ module _ (classes text : List ℕ) where
   -- the mark that stands after a phrase
   pub named-before : {xs : List Sym} {span : Span} {p : Phrase} {r s : Next} → Named classes text xs span p r → r ≡ s → Named classes text xs span p s
   named-before {p = p} n e = record { yields = n .yields ∙ ap (λ (a : Next). phraseThen p (symbolsAhead classes text a)) e; start-is = n .start-is; end-is = n .end-is }
-
-  pub named-mark : {xs : List Sym} {span : Span} {p : Phrase} {r : Next} {c d : Class} {a b : ℕ} → Named classes text xs span p r → r ≡ foundAt c a b → c ≡ d → Named classes text xs span p (foundAt d a b)
-  named-mark {a = a} {b = b} n e f = named-before n (e ∙ ap (λ (m : Class). foundAt m a b) f)

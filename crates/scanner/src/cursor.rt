@@ -71,7 +71,7 @@ pub fn ahead_of(number: usize) -> Ahead
 }
 
 // The number of a class of symbols.
-pub fn class_number(class: Class) -> usize
+fn class_number(class: Class) -> usize
     ensures { λ r. ⌜ r ≡ classNumber class ⌝ }
 {
     match class {
