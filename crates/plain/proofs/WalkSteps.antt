@@ -4,7 +4,7 @@ use mathlib.Core.Bool.{Bool, false}
 use mathlib.Core.List.{List, [], _∷_}
 use Prim.Native.Nat.{ℕ, suc, _+_, _*_, _-_, _≤_, _<_}
 use native.Mathlib.Omega.{arith}
-use lib.ListN.{length}
+use lib.ListN.{length, getD}
 use lib.Seq.{sets}
 use types.Run.{OneOf, miss}
 use denote.Enum.Declared.{tagOf}
@@ -12,6 +12,7 @@ use Rattle.octets.specs.Ties.Writing.{Wrote}
 use Rattle.octets.proofs.Writes.{wrote-nothing, wrote-both}
 use Rattle.scanner.proofs.Class.{the-type as class-type}
 use Rattle.scanner.proofs.Next.{the-type as next-type}
+use Rattle.scanner.proofs.cursor.Ahead.{the-type as ahead-type}
 use Rattle.grammar.specs.Believed.Rfc733.{sameClass}
 use Rattle.addresses.proofs.ClassCases.{by-class-not}
 use Rattle.scanner.specs.Believed.Scanning.{Scanned, ended, next, faultAt, symbolsOf, scanBy}
@@ -20,10 +21,13 @@ use Rattle.scanner.specs.declared.Class.{Class}
 use Rattle.scanner.specs.declared.Class.the-variants.{Atom, Quoted, At, LessThan, GreaterThan, Comma, Semicolon, Colon, Stray, Dot, Literal}
 use Rattle.scanner.specs.declared.Next.{Next}
 use Rattle.scanner.specs.declared.Next.the-variants.{Found, Ended, Fault}
+use Rattle.scanner.specs.declared.cursor.Ahead.{Ahead}
+use Rattle.scanner.specs.declared.cursor.Ahead.the-variants.{Symbol, End, Faulty}
+use Rattle.scanner.specs.Ties.Cursors.{aheadOf, nextFrom, nextIn}
 use Rattle.scanner.specs.Ties.Meanings.{meaningAt}
 use Rattle.scanner.proofs.Unfolding.{SymbolAt, Unfolded, no-symbol, a-symbol, a-fault, unfolded, found}
 use Rattle.plain.specs.Ties.Walking.{gapText, symbolText, after, colonNext, walkText, textFrom, writtenText}
-use Rattle.plain.specs.Ties.Writing.{textLimit, isColon}
+use Rattle.plain.specs.Ties.Writing.{textLimit, isColon, colonAhead}
 use Rattle.plain.specs.declared.places.Gap.{Gap}
 use Rattle.plain.specs.declared.places.Place.{Place}
 use Rattle.plain.specs.declared.places.Place.the-variants.{Start}
@@ -70,6 +74,31 @@ pub not-found : (coming : Next) → OneOf (1 ∷ 2 ∷ []) (tagOf next-type comi
 not-found (Found symbol) o = absurd (miss (1 ∷ 2 ∷ []) 0 tt o)
 not-found Ended o = refl
 not-found (Fault number p) o = refl
+
+-- .. ahead of a cursor
+pub not-ahead : (a : Ahead) → OneOf (1 ∷ 2 ∷ []) (tagOf ahead-type a) → false ≡ colonAhead a
+not-ahead (Symbol class) o = absurd (miss (1 ∷ 2 ∷ []) 0 tt o)
+not-ahead End o = refl
+not-ahead Faulty o = refl
+
+none-from : (a : Ahead) → OneOf (1 ∷ 2 ∷ []) (tagOf ahead-type a) → (start end : ℕ) → NoneComes (nextFrom a start end)
+none-from (Symbol class) o start end = absurd (miss (1 ∷ 2 ∷ []) 0 tt o)
+none-from End o start end = tt
+none-from Faulty o start end = tt
+
+colon-from : (a : Ahead) (start end : ℕ) → colonAhead a ≡ isColon (nextFrom a start end)
+colon-from (Symbol class) start end = refl
+colon-from End start end = refl
+colon-from Faulty start end = refl
+
+module _ (cursor : List ℕ) {a : Ahead} (e : a ≡ aheadOf (getD cursor 0 0)) where
+  pub none-ahead : OneOf (1 ∷ 2 ∷ []) (tagOf ahead-type a) → NoneComes (nextIn cursor)
+  unfolding nextIn
+  none-ahead o = rw (sym e) (none-from a o (getD cursor 1 0) (getD cursor 2 0))
+
+  pub colon-in : {colon : Bool} → colon ≡ colonAhead a → colon ≡ isColon (nextIn cursor)
+  unfolding nextIn
+  colon-in c = rw (sym e) (c ∙ colon-from a (getD cursor 1 0) (getD cursor 2 0))
 
 nothing-of : (place : Place) (s : Scanned) → NoneComes (nextOf s) → walkText place (symbolsOf s) ≡ []
 unfolding symbolsOf

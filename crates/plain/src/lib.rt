@@ -5,18 +5,21 @@
 ghost use mathlib.Core.Path.{_≡_};
 ghost use mathlib.Core.List.{_∷_, _++_};
 ghost use Prim.Native.Nat.{_+_, _*_, _-_, _≤_, _<_};
-ghost use lib.ListN.{length};
+ghost use lib.ListN.{length, getD};
 ghost use lib.Seq.{sets};
 ghost use Rattle.octets.specs.Believed.Fitting.{fittingAnswer, fittingText};
 ghost use Rattle.octets.specs.Believed.Text.{part};
 ghost use Rattle.octets.specs.Ties.Writing.{countLimit, Wrote};
 ghost use Rattle.scanner.specs.Ties.Meanings.{dataAt, meaningAt};
+ghost use Rattle.scanner.specs.Ties.Cursors.{cursorSize, nextIn};
+ghost use Rattle.scanner.specs.Believed.Answers.{nextOf};
+ghost use Rattle.scanner.specs.Believed.Scanning.{scanBy};
 ghost use Rattle.plain.specs.Believed.PlainText.{needsBackslash, backslashText, dataText, quotedText};
 ghost use Rattle.plain.specs.Ties.Walking.{gapText, symbolText, writtenText};
 ghost use Rattle.addresses.specs.Believed.Outcome.{AnsweredBy};
 ghost use Rattle.plain.specs.Believed.Condition2.{Condition2};
 ghost use Rattle.plain.specs.Believed.Written.{plainOutcome};
-ghost use Rattle.plain.specs.Ties.Writing.{textLimit, isColon, canWrite, symbolIf};
+ghost use Rattle.plain.specs.Ties.Writing.{textLimit, isColon, colonAhead, canWrite, symbolIf};
 use octets::answers::Answer;
 use octets::classes::CLASSES;
 use places::Gap;
@@ -25,6 +28,13 @@ use scanner::Class;
 use scanner::Datum;
 use scanner::Next;
 use scanner::Symbol;
+use scanner::cursor::Ahead;
+use scanner::cursor::CLASS;
+use scanner::cursor::END;
+use scanner::cursor::ENDED;
+use scanner::cursor::START;
+use scanner::cursor::ahead_of;
+use scanner::cursor::step;
 
 pub mod places;
 
@@ -214,24 +224,52 @@ pub fn is_colon(next: Next) -> bool
     }
 }
 
+// Whether ":" stands ahead.
+fn colon_ahead(ahead: Ahead) -> bool
+    ensures { λ r. ⌜ r ≡ colonAhead ahead ⌝ }
+{
+    let Ahead::Symbol(class) = ahead else {
+        return false;
+    };
+    match class {
+        Class::Colon => true,
+        _ => false,
+    }
+}
+
+// Write the plain text from the symbol ahead on, as far as there is room: the answer is its length. The cursor keeps where the body starts.
+fn write_from(classes: &[u8; 256], text: &[u8], cursor: &mut [usize; 5], out: &mut [u8]) -> usize
+    requires { ⌜ (length (now text) ≤ textLimit) × (length (now cursor) ≡ cursorSize) × (nextIn (now cursor) ≡ nextOf (scanBy (now classes) (now text) (getD (now cursor) 3 0))) ⌝ }
+    ensures { λ r. ⌜ (r ≡ length (writtenText (now (classes .entry)) (now (text .entry)) (getD (now (cursor .entry)) 3 0))) × (now (out .exit) ≡ sets (now (out .entry)) 0 (writtenText (now (classes .entry)) (now (text .entry)) (getD (now (cursor .entry)) 3 0))) ⌝ }
+{
+    let mut n: usize = 0;
+    let mut place = Place::Start;
+    let mut ahead = ahead_of(cursor[CLASS]);
+    loop {
+        let Ahead::Symbol(class) = ahead else {
+            return n;
+        };
+        let symbol = Symbol {
+            class,
+            start: cursor[START],
+            end: cursor[END],
+        };
+        step(classes, text, cursor);
+        ahead = ahead_of(cursor[CLASS]);
+        let colon = colon_ahead(ahead);
+        n = put_symbol(classes, text, symbol, place, colon, out, n);
+        place = places::after(class, place, colon);
+    }
+}
+
 // Write the plain text of the body that runs from start to the text's end, as far as there is room: the answer is its length.
 fn write_by(classes: &[u8; 256], text: &[u8], start: usize, out: &mut [u8]) -> usize
     requires { ⌜ length (now text) ≤ textLimit ⌝ }
     ensures { λ r. ⌜ (r ≡ length (writtenText (now (classes .entry)) (now (text .entry)) start)) × (now (out .exit) ≡ sets (now (out .entry)) 0 (writtenText (now (classes .entry)) (now (text .entry)) start)) ⌝ }
 {
-    let mut n: usize = 0;
-    let mut place = Place::Start;
-    let mut coming = scanner::next_by(classes, text, start);
-    loop {
-        let Next::Found(symbol) = coming else {
-            return n;
-        };
-        let class = symbol.class;
-        coming = scanner::next_by(classes, text, symbol.end);
-        let colon = is_colon(coming);
-        n = put_symbol(classes, text, symbol, place, colon, out, n);
-        place = places::after(class, place, colon);
-    }
+    let mut cursor: [usize; 5] = [ENDED, start, start, start, 0];
+    step(classes, text, &mut cursor);
+    write_from(classes, text, &mut cursor, out)
 }
 
 // Write that plain text if it fits; else write nothing and tell its length. It is measured first only where the room may not be enough.

@@ -9,6 +9,8 @@ use Rattle.scanner.specs.declared.Class.{Class}
 use Rattle.scanner.specs.declared.Class.the-variants.{Colon}
 use Rattle.scanner.specs.declared.Next.{Next}
 use Rattle.scanner.specs.declared.Next.the-variants.{Found, Ended, Fault}
+use Rattle.scanner.specs.declared.cursor.Ahead.{Ahead}
+use Rattle.scanner.specs.declared.cursor.Ahead.the-variants.{Symbol, End, Faulty}
 use Rattle.grammar.specs.Believed.Rfc733.{sameClass}
 use Rattle.plain.specs.Ties.Walking.{symbolText}
 use Rattle.plain.specs.declared.places.Place.{Place}
@@ -34,3 +36,9 @@ abbrev pub isColon : Next → Bool
 isColon (Found symbol) = sameClass Colon (symbol .class)
 isColon Ended = false
 isColon (Fault number p) = false
+
+-- ":" stands ahead of a cursor
+abbrev pub colonAhead : Ahead → Bool
+colonAhead (Symbol class) = sameClass Colon class
+colonAhead End = false
+colonAhead Faulty = false
