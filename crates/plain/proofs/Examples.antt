@@ -95,11 +95,16 @@ groups =
     ∷ row (bytes ":Include:<a@b>,:POSTAL::x:\"y\"") (bytes ":Include: <a at b>, :POSTAL: :x: \"y\"")
     ∷ []
 
--- quoted-strings: a fold, a taken fold, a taken CR and LF, a bare LF, HTAB, quote and backslash, backslashes that need not stand
+-- quoted-strings: a fold; a line end that a backslash takes, and one after a taken backslash; CR taken before a fold; CR and LF taken one by one; a bare LF, HTAB, quote and backslash; backslashes that need not stand
 abbrev pub strings : List Example
 strings =
     row (bytes "\"a\r\n b\"") (bytes "\"a b\"")
-    ∷ row (bytes "\"a\\\r\n b\"") (bytes "\"a b\"")
+    ∷ row (bytes "\"a\\\r\n b\"") (bytes "\"a\\\r\\\n b\"")
+    ∷ row (bytes "\"a\\\\\r\n b\"") (bytes "\"a\\\\ b\"")
+    ∷ row (bytes "\"a\\\\\\\r\n \"") (bytes "\"a\\\\\\\r\\\n \"")
+    ∷ row (bytes "\"a\\\r\r\n b\"") (bytes "\"a\\\r b\"")
+    ∷ row (bytes "\"\\\r\n\t\\\r\n\t\"") (bytes "\"\\\r\\\n\t\\\r\\\n\t\"")
+    ∷ row (bytes "\"\\\r\nb\"") (bytes "\"\\\r\\\nb\"")
     ∷ row (bytes "\"\\\r\\\n\"") (bytes "\"\\\r\\\n\"")
     ∷ row (bytes "\"\n\t\"") (bytes "\"\\\n\t\"")
     ∷ kept (bytes "\"\\\"\\\\\"")

@@ -125,8 +125,9 @@ each-and P t b e h = each-both P t (b ∷ []) e (h, tt)
 
 -- what a backslash takes is data
 taken-data : (b : ℕ) (folded : Bool) → IsDatum b → Each IsDatum (takenData b folded)
-unfolding takenData
-taken-data b folded h = (h, tt)
+unfolding takenData kindOf classOf classTable
+taken-data b true h = (tt, (tt, (h, tt)))
+taken-data b false h = (h, tt)
 
 begun-and : (t : List ℕ) (b : ℕ) → Begun t → IsPlain b → Begun (t ++ (b ∷ []))
 begun-and [] b e h = absurd e

@@ -98,12 +98,12 @@ most-next x rest k n w m place =
     let later = after (x .class) place colon in
     omega (arith, w place colon (walkText later (symbolsOf rest)), m later)
 
--- what a state has taken and not yet written
+-- what a state has taken and not yet written; a backslash keeps its own four bytes for what it takes, which may be a line end
 abbrev weight : State → ℕ
 weight outside = 0
 weight (inAtom start end t) = 3 + length t
 weight (inQuoted start t) = 4 + 2 * length t
-weight (takingInQuoted start t) = 4 + 2 * length t
+weight (takingInQuoted start t) = 8 + 2 * length t
 weight (inLiteral start) = 0
 weight (takingInLiteral start) = 0
 weight (inComment depth start) = 0
@@ -266,13 +266,17 @@ from-taking isAbove w s p h = halts w _ p
 from-taking isOpenBracket w s p h = goes w s h
 from-taking isCloseBracket w s p h = goes w s h
 
-moved : (s : State) {kind : _} (v : KindView kind) (b p : ℕ) (folded : Bool) → Adds (weight s) (move s kind b p folded)
+taken-few : (b : ℕ) (folded : Bool) → length (takenData b folded) ≤ 3
 unfolding takenData
+taken-few b true = omega arith
+taken-few b false = omega arith
+
+moved : (s : State) {kind : _} (v : KindView kind) (b p : ℕ) (folded : Bool) → Adds (weight s) (move s kind b p folded)
 moved outside v b p folded = from-outside v b p
 moved (inAtom start end t) v b p folded = from-atom v start end t b p
 moved (inQuoted start t) v b p folded = from-quoted v start t b p
 moved (takingInQuoted start t) v b p folded =
-    from-taking v (4 + 2 * length t) (inQuoted start (t ++ (b ∷ []))) p (omega (arith, length-append t (b ∷ [])))
+    from-taking v (8 + 2 * length t) (inQuoted start (t ++ takenData b folded)) p (omega (arith, length-append t (takenData b folded), taken-few b folded))
 moved (inLiteral start) v b p folded = from-literal v start p
 moved (takingInLiteral start) v b p folded = from-taking v 0 (inLiteral start) p (omega arith)
 moved (inComment depth start) v b p folded = from-comment v depth start p

@@ -3,11 +3,12 @@
 // A text is written into a lent part from a place on; past the part's end nothing is stored, and it is counted all the same,
 // so that the same walk measures a text and writes it.
 ghost use mathlib.Core.Path.{_≡_};
-ghost use mathlib.Core.List.{_∷_, _++_};
+ghost use mathlib.Core.List.{[], _∷_, _++_};
 ghost use Prim.Native.Nat.{_+_, _*_, _-_, _≤_, _<_};
 ghost use lib.ListN.{length, getD};
 ghost use lib.Seq.{sets};
 ghost use Rattle.octets.specs.Believed.Fitting.{fittingAnswer, fittingText};
+ghost use Rattle.octets.specs.Believed.Octets.{lineFeedByte, returnByte};
 ghost use Rattle.octets.specs.Believed.Text.{part};
 ghost use Rattle.octets.specs.Ties.Writing.{countLimit, Wrote};
 ghost use Rattle.scanner.specs.Ties.Meanings.{dataAt, meaningAt};
@@ -98,6 +99,16 @@ fn put_datum(out: &mut [u8], n: usize, b: u8) -> usize
     put(out, n, b)
 }
 
+// CR and LF as data, and the white space after them.
+fn put_line_end(out: &mut [u8], n: usize, b: u8) -> usize
+    requires { ⌜ n + 6 ≤ countLimit ⌝ }
+    ensures { λ r. ⌜ Wrote (dataText (returnByte ∷ lineFeedByte ∷ b ∷ [])) (now (out .entry)) n (now (out .exit)) r × (r ≤ n + 6) ⌝ }
+{
+    let m = put_datum(out, n, b'\r');
+    let k = put_datum(out, m, b'\n');
+    put_datum(out, k, b)
+}
+
 // The bytes of an atom.
 fn put_part(text: &[u8], start: usize, end: usize, out: &mut [u8], n: usize) -> usize
     requires { ⌜ (start ≤ end) × (end ≤ length (now text)) × (n + (end - start) ≤ countLimit) ⌝ }
@@ -115,11 +126,17 @@ fn put_data(classes: &[u8; 256], text: &[u8], at: usize, out: &mut [u8], n: usiz
     let mut p = at;
     let mut m = n;
     loop {
-        let Datum::Byte(b, behind) = scanner::next_datum(classes, text, p) else {
-            return m;
-        };
-        m = put_datum(out, m, b);
-        p = behind;
+        match scanner::next_datum(classes, text, p) {
+            Datum::Byte(b, behind) => {
+                m = put_datum(out, m, b);
+                p = behind;
+            }
+            Datum::LineEnd(b, behind) => {
+                m = put_line_end(out, m, b);
+                p = behind;
+            }
+            Datum::Over => return m,
+        }
     }
 }
 

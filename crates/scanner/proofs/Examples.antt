@@ -45,13 +45,41 @@ folded-atoms = row (bytes "ab" ++ (crlf ++ bytes " cd")) (next (symbol Atom 0 2 
 folded-quoted : Row
 folded-quoted = row (bytes "\"a" ++ (crlf ++ bytes " b\"")) (next (symbol Quoted 0 7 (bytes "a b")) ended)
 
--- right after a backslash too: the backslash takes the SPACE
+-- a backslash right before it takes its CRLF, and not the white space after it
 folded-taken : Row
-folded-taken = row (bytes "\"a\\" ++ (crlf ++ bytes " \"")) (next (symbol Quoted 0 7 (bytes "a ")) ended)
+folded-taken = row (bytes "\"a\\" ++ (crlf ++ bytes " b\"")) (next (symbol Quoted 0 8 (bytes "a" ++ (crlf ++ bytes " b"))) ended)
 
--- in a comment
+closed-after-taken : Row
+closed-after-taken = row (bytes "\"\\" ++ (crlf ++ bytes " \"x")) (next (symbol Quoted 0 6 (crlf ++ bytes " ")) (next (symbol Atom 6 7 (bytes "x")) ended))
+
+taken-twice : Row
+taken-twice = row (bytes "\"\\" ++ (crlf ++ bytes "\t\\" ++ (crlf ++ bytes "\t\""))) (next (symbol Quoted 0 10 (crlf ++ bytes "\t" ++ (crlf ++ bytes "\t"))) ended)
+
+-- .. unless the backslash is itself taken
+folded-after-taken : Row
+folded-after-taken = row (bytes "\"a\\\\" ++ (crlf ++ bytes " b\"")) (next (symbol Quoted 0 9 (bytes "a\\ b")) ended)
+
+third-backslash : Row
+third-backslash = row (bytes "\"a\\\\\\" ++ (crlf ++ bytes " \"")) (next (symbol Quoted 0 9 (bytes "a\\" ++ (crlf ++ bytes " "))) ended)
+
+-- it takes a CR before the fold, and then the CRLF is dropped
+return-before-fold : Row
+return-before-fold = row (bytes "\"a\\" ++ (13 ∷ crlf ++ bytes " b\"")) (next (symbol Quoted 0 9 (bytes "a" ++ (13 ∷ bytes " b"))) ended)
+
+-- no fold: CR is taken, and LF is a datum by itself
+return-then-line-feed : Row
+return-then-line-feed = row (bytes "\"\\" ++ (crlf ++ bytes "b\"")) (next (symbol Quoted 0 6 (crlf ++ bytes "b")) ended)
+
+-- the white space of the fold is not there
+half-taken : Row
+half-taken = row (bytes "\"a\\" ++ crlf) (faultAt 5 0)
+
+-- in a comment, also after a backslash
 folded-comment : Row
 folded-comment = row (bytes "(a" ++ (crlf ++ bytes " b) c")) (next (symbol Atom 8 9 (bytes "c")) ended)
+
+taken-in-comment : Row
+taken-in-comment = row (bytes "(a\\" ++ (crlf ++ bytes " ) c")) (next (symbol Atom 8 9 (bytes "c")) ended)
 
 -- a CRLF whose white space is not there is no fold
 half-fold : Row
@@ -126,12 +154,11 @@ deep-comment = row (replicate 300 40 ++ (replicate 300 41 ++ bytes "x")) (next (
 
 pub table : List Row
 table =
-    nested ∷ sysmail ∷ folded-atoms ∷ folded-quoted ∷ folded-taken ∷ folded-comment ∷ half-fold ∷ marks ∷ at-cases ∷ open-quoted ∷ open-comment ∷ open-inner ∷ taking-at-end
+    nested ∷ sysmail ∷ folded-atoms ∷ folded-quoted ∷ folded-taken ∷ closed-after-taken ∷ taken-twice ∷ folded-after-taken ∷ third-backslash ∷ return-before-fold ∷ return-then-line-feed ∷ half-taken ∷ folded-comment ∷ taken-in-comment ∷ half-fold ∷ marks ∷ at-cases ∷ open-quoted ∷ open-comment ∷ open-inner ∷ taking-at-end
     ∷ return-quoted ∷ return-taken ∷ above ∷ above-taken ∷ above-comment ∷ delete ∷ line-feed ∷ controls-quoted ∷ controls-comment ∷ quote-in-comment ∷ comment-in-quoted
     ∷ deep-comment ∷ []
 
 pub right : Right table
-unfolding row crlf nested sysmail folded-atoms folded-quoted folded-taken folded-comment half-fold marks at-cases open-quoted open-comment open-inner taking-at-end return-quoted return-taken above above-taken above-comment delete line-feed controls-quoted controls-comment quote-in-comment comment-in-quoted deep-comment table scanFrom takenData charactersFrom kindOf classOf classTable lower same
+unfolding row crlf nested sysmail folded-atoms folded-quoted folded-taken closed-after-taken taken-twice folded-after-taken third-backslash return-before-fold return-then-line-feed half-taken folded-comment taken-in-comment half-fold marks at-cases open-quoted open-comment open-inner taking-at-end return-quoted return-taken above above-taken above-comment delete line-feed controls-quoted controls-comment quote-in-comment comment-in-quoted deep-comment table scanFrom takenData charactersFrom kindOf classOf classTable lower same
 right =
-    and refl (and refl (and refl (and refl (and refl (and refl (and refl (and refl (and refl (and refl (and refl (and refl (and refl
-    (and refl (and refl (and refl (and refl (and refl (and refl (and refl (and refl (and refl (and refl (and refl (and refl none))))))))))))))))))))))))
+    and refl (and refl (and refl (and refl (and refl (and refl (and refl (and refl (and refl (and refl (and refl (and refl (and refl (and refl (and refl (and refl (and refl (and refl (and refl (and refl (and refl (and refl (and refl (and refl (and refl (and refl (and refl (and refl (and refl (and refl (and refl (and refl (and refl none))))))))))))))))))))))))))))))))

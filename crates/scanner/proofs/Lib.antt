@@ -5,6 +5,7 @@ pub mod MoveLaws
 pub mod ByteLaws
 pub mod CursorMoves
 pub mod Meanings
+pub mod OnlyMeanings
 pub mod Unfolding
 pub mod Spans
 pub mod BodyChecks

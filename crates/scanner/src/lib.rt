@@ -13,7 +13,7 @@ ghost use Rattle.octets.specs.declared.answers.Answer.the-variants.{Accepted, R
 ghost use Rattle.scanner.specs.Believed.Answers.{bodyChecked, nextOf, nextTold, nextInBody, faultOf, scannedBy, bodyScanned};
 ghost use Rattle.scanner.specs.Believed.Categories.{ofSymbol, between, categoryOf, categoryAt};
 ghost use Rattle.scanner.specs.Ties.Steps.{StepIs, AtomEnds, ReturnIsControl, plainAt, PlainEnds, CommentIs, Faultless, FaultsFrom};
-ghost use Rattle.scanner.specs.Ties.Meanings.{datumAt};
+ghost use Rattle.scanner.specs.Ties.Meanings.{takenDatum, datumAt};
 ghost use Rattle.scanner.specs.Ties.Gaps.{gapDepth, GapCategoryIs, PassedIs, PassedLow};
 ghost use Rattle.scanner.specs.declared.Gap.the-variants.{Comment as commentGap};
 ghost use Rattle.octets.specs.Believed.Text.{part};
@@ -61,9 +61,11 @@ pub enum Next {
     Fault(u8, usize),
 }
 
-// The next byte of data of a quoted-string and the position after it, or that the string is over.
+// The next of the data of a quoted-string, with the position after it: a byte; or CR and LF, which a backslash took, and the
+// white space that follows them; or that the string is over.
 pub enum Datum {
     Byte(u8, usize),
+    LineEnd(u8, usize),
     Over,
 }
 
@@ -312,7 +314,20 @@ fn quoted_end(classes: &[u8; 256], text: &[u8], start: usize, at: usize) -> Next
     }
 }
 
-// The next byte of data of a quoted-string, from a position inside it on, by a table of classes that is handed on.
+// What a backslash in a quoted-string takes, from the position after it on: the CRLF of a fold, or the next byte.
+fn taken_datum(text: &[u8], at: usize) -> Datum
+    ensures { λ r. ⌜ r ≡ takenDatum (charactersAt (now (text .entry)) at) ⌝ }
+{
+    if text.len() <= at {
+        return Datum::Over;
+    }
+    if folds(text, at) {
+        return Datum::LineEnd(text[at + 2], at + 3);
+    }
+    Datum::Byte(text[at], at + 1)
+}
+
+// The next of the data of a quoted-string, from a position inside it on, by a table of classes that is handed on.
 pub fn next_datum(classes: &[u8; 256], text: &[u8], at: usize) -> Datum
     ensures { λ r. ⌜ r ≡ datumAt (now (classes .entry)) (now (text .entry)) at ⌝ }
 {
@@ -321,12 +336,7 @@ pub fn next_datum(classes: &[u8; 256], text: &[u8], at: usize) -> Datum
     };
     match kind {
         ByteKind::Quote => Datum::Over,
-        ByteKind::Backslash => {
-            let Step::Byte(taken, place, behind) = character(classes, text, q) else {
-                return Datum::Over;
-            };
-            Datum::Byte(text[place], behind)
-        }
+        ByteKind::Backslash => taken_datum(text, q),
         _ => Datum::Byte(text[here], q),
     }
 }

@@ -5,6 +5,7 @@ use mathlib.Core.List.{List, [], _∷_, _++_}
 use Rattle.octets.specs.Believed.Choice.{pick}
 use Rattle.octets.specs.Believed.Classes.{classTable}
 use Rattle.octets.specs.Believed.Letters.{sameLetters}
+use Rattle.octets.specs.Believed.Octets.{returnByte, lineFeedByte}
 use Rattle.octets.specs.Believed.Numbers.{byteAbove127, quotedNotClosed, commentNotClosed, strayControl, literalNotClosed}
 use Rattle.octets.specs.Believed.Text.{bytes}
 use Rattle.scanner.specs.Believed.Symbols.{Symbol}
@@ -155,9 +156,9 @@ take Above state p = halt [] byteAbove127 p
 take OpenBracket state p = go [] state
 take CloseBracket state p = go [] state
 
--- the data that a backslash takes in a quoted-string: the byte after it, where the CRLF of a fold was dropped right before that one, too
+-- the data from a backslash on in a quoted-string: it takes the next byte; or the CRLF of a fold right after it, and the white space there is a datum by itself
 unfoldable pub takenData : ℕ → Bool → List ℕ
-takenData b folded = b ∷ []
+takenData b folded = pick folded (returnByte ∷ lineFeedByte ∷ b ∷ []) (b ∷ [])
 
 -- a byte b of a kind, at a position p, in any state; folded, the CRLF of a fold was dropped right before it
 abbrev pub move : State → ByteKind → ℕ → ℕ → Bool → Move

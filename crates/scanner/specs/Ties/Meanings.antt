@@ -1,8 +1,8 @@
 -- The meaning of a symbol by its place in a text. Nothing here needs to be believed: that it is the meaning which scanning gives is a law.
 use mathlib.Core.Bool.{Bool}
 use mathlib.Core.List.{List, [], _∷_, _++_}
-use Prim.Native.Nat.{ℕ, _+_, _-_}
-use lib.ListN.{length}
+use Prim.Native.Nat.{ℕ, _+_}
+use Rattle.octets.specs.Believed.Choice.{pick}
 use Rattle.octets.specs.Believed.Text.{part}
 use Rattle.scanner.specs.Believed.Kinds.{characterKind}
 use Rattle.scanner.specs.Believed.Characters.{Character, character, charactersAt}
@@ -10,7 +10,7 @@ use Rattle.scanner.specs.Believed.Scanning.{takenData}
 use Rattle.scanner.specs.declared.Class.{Class}
 use Rattle.scanner.specs.declared.Class.the-variants.{Atom, Quoted, At, LessThan, GreaterThan, Comma, Semicolon, Colon, Stray, Dot, Literal}
 use Rattle.scanner.specs.declared.Datum.{Datum}
-use Rattle.scanner.specs.declared.Datum.the-variants.{Byte, Over}
+use Rattle.scanner.specs.declared.Datum.the-variants.{Byte, LineEnd, Over}
 use Rattle.scanner.specs.declared.ByteKind.{ByteKind}
 use Rattle.scanner.specs.declared.ByteKind.the-variants.{White, Control, Return, Plain, Open, Close, Quote, Backslash, Mark, Above, OpenBracket, CloseBracket}
 
@@ -62,20 +62,27 @@ dataFrom classes walk (character b p folded ∷ rest) =
 abbrev pub dataAt : List ℕ → List ℕ → ℕ → List ℕ
 dataAt classes text at = dataFrom classes inside (charactersAt text at)
 
--- the first of the data that stand up to a position, with the position after it; where there are none, what comes then
-abbrev pub firstOr : List ℕ → ℕ → Datum → Datum
-firstOr [] end rest = rest
-firstOr (b ∷ more) end rest = Byte b (end - length more)
+-- what a backslash takes, by the character after it
+abbrev pub takenDatum : List Character → Datum
+takenDatum [] = Over
+takenDatum (character b p folded ∷ rest) = pick folded (LineEnd b (p + 1)) (Byte b (p + 1))
 
--- the next byte of data from one of its characters on
-unfoldable pub datumFrom : List ℕ → Walk → List Character → Datum
-datumFrom classes walk [] = Over
-datumFrom classes walk (character b p folded ∷ rest) =
-    firstOr (dataOf walk (characterKind classes b folded) b folded) (p + 1) (datumFrom classes (walked walk (characterKind classes b folded)) rest)
+-- the first of the data of a character, which stand up to a position; where there are none, it is a backslash or the closing quote
+abbrev pub firstOr : List ℕ → ℕ → Walk → List Character → Datum
+firstOr (b ∷ more) end walk rest = Byte b end
+firstOr [] end taking rest = takenDatum rest
+firstOr [] end inside rest = Over
+firstOr [] end over rest = Over
 
--- the next byte of data from a position inside it on
+-- the next of the data from one of its characters on
+unfoldable pub datumFrom : List ℕ → List Character → Datum
+datumFrom classes [] = Over
+datumFrom classes (character b p folded ∷ rest) =
+    firstOr (dataOf inside (characterKind classes b folded) b folded) (p + 1) (walked inside (characterKind classes b folded)) rest
+
+-- the next of the data from a position inside it on
 abbrev pub datumAt : List ℕ → List ℕ → ℕ → Datum
-datumAt classes text at = datumFrom classes inside (charactersAt text at)
+datumAt classes text at = datumFrom classes (charactersAt text at)
 
 -- the meaning of a symbol that stands from `start` to `end`
 abbrev pub meaningAt : List ℕ → List ℕ → Class → ℕ → ℕ → List ℕ
