@@ -164,7 +164,7 @@ fn list_at(start: usize, end: usize) -> Told {
 }
 
 fn scanning(tally: &mut Tally) {
-    let cases: [(&[u8], Told); 10] = [
+    let cases: [(&[u8], Told); 14] = [
         (b"a.[b] \r\n\t\\ )", told(0, 0, 0)),
         (b"a\r\n", told(7, 1, 0)),
         (b"\"\\\r\n\"", told(0, 0, 0)),
@@ -175,6 +175,10 @@ fn scanning(tally: &mut Tally) {
         (b"x\x7F", told(7, 1, 0)),
         (b"\"\\", told(5, 0, 0)),
         (b"\"\\\r\n \"", told(0, 0, 0)),
+        (b"x \"a\\\r\n ", told(5, 2, 0)),
+        (b"\"\\\r\n\t\r", told(7, 5, 0)),
+        (b"\"\\\r\n \\\"", told(5, 0, 0)),
+        (b"\"\\\r\n \x80", told(3, 5, 0)),
     ];
     for (body, wanted) in cases {
         tally.same("scan", reader::scan(body, 0, body.len()), wanted);
@@ -191,10 +195,86 @@ fn writing(tally: &mut Tally) {
         (b"<>,x y<\"q\" , >", b"<>, x y <\"q\">"),
         (b":Postal(c):\"\\a\\\"\n\"", b":Postal: \"a\\\"\\\n\""),
         (b":,;", b":;"),
-        (b"\"\\\r\n \"", b"\" \""),
+        (b"\"a\r\n b\"", b"\"a b\""),
     ];
     for (body, wanted) in cases {
         tally.same("plain", plain(body), wanted.to_vec());
+    }
+}
+
+/// Folds behind a backslash in a quoted-string: its meaning, and how it is
+/// written, which reads back and writes back the same.
+fn kept_line_ends(tally: &mut Tally) {
+    let cases: [(&[u8], &[u8], &[u8]); 19] = [
+        (b"\"a\\\r\n b\"", b"a\r\n b", b"\"a\\\r\\\n b\""),
+        (b"\"a\\\\\r\n b\"", b"a\\ b", b"\"a\\\\ b\""),
+        (b"\"a\\\\\\\r\n \"", b"a\\\r\n ", b"\"a\\\\\\\r\\\n \""),
+        (b"\"a\\\r\r\n b\"", b"a\r b", b"\"a\\\r b\""),
+        (
+            b"\"\\\r\n\t\\\r\n\t\"", b"\r\n\t\r\n\t",
+            b"\"\\\r\\\n\t\\\r\\\n\t\"",
+        ),
+        (b"\"\\\r\nb\"", b"\r\nb", b"\"\\\r\\\nb\""),
+        (b"\"\\\r\n\"", b"\r\n", b"\"\\\r\\\n\""),
+        (b"\"\\\r\n \"", b"\r\n ", b"\"\\\r\\\n \""),
+        (b"\"\\\r\\\n \"", b"\r\n ", b"\"\\\r\\\n \""),
+        (b"\"\\\r\n\r\n \"", b"\r\n ", b"\"\\\r\\\n \""),
+        (b"\"\\\r\n \r\n\t\"", b"\r\n \t", b"\"\\\r\\\n \t\""),
+        (b"\"\r\n \\\r\n\t\"", b" \r\n\t", b"\" \\\r\\\n\t\""),
+        (b"\"\\\r\n \\\"\"", b"\r\n \"", b"\"\\\r\\\n \\\"\""),
+        (b"\"\\\r\n \\\\\"", b"\r\n \\", b"\"\\\r\\\n \\\\\""),
+        (b"\"\\\\\\\\\r\n\t\"", b"\\\\\t", b"\"\\\\\\\\\t\""),
+        (b"\"\\\"\\\r\n \"", b"\"\r\n ", b"\"\\\"\\\r\\\n \""),
+        (b"\"\\\n\\\r\n \"", b"\n\r\n ", b"\"\\\n\\\r\\\n \""),
+        (b"(\\\r\n )\"\\\r\n\t\"", b"\r\n\t", b"\"\\\r\\\n\t\""),
+        (b"\"(\\\r\n )\"", b"(\r\n )", b"\"(\\\r\\\n )\""),
+    ];
+    for (body, meaning, written) in cases {
+        let of = |body: &[u8]| reader::meaning(body, 0, body.len());
+        tally.same("meaning", of(body), Some(meaning.to_vec()));
+        tally.same("written", plain(body), written.to_vec());
+        tally.same("meaning of what is written", of(written), Some(meaning.to_vec()));
+        tally.same("written again", plain(written), written.to_vec());
+    }
+    let record = vec![1, 0, 0, 0, 0, 0, 0, 10, 0, 0, 0, 8];
+    tally.same("places", list(b"\"a\\\r\n b\"@c"), (told(0, 0, 1), record));
+    let words = b"<\"\\\r\n \" x@\"\\\r\n\ty\">";
+    let written = b"<\"\\\r\\\n \" x at \"\\\r\\\n\ty\">";
+    tally.same("in a name and a node", plain(words), written.to_vec());
+    let cut_off = b" \"a\\\r\n b\"";
+    for end in 3..9 {
+        let answer = reader::plain(cut_off, 1, end, &mut [0; 20]);
+        tally.same("cut off", answer, told(5, 1, 0));
+    }
+    tally.same("not cut off", reader::plain(cut_off, 1, 9, &mut [0; 20]), told(0, 0, 9));
+    for room in 7..11 {
+        let answer = reader::plain(cut_off, 1, 9, &mut vec![0; room]);
+        tally.same("room", answer, told(if room < 9 { 11 } else { 0 }, 0, 9));
+    }
+}
+
+/// Which folds a body has behind a backslash.
+fn folds(tally: &mut Tally) {
+    let cases: [(&[u8], [u8; 4]); 14] = [
+        (b"\"\\\r\n \"", [1, 0, 0, 0]),
+        (b"\"\\\r\n\t\"", [0, 1, 0, 0]),
+        (b"\"\\\\\r\n \"", [0, 0, 1, 0]),
+        (b"\"\\\\\\\r\n\t\"", [0, 1, 0, 0]),
+        (b"(\\\r\n )", [0, 0, 0, 1]),
+        (b"((\")\\\r\n\t)", [0, 0, 0, 1]),
+        (b"(\\\\\r\n )", [0; 4]),
+        (b"\\\r\n ", [0; 4]),
+        (b"\"\\\r\nb\"", [0; 4]),
+        (b"\"\\\r\r\n b\"", [0; 4]),
+        (b"\"\r\n \"", [0; 4]),
+        (b"\"\\\r\n ", [0; 4]),
+        (b"\"\\\r\n \\\r\n\t\"(\\\r\n )", [1, 1, 0, 1]),
+        (b"\"\\\\\r\n\t\"\"\\\r\n \"", [1, 0, 1, 0]),
+    ];
+    for (body, wanted) in cases {
+        let message = [b"\\", body].concat();
+        let found = reader::folds(&message, 1, message.len());
+        tally.same("folds", (body, found), (body, wanted.map(|times| times > 0)));
     }
 }
 
@@ -205,12 +285,15 @@ fn equal(one: &[u8], other: &[u8]) -> Option<bool> {
 
 /// Bodies with the same addresses, and bodies that are not accepted.
 fn equal_addresses(tally: &mut Tally) {
-    let same: [(&[u8], &[u8]); 10] = [
+    let same: [(&[u8], &[u8]); 13] = [
         (b"a@b", b"a AT (x) b,"),
         (b"\"\\a\"@b", b"\"a\"@b"),
         (b"", b",(c),"),
         (b"\"a\r\n b\"", b"\"a b\""),
-        (b"\"\\\r\n \"", b"\" \""),
+        (b"\"\\\r\n \"", b"\"\\\r\\\n \""),
+        (b"\"\\\r\n\t\"", b"\"\\\r\\\n\\\t\""),
+        (b"\"\\\r\n \"@b", b"\"\\\r\n\r\n \" at (c) b"),
+        (b"\"\\\\\r\n \"", b"\"\\\\ \""),
         (b"\"\\\n\"", b"\"\n\""),
         (b"x\ty<a@b>", b"x(c)y <,a at b, ,>"),
         (b":,A:;;", b" : ,, A : ,; ;"),
@@ -239,7 +322,7 @@ fn equal_addresses(tally: &mut Tally) {
 
 /// Bodies with other addresses, each asked both ways.
 fn other_addresses(tally: &mut Tally) {
-    let other: [(&[u8], &[u8]); 26] = [
+    let other: [(&[u8], &[u8]); 31] = [
         (b"a@b", b"\"a\"@b"),
         (b"a@b", b"a@\"b\""),
         (b"A@b", b"a@b"),
@@ -265,7 +348,12 @@ fn other_addresses(tally: &mut Tally) {
         (b"a@b,c@d", b"c@d,a@b"),
         (b"<a@b,c@d>", b"<a@b>,c@d"),
         (b"x:y:;,z:;;", b"x:y:z:;;;"),
-        (b"\"\\\r\\\n \"", b"\"\\\r\n \""),
+        (b"\"\\\r\n \"", b"\" \""),
+        (b"\"\\\r\n \"", b"\"\r\n \""),
+        (b"\"\\\r\n \"", b"\"\\\r\n\t\""),
+        (b"\"\\\r\n \"", b"\"\\\r\n\""),
+        (b"\"\\\r\n \"", b"\"\\\\\r\n \""),
+        (b"\"\\\r\n b\"@c", b"\"\\\r\nb\"@c"),
     ];
     for (one, two) in other {
         tally.same("other addresses", equal(one, two), Some(false));
@@ -371,7 +459,7 @@ fn names_where_refused(tally: &mut Tally) {
 /// What a byte is, and the records around it.
 fn touched_bytes(tally: &mut Tally) {
     let (white, comment, word, at, mark) = (1, 2, 3, 4, 5);
-    let cases: [(&str, usize, u64, &[u64]); 33] = [
+    let cases: [(&str, usize, u64, &[u64]); 35] = [
         ("g:<a@b>,;", 4, mark, &[2, 1, 0]),
         ("g:<a@b>,;", 7, mark, &[0]),
         ("g:<a@b>,;", 0, word, &[0]),
@@ -395,6 +483,8 @@ fn touched_bytes(tally: &mut Tally) {
         ("\"at\"@b", 4, mark, &[0]),
         ("\"a\r\n b\"", 2, word, &[0]),
         ("\"a\r\n b\"", 3, word, &[0]),
+        ("\"a\\\r\n b\"", 3, word, &[0]),
+        ("\"a\\\r\n b\"", 5, word, &[0]),
         ("<(a\r\n b(\\)))>", 3, comment, &[0]),
         ("<(a\r\n b(\\)))>", 9, comment, &[0]),
         ("<(a\r\n b(\\)))>", 11, comment, &[0]),
@@ -512,6 +602,7 @@ fn joined_lists(tally: &mut Tally) {
         (":Postal: g: :Include: a at x;", "m@h", ":Postal: g: m at h;"),
         ("g: <\"q\", :Include: a at x>, \"r\";", "m@h", "g: <\"q\", m at h>, \"r\";"),
         (":Include: a at x", ":Postal: \"\\\\\\a\"", ":Postal: \"\\\\a\""),
+        (":Include: a at x", "\"\\\r\n b\", \"\r\n \"", "\"\\\r\\\n b\", \" \""),
         (":iNCLUDE:(c)\r\n a(d)@x(e)", "(f) m\r\n\t@h", "m at h"),
         (":Include: Our Lists <a at x>", "m@h", "m at h"),
         (":Include: \"Our\" <,a at x,,>", "m@h", "m at h"),
@@ -600,6 +691,19 @@ fn stored_names(tally: &mut Tally) {
     let quoted = record(b"\"a b\\\"\" c at \"at\"", b"m@h");
     let spelt = ":Include: \"\\a\r\n b\\\"\"\tc @ \"at\"";
     tally.same("quoted words", expand(spelt, &quoted), opened("m at h", 1));
+    let two = store(&[("\"a b\" at x", "p@p"), ("\"a\\\r\\\n b\" at x", "q@q")]);
+    for (name, wanted) in [
+        ("\"a b\"", "p at p"), ("\"a\r\n b\"", "p at p"), ("\"a\\\r\n b\"", "q at q"),
+        ("\"a\\\r\\\n b\"", "q at q"),
+    ] {
+        tally.same(name, expand(&format!(":Include: {name}@x"), &two), opened(wanted, 1));
+    }
+    let tab = ":Include: \"a\\\r\n\tb\"@x";
+    tally.same("line end and HTAB", expand(tab, &two), halted(19, 0, 0));
+    let kept = expand(":Include: \"a\\\r\n b\"@x", &two[..512]);
+    tally.same("line end kept", kept, halted(19, 0, 0));
+    let dropped = expand(":Include: \"a\r\n b\"@x", &two[512..]);
+    tally.same("line end dropped", dropped, halted(19, 0, 0));
     let whole = record(b"a at x", b"m@h");
     tally.same("store of nothing", expand(X, b""), halted(19, 0, 0));
     tally.same("tail only", expand(X, &whole[..511]), halted(19, 0, 0));
@@ -620,6 +724,8 @@ fn refused_lists(tally: &mut Tally) {
         ("i@j\0".to_string(), 7),
         (filled("i@j", "\r\n"), 7),
         (filled("i@j", "\""), 5),
+        (filled("i@j,", "\"\\\r\n"), 5),
+        (filled("i@j,", "\"\\\r\n "), 5),
         ("x".to_string(), 9),
         ("a at b c".to_string(), 8),
         (";".to_string(), 8),
@@ -793,7 +899,7 @@ fn records822(tally: &mut Tally) {
 
 /// Lists by RFC 822, shown as texts.
 fn lists822(tally: &mut Tally) {
-    let cases: [(&str, &[(u8, u8, usize, &str, &str)]); 19] = [
+    let cases: [(&str, &[(u8, u8, usize, &str, &str)]); 21] = [
         ("", &[]),
         (", (c),", &[]),
         ("at@at", &[(1, 0, 0, "at@at", "at")]),
@@ -808,6 +914,8 @@ fn lists822(tally: &mut Tally) {
         ("a@[\"(]", &[(1, 0, 0, "a@[\"(]", "a")]),
         ("a@[\\\r\\\n\r\n \0\u{7F}]", &[(1, 0, 0, "a@[\\\r\\\n\r\n \0\u{7F}]", "a")]),
         ("a@[\\\r\n ]", &[(1, 0, 0, "a@[\\\r\n ]", "a")]),
+        ("a@[\\\r\n\t\\]]", &[(1, 0, 0, "a@[\\\r\n\t\\]]", "a")]),
+        ("\"\\\r\n \".b@c", &[(1, 0, 0, "\"\\\r\n \".b@c", "\"\\\r\n \".b")]),
         ("([)\"[\"@a", &[(1, 0, 0, "\"[\"@a", "\"[\"")]),
         ("at At<aT@AT>", &[(2, 0, 0, "at At<aT@AT>", "at At"), (1, 1, 1, "aT@AT", "aT")]),
         ("x<@[1].a:b.c@d>", &[(2, 0, 0, "x<@[1].a:b.c@d>", "x"), (1, 1, 1, "b.c@d", "b.c")]),
@@ -853,7 +961,7 @@ fn refused822(tally: &mut Tally) {
 
 /// Faults of scanning by RFC 822, in scanning order.
 fn scanning822(tally: &mut Tally) {
-    let cases: [(&[u8], (u64, u64)); 33] = [
+    let cases: [(&[u8], (u64, u64)); 36] = [
         (b"[", (23, 0)), (b"a@[1[2]", (23, 2)), (b"a b [", (23, 4)), (b") [", (23, 2)),
         (b"a@[\\]", (23, 2)), (b"a@[\\", (23, 2)), (b"a@[[\xFF", (23, 2)), (b"a@[\xFF[", (3, 3)),
         (b"a@[\r]", (7, 3)), (b"a@[[\r", (23, 2)), (b"a@[\r[", (7, 3)), (b"a@[\\\xFF]", (3, 4)),
@@ -862,7 +970,8 @@ fn scanning822(tally: &mut Tally) {
         (b"\"[\"[", (23, 3)), (b"a[b]c[", (23, 5)), (b"a[[b", (23, 1)), (b"[\\[[", (23, 0)),
         (b"[] [a[ \"", (23, 3)), (b"] \x80", (3, 2)), (b"] \x7F", (7, 2)), (b"].\n", (7, 2)),
         (b"\"\r[", (7, 1)), (b"[\\\r\n \r", (7, 5)), (b"\x7F[", (7, 0)), (b"a.\xFF", (3, 2)),
-        (b"[\\\\[]", (23, 0)),
+        (b"[\\\\[]", (23, 0)), (b"[\\\r\n [", (23, 0)), (b"a@[\\\r\n", (23, 2)),
+        (b"\"\\\r\n [", (5, 0)),
     ];
     for (body, (number, place)) in cases {
         tally.same("scanning by RFC 822", list822(body).0, told(number, place, 0));
@@ -1048,6 +1157,8 @@ fn main() {
     records(&mut tally);
     scanning(&mut tally);
     writing(&mut tally);
+    kept_line_ends(&mut tally);
+    folds(&mut tally);
     equal_addresses(&mut tally);
     other_addresses(&mut tally);
     comment_places(&mut tally);

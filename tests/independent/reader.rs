@@ -252,7 +252,8 @@ pub fn comment_end(bytes: &[Placed], open: usize) -> Result<usize, Fault> {
     Err((6, bytes[open].0))
 }
 
-/// The quoted-string that opens at `open` and the index behind it.
+/// The quoted-string that opens at `open` and the index behind it. Where the
+/// CRLF of a fold was right behind a backslash that takes, CR and LF are data.
 pub fn quoted(bytes: &[Placed], open: usize) -> Result<(Symbol, usize), Fault> {
     let start = bytes[open].0;
     let mut meaning = Vec::new();
@@ -261,6 +262,9 @@ pub fn quoted(bytes: &[Placed], open: usize) -> Result<(Symbol, usize), Fault> {
         if byte == b'"' && !taken {
             let end = bytes[i].0 + 1;
             return Ok((Symbol { sort: Sort::Quoted, start, end, meaning }, next));
+        }
+        if taken && bytes[i + 1].0 > bytes[i].0 + 1 {
+            meaning.extend([CR, LF]);
         }
         meaning.push(byte);
         i = next;
@@ -274,6 +278,11 @@ pub fn scan(message: &[u8], start: usize, end: usize) -> Told {
         Err(fault) => refused(fault),
         Ok(_) => accepted(0),
     }
+}
+
+/// The meaning of the first symbol of a body that scans without fault.
+pub fn meaning(message: &[u8], start: usize, end: usize) -> Option<Vec<u8>> {
+    Some(symbols(message, start, end).ok()?.first()?.meaning.clone())
 }
 
 /// The comments of a body, nested ones too, that are closed before the first
@@ -329,6 +338,35 @@ fn comment_step(
 pub fn is_comment(bytes: &[u8]) -> bool {
     let no_symbol = symbols(bytes, 0, bytes.len()).is_ok_and(|found| found.is_empty());
     no_symbol && comments(bytes, 0, bytes.len()).contains(&(0, bytes.len()))
+}
+
+/// Folds right behind a backslash, by what becomes of their CRLF.
+pub const FOLDS: [&str; 4] = [
+    "line end kept, SPACE", "line end kept, HTAB", "fold behind a taken backslash",
+    "fold behind a backslash, comment",
+];
+
+/// Which of `FOLDS` a body that scans without fault has. Of a row of
+/// backslashes each second one is taken.
+pub fn folds(message: &[u8], start: usize, end: usize) -> [bool; 4] {
+    let mut found = [false; 4];
+    let symbols = symbols(message, start, end).unwrap_or_default();
+    let comments = comments(message, start, end);
+    let body = message.get(start..end).unwrap_or_default();
+    for i in 0..body.len() {
+        let [b'\\', CR, LF, white @ (b' ' | b'\t'), ..] = body[i..] else { continue };
+        let row = body[..=i].iter().rev().take_while(|byte| **byte == b'\\').count();
+        let within = |from, behind| from < start + i && start + i < behind;
+        let in_quotes = |s: &Symbol| s.sort == Sort::Quoted && within(s.start, s.end);
+        let fold = match row % 2 {
+            1 if comments.iter().any(|c| within(c.0, c.1)) => 3,
+            _ if !symbols.iter().any(in_quotes) => continue,
+            0 => 2,
+            _ => usize::from(white == b'\t'),
+        };
+        found[fold] = true;
+    }
+    found
 }
 
 // ------------------------------------------------------------- addresses
