@@ -130,31 +130,47 @@ const QUOTED: [&[u8]; 14] = [
     b"\"\\\r\"", b"\"\\\r\n \"", b"\"a\r\n b\"", b"\"\x00\t\x7F\"", b"\"\\\n\\a\"", b"\"<:;>,@\"",
 ];
 
-const SPACES: [&[u8]; 10] = [
+/// What a quoted-string may hold, in any order, and still be closed by its
+/// last quote: backslashes with what they take, and folds.
+const PIECES: [&[u8]; 14] = [
+    b"a", b" ", b"\n", b"\\a", b"\\\\", b"\\\"", b"\\\r", b"\\\n", b"\\\r\n", b"\\\r\n ",
+    b"\\\r\n ", b"\\\r\n\t", b"\r\n ", b"\r\n\t",
+];
+
+/// A quoted-string of few pieces, or one of a table.
+fn quoted(rng: &mut Rng) -> Vec<u8> {
+    if !rng.once_in(3) {
+        return rng.pick(&QUOTED).to_vec();
+    }
+    let inner: Vec<u8> = (0..1 + rng.below(4)).flat_map(|_| rng.pick(&PIECES).to_vec()).collect();
+    [b"\"", &inner[..], b"\""].concat()
+}
+
+const SPACES: [&[u8]; 11] = [
     b" ", b"\t", b"  ", b"\r\n ", b"\r\n\t", b"(c)", b"(a(b)\")", b"(\\)\r\n \\()", b" \r\n \r\n ",
-    b"(\n\x01)",
+    b"(\n\x01)", b"(\\\r\n )",
 ];
 
 const MARKS: [&[u8]; 10] =
     [b"at", b"AT", b"aT", b"@", b"<", b">", b":", b";", b",", b":A:"];
 
-const FAULTS: [&[u8]; 16] = [
+const FAULTS: [&[u8]; 19] = [
     b")", b"\\", b"\"", b"(", b"\r", b"\n", b"\r\n", b"\x00", b"\x7F", b"\x80", b"\xFF",
-    b"\"\r\"", b"\"\\\x80\"", b"(\r)", b"\"a\r\nb\"", b"(\\",
+    b"\"\r\"", b"\"\\\x80\"", b"(\r)", b"\"a\r\nb\"", b"(\\", b"\"\\\r\n", b"\"\\\r\n\x80\"",
+    b"\"\\\\\r\n\"",
 ];
 
 /// Tokens of every sort, faulty ones now and then.
 fn tokens(rng: &mut Rng) -> Vec<u8> {
     let mut out = Vec::new();
     for _ in 0..rng.below(16) {
-        let token = match rng.below(20) {
-            0..=4 => rng.pick(&WORDS),
-            5..=6 => rng.pick(&QUOTED),
-            7..=10 => rng.pick(&SPACES),
-            19 if rng.once_in(2) => rng.pick(&FAULTS),
-            _ => rng.pick(&MARKS),
-        };
-        out.extend_from_slice(token);
+        match rng.below(20) {
+            0..=4 => out.extend_from_slice(rng.pick(&WORDS)),
+            5..=6 => out.extend(quoted(rng)),
+            7..=10 => out.extend_from_slice(rng.pick(&SPACES)),
+            19 if rng.once_in(2) => out.extend_from_slice(rng.pick(&FAULTS)),
+            _ => out.extend_from_slice(rng.pick(&MARKS)),
+        }
     }
     out
 }
@@ -221,7 +237,7 @@ fn add_address(rng: &mut Rng, out: &mut Tokens, budget: &mut usize, depth: usize
     *budget = budget.saturating_sub(1);
     let choice = if *budget == 0 || depth > 20 { rng.below(2) } else { rng.below(7) };
     match choice {
-        0 => add(out, rng.pick(&QUOTED)),
+        0 => out.push(quoted(rng)),
         1 => add_mailbox(rng, out),
         2 | 3 => {
             add_phrase(rng, out, true);
@@ -256,8 +272,8 @@ fn add_mailbox(rng: &mut Rng, out: &mut Tokens) {
 }
 
 fn add_word(rng: &mut Rng, out: &mut Tokens) {
-    let word = if rng.once_in(4) { rng.pick(&QUOTED) } else { rng.pick(&WORDS) };
-    add(out, word);
+    let word = if rng.once_in(4) { quoted(rng) } else { rng.pick(&WORDS).to_vec() };
+    out.push(word);
 }
 
 fn add_phrase(rng: &mut Rng, out: &mut Tokens, optional: bool) {
@@ -728,13 +744,14 @@ fn data(token: &[u8]) -> Vec<u8> {
     }
     let mut out = Vec::new();
     let mut rest = &token[1..token.len() - 1];
-    let mut taken = false;
+    let mut takes = false;
     while !rest.is_empty() {
         if let [b'\r', b'\n', b' ' | b'\t', ..] = rest {
-            rest = &rest[2..];
+            out.extend_from_slice(if takes { b"\r\n" } else { b"" });
+            (takes, rest) = (false, &rest[2..]);
         }
-        taken = rest[0] == b'\\' && !taken;
-        if !taken {
+        takes = rest[0] == b'\\' && !takes;
+        if !takes {
             out.push(rest[0]);
         }
         rest = &rest[1..];
@@ -742,18 +759,27 @@ fn data(token: &[u8]) -> Vec<u8> {
     out
 }
 
-/// A quoted-string of that data, with backslashes and folds at random.
+/// A quoted-string of that data, with backslashes and folds at random. CR, LF
+/// and white space are a backslash and a fold, or each is written by itself.
 fn quote(rng: &mut Rng, data: &[u8]) -> Vec<u8> {
+    let white = |byte: Option<&u8>| byte.is_some_and(|b| b" \t".contains(b));
     let mut out = vec![b'"'];
-    for &byte in data {
-        let needed = b"\"\\\r".contains(&byte) || out.last() == Some(&b'\r');
-        if needed || rng.once_in(5) {
+    let mut rest = data;
+    while let [byte, behind @ ..] = rest {
+        if rest.starts_with(b"\r\n") && white(rest.get(2)) && rng.once_in(2) {
+            out.push(b'\\');
+            out.extend_from_slice(&rest[..3]);
+            rest = &rest[3..];
+            continue;
+        }
+        let would_fold = out.last() == Some(&b'\r') && *byte == b'\n' && white(behind.first());
+        if white(Some(byte)) && rng.once_in(4) {
+            out.extend_from_slice(b"\r\n");
+        } else if would_fold || b"\"\\\r".contains(byte) || rng.once_in(5) {
             out.push(b'\\');
         }
-        if b" \t".contains(&byte) && rng.once_in(4) {
-            out.extend_from_slice(b"\r\n");
-        }
-        out.push(byte);
+        out.push(*byte);
+        rest = behind;
     }
     out.push(b'"');
     out
@@ -792,16 +818,32 @@ fn flip_case(rng: &mut Rng, token: &mut [u8]) {
     }
 }
 
-/// Changes a word: a letter's case, its quotes, or one byte of its data.
+/// Takes a CRLF out of data, or puts one in before white space.
+fn alter_line_end(rng: &mut Rng, inner: &mut Vec<u8>) {
+    let line_end = find(rng, inner.len(), &|i| inner[i..].starts_with(b"\r\n"));
+    let white = find(rng, inner.len(), &|i| b" \t".contains(&inner[i]));
+    match (line_end, white) {
+        (Some(i), _) => drop(inner.drain(i..i + 2)),
+        (_, Some(i)) => drop(inner.splice(i..i, *b"\r\n")),
+        _ => inner.extend_from_slice(b"\r\n "),
+    }
+}
+
+/// Changes a word: a letter's case, its quotes, one byte or a line end of its
+/// data.
 fn alter_word(rng: &mut Rng, token: &mut Vec<u8>) {
     let mut inner = data(token);
     let at = rng.below(inner.len());
-    match rng.below(6) {
+    match rng.below(7) {
         0 | 1 => flip_case(rng, token),
         2 | 3 if is_quoted(token) && inner.iter().all(|b| touches(Some(b))) => *token = inner,
         2 | 3 => *token = quote(rng, &inner),
         4 if is_quoted(token) && !inner.is_empty() => {
             inner[at] ^= 1 << rng.below(7);
+            *token = quote(rng, &inner);
+        }
+        5 if is_quoted(token) => {
+            alter_line_end(rng, &mut inner);
             *token = quote(rng, &inner);
         }
         _ if is_quoted(token) => {
@@ -934,7 +976,8 @@ fn list_name(rng: &mut Rng) -> Tokens {
     let mut out = Tokens::new();
     match rng.below(12) {
         0..=5 => {
-            let words: [&[u8]; 5] = [b"a", b"b", b"A", b"\"a\"", b"c"];
+            let words: [&[u8]; 7] =
+                [b"a", b"b", b"A", b"\"a\"", b"c", b"\"\\\r\n \"", b"\"\r\n \""];
             add_each(&mut out, &[rng.pick(&words), b"@", rng.pick(&words)]);
         }
         6 => {
@@ -1043,7 +1086,7 @@ fn add_including(
     let types: [&[u8]; 3] = [b"Postal", b"File", b"x"];
     match if *budget == 0 { rng.below(6) } else { rng.below(11) } {
         0..=3 if !names.is_empty() => add_include(rng, out, names, faults),
-        0 => add(out, rng.pick(&QUOTED)),
+        0 => out.push(quoted(rng)),
         1..=3 => add_mailbox(rng, out),
         4 | 5 => add_each(out, &[b"A", b":", b";"]),
         6 | 7 => {
@@ -1178,14 +1221,16 @@ fn record(rng: &mut Rng, scene: &Scene, number: usize) -> Vec<u8> {
     let mut name = mailbox_text(&scene.names[number]);
     if rng.once_in(scene.faults.min(12)) {
         let at = rng.below(name.len());
-        match rng.below(8) {
-            0 => name.push(b' '),
-            1 => flip_case(rng, &mut name),
-            2 => name.push(b'x'),
-            3 => drop(name.pop()),
-            4 => name.insert(at, 0),
-            5 => name.resize(64, b' '),
-            6 => name.insert(0, b' '),
+        let line_end = find(rng, name.len(), &|i| name[i..].starts_with(b"\\\r\\\n"));
+        match (rng.below(8), line_end) {
+            (0..=3, Some(i)) => drop(name.drain(i..i + 4)),
+            (0, _) => name.push(b' '),
+            (1, _) => flip_case(rng, &mut name),
+            (2, _) => name.push(b'x'),
+            (3, _) => drop(name.pop()),
+            (4, _) => name.insert(at, 0),
+            (5, _) => name.resize(64, b' '),
+            (6, _) => name.insert(0, b' '),
             _ => name.extend_from_slice(b"\0 "),
         }
     }
@@ -1242,7 +1287,7 @@ fn stored_list(rng: &mut Rng, scene: &Scene, number: usize) -> Vec<u8> {
 
 /// A list that is most often refused.
 fn refused_list(rng: &mut Rng) -> Vec<u8> {
-    match rng.below(8) {
+    match rng.below(9) {
         0 => bytes(rng, 40),
         1 => tokens(rng),
         2 => symbols(rng),
@@ -1252,6 +1297,7 @@ fn refused_list(rng: &mut Rng) -> Vec<u8> {
             let valid = list(rng);
             mutate(rng, valid)
         }
+        6 => [&[b' '; 444], &b"\"\\\r\n"[..]].concat(),
         _ => [&list(rng)[..], b",", rng.pick(&FAULTS)].concat(),
     }
 }
@@ -1262,21 +1308,24 @@ const ATOMS822: [&[u8]; 12] = [
     b"x", b"y", b"at", b"AT", b"aT", b"att", b"Include", b"1", b"-", b"~!#", b"}", b"a/b",
 ];
 
-const QUOTED822: [&[u8]; 8] = [
+const QUOTED822: [&[u8]; 11] = [
     b"\"\"", b"\"q\"", b"\"at\"", b"\"[\"", b"\"].[\"", b"\"\\\"\"", b"\"a\r\n b\"", b"\"<:;>,@\"",
+    b"\"\\\r\n \"", b"\"\\\\\r\n\t\"", b"\"\\\r\n\t\\\"\"",
 ];
 
-const LITERALS: [&[u8]; 16] = [
+const LITERALS: [&[u8]; 18] = [
     b"[]", b"[1]", b"[10.0.3.19]", b"[\\[]", b"[\\]]", b"[\\\\]", b"[\"]", b"[(]", b"[)]",
     b"[a\r\n b]", b"[\\\r\n ]", b"[\n]", b"[\\\r]", b"[\\\r\n]", b"[\x00\t\x7F]", b"[ <a@b>, c:; ]",
+    b"[\\\r\n\t\\]]", b"[\\\\\r\n ]",
 ];
 
 const MARKS822: [&[u8]; 11] =
     [b"@", b"@", b".", b".", b"<", b">", b":", b";", b",", b"<@", b"x@y"];
 
-const FAULTS822: [&[u8]; 18] = [
+const FAULTS822: [&[u8]; 20] = [
     b"[", b"]", b"[[]", b"[a[", b"[\r]", b"[\x80]", b"[\\\x80]", b"[\x80[", b"[[\x80", b"[\\",
     b"[\\]", b"[\"[\"]", b"[(])", b"[\\\\[]", b"[\r\n]", b"[\r\n ", b"[[\r", b"[\r[",
+    b"[\\\r\n [", b"[\\\r\n",
 ];
 
 /// Whether a byte belongs to an atom by RFC 822.
@@ -1685,7 +1734,8 @@ fn reply(rng: &mut Rng) -> Vec<u8> {
 
 // ------------------------------------------------------------ positions
 
-/// Puts a body into a message and chooses its start and end.
+/// Puts a body into a message and chooses its start and end; now and then it
+/// ends within a fold behind a backslash.
 pub fn place(rng: &mut Rng, body: Vec<u8>) -> (Vec<u8>, usize, usize) {
     let bare = body.len() > 30_000 && !rng.once_in(4);
     if bare || rng.once_in(3) {
@@ -1697,6 +1747,10 @@ pub fn place(rng: &mut Rng, body: Vec<u8>) -> (Vec<u8>, usize, usize) {
     let end = start + body.len();
     let behind: [&[u8]; 8] = [b"", b"\r\n", b" ", b"\n ", b"\"", b")", b"x", b"\xC8"];
     let message = [&before[..], &body[..], rng.pick(&behind)].concat();
+    let fold = find(rng, body.len(), &|i| body[i..].starts_with(b"\\\r\n"));
+    if let (Some(i), 0) = (fold, rng.below(12)) {
+        return (message, start, start + i + 1 + rng.below(3));
+    }
     if !rng.once_in(8) {
         return (message, start, end);
     }

@@ -423,6 +423,7 @@ fn compare_body(rng: &mut Rng, case: &Case, seen: &mut Seen) -> u64 {
     if told.number == 0 {
         round_trip(case);
     }
+    seen.count_folds(case, told.number);
     compare_touch(rng, case, told.number, &mut seen.touches);
     let edition = inputs::edition(rng);
     compare_edition(rng, case, edition, &mut seen.editions);
@@ -564,6 +565,8 @@ struct Expansions {
     unread: u64,
     /// Accepted with a comma that only the expanded list needs.
     commas: u64,
+    /// Accepted with line ends in the expanded list only, and in the body only.
+    line_ends: [u64; 2],
 }
 
 impl Expansions {
@@ -587,9 +590,14 @@ impl Expansions {
                 self.own_later += some as u64;
             }
         }
-        let comma = |text: &[u8]| text.windows(3).any(|part| part == b":, ");
-        let before = comma(&proved_plain(case.message, case.start, case.end));
-        self.commas += u64::from(number == 0 && comma(text) && !before);
+        let before = proved_plain(case.message, case.start, case.end);
+        let has = |text: &[u8], part: &[u8]| text.windows(part.len()).any(|found| found == part);
+        let only = |one: &[u8], other: &[u8], part| {
+            u64::from(number == 0 && has(one, part) && !has(other, part))
+        };
+        self.commas += only(text, &before, b":, ");
+        self.line_ends[0] += only(text, &before, b"\\\r\\\n ");
+        self.line_ends[1] += only(&before, text, b"\\\r\\\n ");
     }
 
     /// Each tally with its name.
@@ -597,6 +605,8 @@ impl Expansions {
         let mut all = vec![
             ("expanded, body refused".to_string(), self.unread),
             ("expanded, comma put in".to_string(), self.commas),
+            ("expanded, line end put in".to_string(), self.line_ends[0]),
+            ("expanded, line end taken out".to_string(), self.line_ends[1]),
             ("expanded, refused 20".to_string(), self.spent),
             ("expanded, too deep, no opening".to_string(), self.too_deep[0]),
             ("expanded, too deep, some openings".to_string(), self.too_deep[1]),
@@ -709,6 +719,13 @@ struct Seen {
     full_typed: u64,
     /// Bodies where several typed addresses end at once, by what ends them.
     ended: [u64; 4],
+    /// Accepted bodies with folds behind a backslash, by what becomes of them.
+    folds: [u64; 4],
+    /// Quoted-strings that end in such a fold, its white space outside.
+    cut_folds: u64,
+    /// Pairs of which one has line ends kept by folds and the other has none,
+    /// with other addresses and with the same.
+    kept_in_one: [u64; 2],
 }
 
 impl Seen {
@@ -733,6 +750,12 @@ impl Seen {
         for ((end, _), times) in reader::ENDS.iter().zip(self.ended) {
             all.push((format!("typed ones ended together, by {end}"), times));
         }
+        for (fold, times) in reader::FOLDS.iter().zip(self.folds) {
+            all.push((fold.to_string(), times));
+        }
+        all.push(("fold behind a backslash, cut off".to_string(), self.cut_folds));
+        all.push(("line end kept in one, other pairs".to_string(), self.kept_in_one[0]));
+        all.push(("line end kept in one, same pairs".to_string(), self.kept_in_one[1]));
         all.extend(self.touches.tallies());
         all.extend(self.expansions.tallies());
         all.extend(self.editions.tallies());
@@ -747,6 +770,19 @@ impl Seen {
         self.full_typed += u64::from(levels.full_typed);
         for (times, ended) in self.ended.iter_mut().zip(levels.ended) {
             *times += u64::from(ended);
+        }
+    }
+
+    /// Counts the folds of a body that stand behind a backslash.
+    fn count_folds(&mut self, case: &Case, number: u64) {
+        if number == 0 {
+            let found = reader::folds(case.message, case.start, case.end);
+            self.folds.iter_mut().zip(found).for_each(|(times, has)| *times += u64::from(has));
+        }
+        if number == 5 {
+            let (body, behind) = case.message.split_at(case.end);
+            let white = behind.first().is_some_and(|byte| b" \t".contains(byte));
+            self.cut_folds += u64::from(white && body.ends_with(b"\\\r\n"));
         }
     }
 
@@ -818,6 +854,13 @@ fn compare_pair(rng: &mut Rng, seed: u64, seen: &mut Seen) -> u64 {
         None => seen.unread += 1,
         Some(true) => seen.same += 1,
         Some(false) => seen.different += 1,
+    }
+    let kept = [&left, &right].map(|case| {
+        let found = reader::folds(case.message, case.start, case.end);
+        found[0] || found[1]
+    });
+    if let (Some(same), true) = (wanted, kept[0] != kept[1]) {
+        seen.kept_in_one[usize::from(same)] += 1;
     }
     if numbers.0 != 0 { numbers.0 } else { numbers.1 }
 }
