@@ -72,12 +72,24 @@ refused("no CRLF", lambda: rfc733.fields(b"To"), 4, 2)
 same("plain", rfc733.plain(b"a@b,,x<c @ d>"), b"a at b, x <c at d>")
 same("plain group", rfc733.plain(b":,A:;,B:;;"), b":, A:;, B:;;")
 refused("plain of no list", lambda: rfc733.plain(b"<a at b"), 9, 7)
+# a quoted line end is kept, and what is written reads back the same; other folds are dropped
+for body, text in (
+    (b'"a\\\r\n b"', b'"a\\\r\\\n b"'),
+    (b'x@"\\\r\n\t"', b'x at "\\\r\\\n\t"'),
+    (b'"a\\\\\r\n b"', b'"a\\\\ b"'),
+    (b'(\\\r\n )"a\r\n b"', b'"a b"'),
+):
+    same(f"plain of {body!r}", rfc733.plain(body), text)
+    same(f"plain of {text!r}", rfc733.plain(text), text)
+refused("white byte outside", lambda: rfc733.plain(b'x@"a\\\r\n'), 5, 2)
 equal = rfc733.same_addresses
 same("at and @", equal(b"a@b", b"a AT (x) b,"), True)
 same("quoted word", equal(b"a@b", b'"a"@b'), False)
 same("case of a name", equal(b"A@b", b"a@b"), False)
 same("backslash", equal(b'"\\a"@b', b'"a"@b'), True)
 same("fold in quotes", equal(b'"a\r\n b"', b'"a b"'), True)
+same("line end in quotes", equal(b'"a\\\r\n b"', b'"a\\\r\\\n b"'), True)
+same("line end and fold in quotes", equal(b'"a\\\r\n b"', b'"a\r\n b"'), False)
 same("one node more", equal(b"a@b@c", b"a@b"), False)
 same("angle list and group", equal(b"<a@b>", b":a@b;"), False)
 same("case of a type", equal(b':Include:"x"', b':INCLUDE:"x"'), False)
@@ -247,6 +259,10 @@ opened("64 openings", (X + b",") * 64, record(b"a at x", b"m@h"), b", ".join([b"
 opened("64 levels", X, record(b"a at x", in_angles(64)), in_angles(64), 1)
 opened("zero in a name", b':Include: "\0" at h', record(b'"\0" at h', b'"\0"'), b'"\0"', 1)
 opened("name of 64 bytes", b":Include: " + b"n" * 59 + b"@h", record(b"n" * 59 + b" at h", b"m@h"), b"m at h", 1)
+lines = record(b'" " at x', b'"\r\n "') + record(b'"\\\r\\\n " at x', b'"\\\r\n "')
+opened("fold in a name and a list", b':Include: "\r\n "@x', lines, b'" "', 1)
+opened("line end in a name and a list", b':Include: "\\\r\n "@x', lines, b'"\\\r\\\n "', 1)
+halted("line end in a name", b':Include: "\\\r\n "@x', lines[:512], 19, 0, 0)
 opened("tail left out", X, lists[:512] + lists[:511], b"p at p", 1)
 halted("tail only", X, lists[:511], 19, 0, 0)
 halted("no store", b'"q", ' + X, b"", 19, 5, 0)
@@ -313,6 +329,9 @@ for option in ([], ["--by-table"]):
     same(f"C example {option}", (example.returncode, example.stdout), (0, "address 1 0 0 0 7 0 2  Al\nplain Al at X\n"))
     example = subprocess.run([root / "target/lib/example", *option, "x"], capture_output=True, text=True)
     same(f"C example {option}, refused", (example.returncode, example.stdout), (1, "refused 9 1\n"))
+    example = subprocess.run([root / "target/lib/example", *option, b'"a\\\r\n b"@c'], capture_output=True)
+    wanted = b'address 1 0 0 0 10 0 8  "a\\\r\n b"\nplain "a\\\r\\\n b" at c\n'
+    same(f"C example {option}, line end", (example.returncode, example.stdout), (0, wanted))
 
 
 def c_addresses(message, edition, room=60, start=0, end=None, told_length=3):

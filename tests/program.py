@@ -212,10 +212,11 @@ expect("negative seconds", b"Date: 1 Jan 1900 0000 +0100\r\n", ["field 0 4 5 27"
 expect("empty message", b"", [])
 expect("text behind the empty line", b"To:\r\n\r\nno header\xff\n", ["field 0 2 3 3"])
 
-# line ends: a bare CR, a bare LF, and no CRLF at all
+# line ends: a bare CR, a bare LF, no CRLF at all, and one that is quoted
 expect("bare CR", b"To: a at\rb\r\n", ["field 0 2 3 10", "refused 7 8"])
 expect("bare LF", b"To: a at b\ncc: c at d\r\n", ["field 0 2 3 21", "refused 7 10"])
 expect("missing CRLF", b"To: a at b", ["refused 4 10"])
+expect("quoted line end", b'To: "a\\\r\n b"@c\r\n', ["field 0 2 3 14", "address 1 0 0 4 14 4 12"])
 
 # sizes: the longest message, one byte more, and much more
 expect("32,768 bytes", b"A:" + b"x" * 32764 + b"\r\n", ["field 0 1 2 32766"])
@@ -449,6 +450,7 @@ expect_expanded("names of fields", one, every, b"TO: u at v\nFrom: \nreply-TO: a
 expect_expanded("no field", one, b"", b"", [])
 expect_expanded("an empty store", b"", b"To:u@v\r\ncc: :Include:a@x\r\n", b"To: u at v\n", [f"cc: refused 19 at 12: {nowhere}; openings before: 0"])
 expect_expanded("an LF that is quoted", one, b'To:"a\n"\r\n', b'To: "a\\\n"\n', [])
+expect_expanded("a line end that is quoted", one, b'To:"a\\\r\n b"\r\n', b'To: "a\\\r\\\n b"\n', [])
 
 # refused bodies and headers: the position in the message
 expect_expanded("an open quote", one, b'cc: :Include:a@x\r\nTo:"\r\n', b"cc: m at h\n", ["To: refused 5 at 21: a quoted-string is not closed; openings before: 0"])
