@@ -117,7 +117,14 @@ def addresses_by_table(body):
 
 
 def plain(body):
-    """An address list written plainly, as bytes. Raises `Refused`."""
+    r"""An address list written plainly, as bytes. Raises `Refused`.
+
+    In a quoted-string a line end that stands after a backslash, with white space after it, is data: CR and LF, each
+    written after a backslash of its own. Any other line end there goes, and the white space after it stays:
+
+        plain(b'"a\\\r\n b"')  # b'"a\\\r\\\n b"'
+        plain(b'"a\r\n b"')  # b'"a b"'
+    """
     return _written("rfc733_plain", body, (0, len(body)), 1)
 
 

@@ -15,7 +15,7 @@ use Rattle.scanner.specs.declared.ByteKind.the-variants.{White, Control,
 
 -- ---- scanning by any rule of what a backslash takes
 
--- such a rule: the data by the byte after the backslash, told whether the CRLF of a fold was dropped between
+-- such a rule: what comes of a backslash, by the byte after it and whether the CRLF of a fold stands between
 abbrev pub Taking : Type 0
 Taking = ℕ → Bool → List ℕ
 

@@ -7,7 +7,7 @@ use Rattle.octets.specs.Believed.Choice.{both}
 use Rattle.octets.specs.Believed.Classes.{isWhite}
 use Rattle.octets.specs.Believed.Text.{crlfAt}
 
--- a byte, its position, and whether the CRLF of a fold was dropped right before it
+-- a byte, its position, and whether the CRLF of a fold stands right before it
 pub data Character : Type 0 where
   character : ℕ → ℕ → Bool → Character
 

@@ -156,11 +156,11 @@ take Above state p = halt [] byteAbove127 p
 take OpenBracket state p = go [] state
 take CloseBracket state p = go [] state
 
--- the data from a backslash on in a quoted-string: it takes the next byte; or the CRLF of a fold right after it, and the white space there is a datum by itself
+-- what comes of a backslash in a quoted-string, by the byte b after it: it takes b; or, where the CRLF of a fold stands between, it takes that, and b, white space, is data as ever
 unfoldable pub takenData : ℕ → Bool → List ℕ
 takenData b folded = pick folded (returnByte ∷ lineFeedByte ∷ b ∷ []) (b ∷ [])
 
--- a byte b of a kind, at a position p, in any state; folded, the CRLF of a fold was dropped right before it
+-- a byte b of a kind, at a position p, in any state; folded, the CRLF of a fold stands right before it
 abbrev pub move : State → ByteKind → ℕ → ℕ → Bool → Move
 move outside kind b p folded = moveOutside kind b p
 move (inAtom start end t) kind b p folded = moveInAtom kind start end t b p
