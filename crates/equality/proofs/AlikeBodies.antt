@@ -28,8 +28,9 @@ use Rattle.plain.specs.Believed.Meaning.{meaning}
 use Rattle.plain.specs.Believed.PlainText.{plainText, addressesText}
 use Rattle.plain.specs.Believed.Written.{written, plainOutcome}
 use Rattle.equality.specs.Believed.Exchange.{SameAnswer}
-use Rattle.equality.proofs.Shifts.{AlikeSymbols, no-symbol, one-symbol, AlikeScans, both-ended, both-next, both-fault}
-use Rattle.equality.proofs.Relabels.{derived-alike}
+use Rattle.equality.proofs.Pairs.{no-symbol, one-symbol}
+use Rattle.equality.proofs.Shifts.{AlikeSymbols, alike-keeps, AlikeScans, both-ended, both-next, both-fault}
+use Rattle.equality.proofs.Relabels.{derived-alike, same-lists}
 use Rattle.equality.proofs.Verdicts.{refused-alike}
 
 -- ---- scans that are alike
@@ -81,9 +82,9 @@ module _ {message other : List ℕ} {start end start′ end′ : ℕ} (c : Check
   pub list-again : faultOf (scan (take end′ other) start′) ≡ Accepted 0 → {k : Derivation} → IsList (bodySymbols message start end) k
       → (j : Derivation) × ListBody other start′ end′ j × (meaning j ≡ meaning k) × (count j ≡ count k)
   list-again f l =
-      let r = derived-alike (l .derived) (alike-symbols a) in
+      let r = derived-alike alike-keeps (l .derived) (alike-symbols a) in
       let again : IsList (bodySymbols other start′ end′) (r .again) = record { derived = r .derived; within = omega (arith, r .deep, l .within) } in
-      (r .again, record { clean = record { short = d .short; ordered = d .ordered; inside = d .inside; faultless = f }; list = again }, r .means, r .counted)
+      (r .again, record { clean = record { short = d .short; ordered = d .ordered; inside = d .inside; faultless = f }; list = again }, same-lists (r .alike), r .counted)
 
   by-verdict : faultOf (scan (take end message) start) ≡ Accepted 0 → faultOf (scan (take end′ other) start′) ≡ Accepted 0 → (v : Verdict Class Derivation) → answer levelLimit (bodySymbols message start end) ≡ v → Alike message start end other start′ end′
   by-verdict f g (accepted k) e =
@@ -92,7 +93,7 @@ module _ {message other : List ℕ} {start end start′ end′ : ℕ} (c : Check
       let (j, b, m, n) = list-again g l in
       both-listed k j (record { clean = record { short = c .short; ordered = c .ordered; inside = c .inside; faultless = f }; list = l }) b m n
   by-verdict f g (refused why rest) e =
-      let (place, e′) = refused-alike levelLimit (alike-symbols a) why rest e in
+      let (place, there, e′) = refused-alike alike-keeps levelLimit (alike-symbols a) why rest e in
       both-refused (number why) (startOf end rest) (startOf end′ place) (refused-read message start end (c .short) (c .ordered) (c .inside) f e) (refused-read other start′ end′ (d .short) (d .ordered) (d .inside) g e′)
 
   by-faults : AlikeFaults (scan (take end message) start) (scan (take end′ other) start′) → Alike message start end other start′ end′

@@ -1,8 +1,9 @@
--- Laws of document 02, CR 14.
+-- Laws of document 02, CR 14; `DataLaws` is about the data of quoted-strings.
 pub mod ByteMoves
 pub mod InComments
 pub mod Splits
 pub mod LastBytes
+pub mod Pairs
 pub mod Shifts
 pub mod Through
 pub mod EveryComment
@@ -12,4 +13,5 @@ pub mod Verdicts
 pub mod AlikeBodies
 pub mod CardLaws
 pub mod CommentLaws
+pub mod DataLaws
 pub mod Examples

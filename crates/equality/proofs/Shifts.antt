@@ -1,6 +1,6 @@
 -- The same bytes at other positions scan alike: to symbols of the same classes and meanings, and to a fault of the same number. Assumes nothing.
 use Prim.Native.Nat.{ℕ, zero, suc, _+_}
-use mathlib.Core.Path.{_≡_, refl}
+use mathlib.Core.Path.{_≡_, refl, sym}
 use mathlib.Core.Bool.{Bool, true, false}
 use mathlib.Core.List.{List, [], _∷_, _++_}
 use Rattle.octets.specs.Believed.Classes.{classTable}
@@ -10,6 +10,7 @@ use Rattle.scanner.specs.Believed.Scanning.{Scanned, ended, next, faultAt, Stat
 use Rattle.scanner.proofs.CharacterLaws.{plain-here}
 use Rattle.grammar.specs.Executable.Trees733.{Sym}
 use Rattle.plain.proofs.ByteKinds.{KindView}
+use Rattle.equality.proofs.Pairs.{Pairwise, no-symbol, one-symbol, KeepsClass, to-themselves}
 use Rattle.equality.proofs.ByteMoves.{character-view, Outside, between, beginsAtom, beginsQuoted, beginsComment, mark, outside-by, InAtom, goesOn, ends, atom-by, InQuoted, datum, quoted-by, InComment, stays, opens, comment-by, Behind, taken, behind-by}
 use Rattle.equality.proofs.ByteMoves as byte
 use Rattle.equality.proofs.Splits.{fold-here}
@@ -40,9 +41,12 @@ pub record AlikeSymbol (x y : Sym) : Type 0 where
   pub class : y .class ≡ x .class
   pub meaning : y .lexeme .meaning ≡ x .lexeme .meaning
 
-pub data AlikeSymbols : List Sym → List Sym → Type 0 where
-  no-symbol : AlikeSymbols [] []
-  one-symbol : {x y : Sym} {xs ys : List Sym} → AlikeSymbol x y → AlikeSymbols xs ys → AlikeSymbols (x ∷ xs) (y ∷ ys)
+abbrev pub AlikeSymbols : List Sym → List Sym → Type 0
+AlikeSymbols xs ys = Pairwise AlikeSymbol xs ys
+
+pub alike-keeps : KeepsClass AlikeSymbol
+alike-keeps =
+    record { class = λ a. a .class; turned = λ a. record { class = sym (a .class); meaning = sym (a .meaning) }; itself = λ x. record { class = refl; meaning = refl } }
 
 pub data AlikeScans : Scanned → Scanned → Type 0 where
   both-ended : AlikeScans ended ended
@@ -140,5 +144,4 @@ alike-from (one-more b p q folded {xs} {ys} a) s s′ h =
     alike-then (λ z. scanFrom classTable xs z) (λ z. scanFrom classTable ys z) (alike-move (character-view b folded) h b p q folded) (λ z z′ i. alike-from a z z′ i)
 
 pub same-symbols : (xs : List Sym) → AlikeSymbols xs xs
-same-symbols [] = no-symbol
-same-symbols (x ∷ xs) = one-symbol (record { class = refl; meaning = refl }) (same-symbols xs)
+same-symbols xs = to-themselves alike-keeps xs
