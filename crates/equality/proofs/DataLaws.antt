@@ -4,10 +4,14 @@ use native.Mathlib.Omega.{arith}
 use mathlib.Core.Path.{_≡_, refl, ap}
 use mathlib.Core.List.{List, [], _∷_, _++_, List·Memᴰ, List·Memᴰ·head as here, List·Memᴰ·tail as there}
 use mathlib.Core.Option.{Option, none, some}
+use lib.ListN.{take as front}
+use Rattle.octets.specs.Believed.Classes.{classTable}
+use Rattle.octets.specs.Believed.Numbers.{levelLimit}
 use Rattle.octets.specs.declared.answers.Answer.the-variants.{Refused}
-use Rattle.scanner.specs.Believed.Scanning.{Scanned, symbol, symbolsOf}
-use Rattle.scanner.specs.Believed.Answers.{unlessFault, faultOf}
-use Rattle.scanner.proofs.OnlyMeanings.{SameButData, both-end, both-fault, both-next, both-quoted}
+use Rattle.scanner.specs.Believed.Characters.{charactersAt}
+use Rattle.scanner.specs.Believed.Scanning.{Scanned, outside, symbol, symbolsOf}
+use Rattle.scanner.specs.Believed.Answers.{bodyChecked, unlessFault, faultOf}
+use Rattle.scanner.proofs.OnlyMeanings.{Taking, scanTaking, SameButData, both-end, both-fault, both-next, both-quoted, only-meanings}
 use Rattle.grammar.specs.Believed.Grammar.{Item, Makes, Rule, branch, yield, Fits, done, take, apply}
 use Rattle.grammar.specs.Believed.Grammar as item
 use Rattle.grammar.specs.Believed.Language.{Verdict, accepted, refused, Refusal, startOf}
@@ -16,7 +20,7 @@ use Rattle.grammar.specs.Believed.Rfc733.{Nonterminal, list, slot, address, phr
 use Rattle.grammar.specs.Executable.Machine733.{answer}
 use Rattle.grammar.specs.Executable.Trees733.{Class, Atom, Quoted, Colon, Sym}
 use Rattle.grammar.proofs.Rfc733.Condition3.{answer-accepts, answer-derives}
-use Rattle.addresses.specs.Believed.Outcome.{refusal, decided}
+use Rattle.addresses.specs.Believed.Outcome.{Outcome, refusal, decided, outcome}
 use Rattle.equality.proofs.Pairs.{Pairwise, no-symbol, one-symbol, KeepsClass}
 use Rattle.equality.proofs.Relabels.{AlikeForests, nils, leaves, branches, same-count, alike-yields, alike-names, derived-alike}
 use Rattle.equality.proofs.Verdicts.{refused-alike}
@@ -136,7 +140,7 @@ same-unless refuse (both-quoted start end t u h) e = same-unless refuse h e
 pub same-fault : {r s : Scanned} → SameButData r s → faultOf r ≡ faultOf s
 same-fault h = same-unless Refused h refl
 
--- the outcome behind the checks 1 and 13, with every byte of the lent table
+-- the outcome after the checks 1 and 13, with every byte of the lent table
 pub same-decided : {r s : Scanned} → SameButData r s → (end : ℕ) (table : List ℕ) (limit : ℕ)
     → unlessFault (refusal table) r (decided end table (answer limit (symbolsOf r))) ≡ unlessFault (refusal table) s (decided end table (answer limit (symbolsOf s)))
 same-decided {r} {s} h end table limit = same-unless (refusal table) h (by (answer limit (symbolsOf r)) refl)
@@ -144,3 +148,16 @@ same-decided {r} {s} h end table limit = same-unless (refusal table) h (by (answ
     by : (v : Verdict Class Derivation) → answer limit (symbolsOf r) ≡ v → decided end table (answer limit (symbolsOf r)) ≡ decided end table (answer limit (symbolsOf s))
     by (accepted k) e = let (j, f, n, m) = accepted-same limit (agreeing h) e in rw (e, f, n, m)
     by (refused why rest) e = let (place, f, p) = refused-same limit (agreeing h) why rest e in rw (e, f, p end)
+
+-- ---- the reader
+
+-- its outcome, were this the rule of what a backslash takes
+abbrev pub outcomeTaking : Taking → List ℕ → ℕ → ℕ → List ℕ → Outcome
+outcomeTaking rule message start end table =
+    let r : Scanned = scanTaking rule classTable (charactersAt (front end message) start) outside in
+    bodyChecked (refusal table) message start end (unlessFault (refusal table) r (decided end table (answer levelLimit (symbolsOf r))))
+
+-- whatever the rule, document 01's too: the same number, position and count, and the same table
+pub same-outcome : (rule : Taking) (message : List ℕ) (start end : ℕ) (table : List ℕ) → outcomeTaking rule message start end table ≡ outcome message start end table
+same-outcome rule message start end table =
+    ap (bodyChecked (refusal table) message start end) (same-decided (only-meanings rule classTable (charactersAt (front end message) start) outside) end table levelLimit)

@@ -1,4 +1,4 @@
--- Laws of document 02, CR 14; `DataLaws` is about the data of quoted-strings.
+-- Laws of document 02, CR 14, and of CR 2: `DataLaws`.
 pub mod ByteMoves
 pub mod InComments
 pub mod Splits
