@@ -67,8 +67,8 @@ void rfc733_date(const uint8_t *message, size_t message_length, size_t start, si
                  uint64_t *told, size_t told_length, int64_t *seconds);
 
 /* Writes plainly the address list in the body of a message from start up to end. The count is the text's length.
- * In a quoted-string a line end that stands after a backslash, with white space after it, is data: CR and LF, each
- * written after a backslash of its own.
+ * In a quoted-string a line end that a backslash takes, with white space after it, is data: CR and LF, each written
+ * after a backslash of its own. Any other goes, and the white space after it stays.
  * Two lists have the same text exactly if they have the same addresses: kinds, nesting, names and nodes word by word,
  * case counting. A comment exchanged for another, at the same place of the body, changes neither acceptance nor text,
  * as long as the message stays within its limit. */

@@ -119,8 +119,8 @@ def addresses_by_table(body):
 def plain(body):
     r"""An address list written plainly, as bytes. Raises `Refused`.
 
-    In a quoted-string a line end that stands after a backslash, with white space after it, is data: CR and LF, each
-    written after a backslash of its own. Any other line end there goes, and the white space after it stays:
+    In a quoted-string a line end that a backslash takes, with white space after it, is data: CR and LF, each written
+    after a backslash of its own. Any other goes, and the white space after it stays:
 
         plain(b'"a\\\r\n b"')  # b'"a\\\r\\\n b"'
         plain(b'"a\r\n b"')  # b'"a b"'

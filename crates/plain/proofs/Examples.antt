@@ -1,4 +1,4 @@
--- Bodies and their plain texts, worked out by hand from document 01, in one table with one statement over its rows. Assumes nothing.
+-- Bodies and their plain texts, worked out by hand from document 01 and, of a taken line end, document 02, in one table with one statement over its rows. Assumes nothing.
 use Prim.Native.Nat.{ℕ, _≤_, _<_}
 use native.Mathlib.Omega.{arith}
 use mathlib.Core.Path.{_≡_, refl, ap, _∙_}

@@ -1,4 +1,4 @@
--- Texts and what they scan to, worked out by hand from document 01, in one table with one statement over its rows. Assumes nothing.
+-- Texts and what they scan to, worked out by hand from document 01 and, of a taken line end, document 02, in one table with one statement over its rows. Assumes nothing.
 use mathlib.Core.Path.{_≡_, refl}
 use mathlib.Core.List.{List, [], _∷_, _++_}
 use Prim.Native.Nat.{ℕ}

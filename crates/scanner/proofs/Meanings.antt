@@ -98,7 +98,7 @@ data-end classes text walk at e = rw e
 
 -- ---- the next of the data
 
--- they come first, and the others from a position on that lies behind at least as many bytes
+-- they come first, and the others from a position on, with at least as many bytes passed
 pub record DataFirst (classes text : List ℕ) (at : ℕ) (these : List ℕ) (q : ℕ) : Type 0 where
   pub first : dataAt classes text at ≡ these ++ dataAt classes text q
   pub passed : at + length these ≤ q
