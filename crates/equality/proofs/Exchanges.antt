@@ -18,7 +18,8 @@ use Rattle.scanner.specs.Believed.Scanning.{Scanned, ended, State, outside, inC
 use Rattle.equality.specs.Believed.Comments.{stateOf, stateAfter, opensComment, closes, isComment}
 use Rattle.equality.specs.Believed.Exchange.{Place, MayHoldComment, messageWith, endWith}
 use Rattle.equality.proofs.Splits.{apart-before-open, apart-behind, split}
-use Rattle.equality.proofs.Shifts.{AlikeScans, both-fault, alike-followed, alike-from, same-symbols, shifted}
+use Rattle.equality.proofs.Pairs.{to-themselves}
+use Rattle.equality.proofs.Shifts.{alike-keeps, AlikeScans, both-fault, alike-followed, alike-from, shifted}
 use Rattle.equality.proofs.InComments.{never}
 use Rattle.equality.proofs.Through.{endedBy, behindComment, behind-alike, comment-scans}
 use Rattle.equality.proofs.LastBytes.{comment-ends-no-line}
@@ -26,8 +27,8 @@ use Rattle.equality.proofs.LastBytes.{comment-ends-no-line}
 -- ---- the same characters before what scans alike
 
 same-move : (m : Move) (f g : State → Scanned) → ((state : State) → stateOf m ≡ some state → AlikeScans (f state) (g state)) → AlikeScans (then m f) (then m g)
-same-move (go symbols state) f g h = alike-followed (same-symbols symbols) (h state refl)
-same-move (halt symbols n p) f g h = alike-followed (same-symbols symbols) (both-fault n p p)
+same-move (go symbols state) f g h = alike-followed (to-themselves alike-keeps symbols) (h state refl)
+same-move (halt symbols n p) f g h = alike-followed (to-themselves alike-keeps symbols) (both-fault n p p)
 
 same-front : (xs ys zs : List Character) (state : State) → ((state′ : State) → stateAfter xs state ≡ some state′ → AlikeScans (scanFrom classTable ys state′) (scanFrom classTable zs state′))
     → AlikeScans (scanFrom classTable (xs ++ ys) state) (scanFrom classTable (xs ++ zs) state)
@@ -67,7 +68,7 @@ module _ (pre post : List ℕ) (from : ℕ) where
       rw (comment-characters one c, comment-characters other d)
       (same-front (charactersFrom characters.none pre from) _ _ outside
       (λ state e. rw (comment-scans state (c .inside) (from + length pre) (charactersFrom characters.none post (from + length pre + length one)) (o state e) (c .closed), comment-scans state (d .inside) (from + length pre) (charactersFrom characters.none post (from + length pre + length other)) (o state e) (d .closed))
-      (alike-followed (same-symbols (endedBy state)) (alike-from (shifted post characters.none _ _) (behindComment state) (behindComment state) (behind-alike state (o state e))))))
+      (alike-followed (to-themselves alike-keeps (endedBy state)) (alike-from (shifted post characters.none _ _) (behindComment state) (behindComment state) (behind-alike state (o state e))))))
 
 -- ---- the body of a message with a comment in it
 

@@ -10,7 +10,7 @@ use Rattle.scanner.specs.Believed.Scanning.{Scanned, ended, next, faultAt, Stat
 use Rattle.scanner.proofs.CharacterLaws.{plain-here}
 use Rattle.grammar.specs.Executable.Trees733.{Sym}
 use Rattle.plain.proofs.ByteKinds.{KindView}
-use Rattle.equality.proofs.Pairs.{Pairwise, no-symbol, one-symbol, KeepsClass, to-themselves}
+use Rattle.equality.proofs.Pairs.{Pairwise, no-symbol, one-symbol, KeepsClass}
 use Rattle.equality.proofs.ByteMoves.{character-view, Outside, between, beginsAtom, beginsQuoted, beginsComment, mark, outside-by, InAtom, goesOn, ends, atom-by, InQuoted, datum, quoted-by, InComment, stays, opens, comment-by, Behind, taken, behind-by}
 use Rattle.equality.proofs.ByteMoves as byte
 use Rattle.equality.proofs.Splits.{fold-here}
@@ -142,6 +142,3 @@ unfolding scanFrom
 alike-from none-left s s′ h = alike-end h
 alike-from (one-more b p q folded {xs} {ys} a) s s′ h =
     alike-then (λ z. scanFrom classTable xs z) (λ z. scanFrom classTable ys z) (alike-move (character-view b folded) h b p q folded) (λ z z′ i. alike-from a z z′ i)
-
-pub same-symbols : (xs : List Sym) → AlikeSymbols xs xs
-same-symbols xs = to-themselves alike-keeps xs
