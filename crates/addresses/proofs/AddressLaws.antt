@@ -1,7 +1,7 @@
 -- Addresses without a list of their own: a mailbox, and one quoted-string alone. Assumes nothing.
 use mathlib.Core.Path.{_≡_, refl, sym, ap, _∙_}
 use mathlib.Core.Logic.{_⊎_, inl, inr}
-use mathlib.Core.Bool.{true, false, true≢false}
+use mathlib.Core.Bool.{Bool, true, false, true≢false}
 use mathlib.Core.List.{List, [], _∷_}
 use mathlib.Core.Option.{none}
 use Prim.Native.Nat.{ℕ, _+_, _*_, _-_}
@@ -21,7 +21,7 @@ use Rattle.grammar.specs.Executable.Machine733.{Here, phrase, firstAt, lone, le
 use Rattle.grammar.proofs.Rfc733.Complete.{begin, run-phrase, run-mailbox}
 use Rattle.grammar.proofs.Symbols.{each-of, each-other}
 use Rattle.grammar.proofs.Rfc733.Readers.{AddressEnds, endsAddress, at-unfit}
-use Rattle.addresses.specs.Ties.Steps.{endsAddressNext, refusedNext, loneQuoted, symbolsFrom, lexemeAt, symbolsAhead, Comes, NodesEnd, Stops, NodesContext, AddressRead, AddressStops, AddressIs, Opened, Named, NoMark, followsPhrase, Lone}
+use Rattle.addresses.specs.Ties.Steps.{endsAddressNext, refusedNext, loneQuoted, symbolsFrom, lexemeAt, symbolsOn, symbolsAhead, Comes, NodesEnd, Stops, NodesContext, AddressRead, AddressStops, AddressIs, Opened, Named, NoMark, followsPhrase, Lone}
 use Rattle.addresses.specs.declared.Frame.{Frame}
 use Rattle.records.specs.declared.Span.{Span}
 
@@ -34,7 +34,7 @@ ends-next classes text low (Fault number p) o e = tt
 module _ (classes text : List ℕ) where
   -- ---- a mailbox
 
-  pub mailbox-read : {xs : List Sym} {p : Phrase} {a b last : ℕ} {span : Span} {frame : Frame} (table after : List ℕ) (ahead : Next) → Named classes text xs span p (foundAt At a b) → NodesEnd classes text a b ahead last
+  pub mailbox-read : {xs : List Sym} {p : Phrase} {a b size last : ℕ} {apart : Bool} {span : Span} {frame : Frame} (table after : List ℕ) (ahead : Next) → Named classes text xs span p (foundAt At a b size apart) → NodesEnd classes text a b apart ahead last
       → Opened classes text a b span frame → after ≡ sets table (frame .number * addressRecordSize) (recordBytes (recordBy 1 (levelLimit - frame .levels) (frame .parent) (span .start) last (span .start) (span .end)))
       → AddressRead classes text xs frame (span .start) table after ahead last (frame .number + 1)
   mailbox-read {xs} {p} {a} {b} {last} {span} {frame} table after ahead n m o e =
@@ -51,8 +51,8 @@ module _ (classes text : List ℕ) where
         free-low = omega (arith, o .behind, o .stands .starts, m .from, o .ready .number-low);
       }
 
-  pub mailbox-stops : {xs : List Sym} {p : Phrase} {a b number-told place : ℕ} {span : Span} (frame : Frame) → Named classes text xs span p (foundAt At a b)
-      → Stops classes text (λ (c : NodesContext classes text) why rest. judge (run (c .limit) (firstAt (c .here) (c .phrase) (lexemeAt classes text At a b)) (symbolsFrom classes text b)) ≡ refused why rest) number-told place
+  pub mailbox-stops : {xs : List Sym} {p : Phrase} {a b size number-told place : ℕ} {apart : Bool} {span : Span} (frame : Frame) → Named classes text xs span p (foundAt At a b size apart)
+      → Stops classes text (λ (c : NodesContext classes text) why rest. judge (run (c .limit) (firstAt (c .here) (c .phrase) (lexemeAt classes text At a b apart)) (symbolsFrom classes text b)) ≡ refused why rest) number-told place
       → AddressStops classes text xs frame number-told place
   mailbox-stops {xs} {p} frame n s =
       record {
@@ -124,7 +124,7 @@ module _ (classes text : List ℕ) where
         number-is = refl;
         place-is = refl;
         stops = λ h c. ap judge (ap (run (levelsHere h + frame .levels) (begin h)) (n .yields) ∙ run-phrase (levelsHere h + frame .levels) h p _)
-            ∙ behind-phrase (levelsHere h + frame .levels) h p (x .class) (lexemeAt classes text (x .class) (x .start) (x .end)) (symbolsFrom classes text (x .end)) f o;
+            ∙ behind-phrase (levelsHere h + frame .levels) h p (x .class) (lexemeAt classes text (x .class) (x .start) (x .end) (x .apart)) (symbolsFrom classes text (x .end)) f o;
       }
   lone-stops p frame start table after Ended n f (inr e) = absurd (true≢false e)
   lone-stops p frame start table after Ended n f (inl e) = lone-ends p frame (n .yields) e
@@ -138,12 +138,12 @@ module _ (classes text : List ℕ) where
   begins-none n h class t ys o =
       each-of (λ c. judge (run n (begin h) (of c t ∷ ys)) ≡ refused unfit (of c t ∷ ys)) beginsNone (ap judge (at-unfit n t ys h), (refl, (refl, (refl, tt)))) class o
 
-  pub none-begins : (class : Class) (a b : ℕ) (frame : Frame) → beginsNone class ≡ true → AddressStops classes text (symbolsAhead classes text (foundAt class a b)) frame noListGoesOn a
-  none-begins class a b frame o =
+  pub none-begins : (class : Class) (a b : ℕ) (apart : Bool) (frame : Frame) → beginsNone class ≡ true → AddressStops classes text (symbolsOn classes text class a b apart) frame noListGoesOn a
+  none-begins class a b apart frame o =
       record {
         why = unfit;
-        rest = symbolsAhead classes text (foundAt class a b);
+        rest = symbolsOn classes text class a b apart;
         number-is = refl;
         place-is = refl;
-        stops = λ h c. begins-none (levelsHere h + frame .levels) h class (lexemeAt classes text class a b) (symbolsFrom classes text b) o;
+        stops = λ h c. begins-none (levelsHere h + frame .levels) h class (lexemeAt classes text class a b apart) (symbolsFrom classes text b) o;
       }

@@ -12,12 +12,12 @@ use Rattle.octets.specs.declared.answers.Answer.{Answer}
 use Rattle.records.specs.Believed.AddressRecords.{recordBy, recordBytes, addressRecordSize}
 use Rattle.records.specs.declared.Span.{Span}
 use Rattle.scanner.specs.Believed.Answers.{foundAt}
-use Rattle.scanner.specs.Ties.Cursors.{aheadOf, nextFrom, nextIn}
+use Rattle.scanner.specs.Ties.Cursors.{aheadOf, nextFrom, apartIn, nextIn}
 use Rattle.scanner.specs.declared.Next.{Next}
 use Rattle.scanner.specs.declared.Next.the-variants.{Found, Ended, Fault}
 use Rattle.scanner.specs.declared.cursor.Ahead.{Ahead}
 use Rattle.scanner.specs.declared.cursor.Ahead.the-variants.{Symbol, End, Faulty}
-use Rattle.scanner.proofs.CursorLaws.{keeps-fourth, keeps-fifth}
+use Rattle.scanner.proofs.CursorLaws.{keeps-sixth, keeps-seventh}
 use Rattle.grammar.specs.Believed.Rfc733.{sameClass}
 use Rattle.grammar.specs.Executable.Trees733.{Class, Atom, Colon}
 use Rattle.grammar.proofs.Rfc733.Trees.{atomColon}
@@ -54,18 +54,18 @@ isNext wanted (Found symbol) = sameClass wanted (symbol .class)
 isNext wanted Ended = false
 isNext wanted (Fault number p) = false
 
-is-from : (wanted : Class) (a : Ahead) (s e : ℕ) → isNext wanted (nextFrom a s e) ≡ isAhead wanted a
-is-from wanted (Symbol class) s e = refl
-is-from wanted End s e = refl
-is-from wanted Faulty s e = refl
+is-from : (wanted : Class) (a : Ahead) (s e n : ℕ) (b : Bool) → isNext wanted (nextFrom a s e n b) ≡ isAhead wanted a
+is-from wanted (Symbol class) s e n b = refl
+is-from wanted End s e n b = refl
+is-from wanted Faulty s e n b = refl
 
 is-in : (wanted : Class) (cursor : List ℕ) {b : Bool} → isAhead wanted (aheadOf (getD cursor 0 0)) ≡ b → isNext wanted (nextIn cursor) ≡ b
 is-in wanted cursor e = by-ahead (isNext wanted) (isAhead wanted) (is-from wanted) cursor ∙ e
 
-word-of : (a : Ahead) (s e : ℕ) → wordNext (nextFrom a s e) ≡ wordAhead a
-word-of (Symbol class) s e = refl
-word-of End s e = refl
-word-of Faulty s e = refl
+word-of : (a : Ahead) (s e n : ℕ) (b : Bool) → wordNext (nextFrom a s e n b) ≡ wordAhead a
+word-of (Symbol class) s e n b = refl
+word-of End s e n b = refl
+word-of Faulty s e n b = refl
 
 pub word-next : (cursor : List ℕ) {b : Bool} → wordAhead (aheadOf (getD cursor 0 0)) ≡ b → wordNext (nextIn cursor) ≡ b
 word-next cursor e = by-ahead wordNext wordAhead word-of cursor ∙ e
@@ -85,42 +85,42 @@ module _ (classes text : List ℕ) where
   -- ---- a phrase
 
   pub phrase-done : {before now after : List ℕ} {first lone : Bool} → WordsSoFar classes text (getD before 2 0) first (getD now 2 0) lone → freeIn now ≡ freeIn before → Stepped classes text now after → wordAhead (aheadOf (getD after 0 0)) ≡ false
-      → PhraseIs classes text before first lone (set after 4 (getD now 2 0))
+      → PhraseIs classes text before first lone (set after 6 (getD now 2 0))
   phrase-done {before} {now} {after} w f x n =
-      let k = keeps-fifth after (x .sized) (getD now 2 0) in
+      let k = keeps-seventh after (x .sized) (getD now 2 0) in
       record {
-        words = rw (k .ahead, k .fifth) (words-done classes text (nextIn after) w (x .next) (no-word-in classes text after n));
+        words = rw (k .ahead, k .seventh) (words-done classes text (nextIn after) w (x .next) (no-word-in classes text after n));
         goes-on = record { same = w .faults ∙ x .next .faults ∙ ap (faultAhead classes text) (sym (k .ahead)); sized = k .sized };
-        free-kept = k .fourth ∙ x .free-kept ∙ f;
+        free-kept = k .sixth ∙ x .free-kept ∙ f;
       }
 
   -- ---- nodes
 
-  pub nodes-done : (before now after : List ℕ) → NodeRead classes text (getD before 1 0) (getD before 2 0) (getD now 2 0) → freeIn now ≡ freeIn before → Stepped classes text now after → endsAhead (aheadOf (getD after 0 0)) ≡ true
-      → NodesAre classes text before true (set after 4 (getD now 2 0))
+  pub nodes-done : (before now after : List ℕ) → NodeRead classes text (getD before 1 0) (getD before 2 0) (apartIn before) (getD now 2 0) → freeIn now ≡ freeIn before → Stepped classes text now after → endsAhead (aheadOf (getD after 0 0)) ≡ true
+      → NodesAre classes text before true (set after 6 (getD now 2 0))
   nodes-done before now after w f x e =
-      let k = keeps-fifth after (x .sized) (getD now 2 0) in (
-        rw (k .ahead, k .fifth) (nodes-end classes text (nextIn after) w (x .next) (ends-next classes text (getD now 2 0) (nextIn after) (x .next .ok) (ends-in after e))),
-        record { goes-on = record { same = w .faults ∙ x .next .faults ∙ ap (faultAhead classes text) (sym (k .ahead)); sized = k .sized }; free-kept = k .fourth ∙ x .free-kept ∙ f },
+      let k = keeps-seventh after (x .sized) (getD now 2 0) in (
+        rw (k .ahead, k .seventh) (nodes-end classes text (nextIn after) w (x .next) (ends-next classes text (getD now 2 0) (nextIn after) (x .next .ok) (ends-in after e))),
+        record { goes-on = record { same = w .faults ∙ x .next .faults ∙ ap (faultAhead classes text) (sym (k .ahead)); sized = k .sized }; free-kept = k .sixth ∙ x .free-kept ∙ f },
       )
 
   -- a refusal where a node is wanted
-  pub nodes-refused : {start at p : ℕ} (ahead : Next) → NodesSoFar classes text start at p → NextIs classes text p ahead → wordNext ahead ≡ false → NodesIs classes text start at (stoppedBy (refusedNext (length text) ahead))
+  pub nodes-refused : {start at p : ℕ} {apart : Bool} (ahead : Next) → NodesSoFar classes text start at apart p → NextIs classes text p ahead → wordNext ahead ≡ false → NodesIs classes text start at apart (stoppedBy (refusedNext (length text) ahead))
   nodes-refused (Found symbol) w x e = stops-no-node classes text w x e
   nodes-refused Ended w x e = stops-node-wanted classes text w (x .same)
   nodes-refused (Fault number p) w x e = stops-node-wanted classes text w (x .same)
 
   -- .. told by a cursor
-  pub nodes-told : (before : List ℕ) (r : Bool) (after : List ℕ) (ahead : Next) → NodesIs classes text (getD before 1 0) (getD before 2 0) (stoppedBy (refusedNext (length text) ahead)) → reading r after ≡ refusedNext (length text) ahead → NodesAre classes text before r after
+  pub nodes-told : (before : List ℕ) (r : Bool) (after : List ℕ) (ahead : Next) → NodesIs classes text (getD before 1 0) (getD before 2 0) (apartIn before) (stoppedBy (refusedNext (length text) ahead)) → reading r after ≡ refusedNext (length text) ahead → NodesAre classes text before r after
   nodes-told before true after ahead s e = absurd (never-read (length text) ahead after e)
   nodes-told before false after ahead s e = (rw (← (ap stoppedBy e)) at s, tt)
 
   -- a refusal after a node
-  pub nodes-behind : (before : List ℕ) (r : Bool) (after now then : List ℕ) {class : Class} → NodeRead classes text (getD before 1 0) (getD before 2 0) (getD now 2 0) → Stepped classes text now then → aheadOf (getD then 0 0) ≡ Symbol class → followsNode class ≡ false
+  pub nodes-behind : (before : List ℕ) (r : Bool) (after now then : List ℕ) {class : Class} → NodeRead classes text (getD before 1 0) (getD before 2 0) (apartIn before) (getD now 2 0) → Stepped classes text now then → aheadOf (getD then 0 0) ≡ Symbol class → followsNode class ≡ false
       → reading r after ≡ refusedNext (length text) (nextIn then) → NodesAre classes text before r after
   nodes-behind before r after now then {class} w x e f q =
       let y = met classes text x e in
-      nodes-told before r after (foundAt class (getD then 1 0) (getD then 2 0)) (stops-behind-node classes text w y f) (q ∙ ap (refusedNext (length text)) (found-in then e))
+      nodes-told before r after (foundAt class (getD then 1 0) (getD then 2 0) (getD then 3 0) (apartIn then)) (stops-behind-node classes text w y f) (q ∙ ap (refusedNext (length text)) (found-in then e))
 
   -- ---- an atom and ":"
 
@@ -135,7 +135,7 @@ module _ (classes text : List ℕ) where
   no-atom-next {at} Ended x e = nothing classes text at (x .same)
   no-atom-next {at} (Fault number p) x e = nothing classes text at (x .same)
 
-  no-colon-next : {at a b : ℕ} (ahead : Next) → NextIs classes text at (foundAt Atom a b) → NextIs classes text b ahead → isNext Colon ahead ≡ false → atomColon (symbolsFrom classes text at) ≡ false
+  no-colon-next : {at a b size : ℕ} {apart : Bool} (ahead : Next) → NextIs classes text at (foundAt Atom a b size apart) → NextIs classes text b ahead → isNext Colon ahead ≡ false → atomColon (symbolsFrom classes text at) ≡ false
   no-colon-next (Found symbol) x y e = no-colon classes text x y e
   no-colon-next Ended x y e = nothing-behind classes text x (y .same)
   no-colon-next (Fault number p) x y e = nothing-behind classes text x (y .same)
@@ -154,11 +154,11 @@ module _ (classes text : List ℕ) where
   module _ {before now : List ℕ} {levels parent : ℕ} {name : Span} where
     pub mailbox-done : MarkAhead classes text before levels parent name → NodesAre classes text before true now → (table after : List ℕ)
         → after ≡ sets table (freeIn now * addressRecordSize) (recordBytes (recordBy 1 (levelLimit - levels) parent (name .start) (lastIn now) (name .start) (name .end)))
-        → MailboxIs classes text before levels parent name table after true (set now 3 (freeIn now + 1))
+        → MailboxIs classes text before levels parent name table after true (set now 5 (freeIn now + 1))
     mailbox-done m n table after e =
-        let k = keeps-fourth now (n .1 .goes-on .sized) (freeIn now + 1) in
+        let k = keeps-sixth now (n .1 .goes-on .sized) (freeIn now + 1) in
         let f = n .1 .free-kept in (
-          λ xs phrase p. rw (k .ahead, k .fourth, k .fifth, f) (mailbox-read classes text table after (nextIn now) p (n .0) (m .opened) (rw f at e)),
+          λ xs phrase p. rw (k .ahead, k .sixth, k .seventh, f) (mailbox-read classes text table after (nextIn now) p (n .0) (m .opened) (rw f at e)),
           record { same = n .1 .goes-on .same ∙ ap (faultAhead classes text) (sym (k .ahead)); sized = k .sized },
         )
 
@@ -170,10 +170,10 @@ module _ (classes text : List ℕ) where
   module _ {before : List ℕ} {levels parent : ℕ} {name : Span} (m : LoneAhead classes text before levels parent name) where
     pub lone-done : {lone : Bool} → lone ≡ true → endsAhead (aheadOf (getD before 0 0)) ≡ true → (table after : List ℕ)
         → after ≡ sets table (freeIn before * addressRecordSize) (recordBytes (recordBy 4 (levelLimit - levels) parent (name .start) (name .end) (name .start) (name .end)))
-        → LoneIs classes text before levels parent lone name table after true (set before 3 (freeIn before + 1))
+        → LoneIs classes text before levels parent lone name table after true (set before 5 (freeIn before + 1))
     lone-done l z table after e =
-        let k = keeps-fourth before (m .sized) (freeIn before + 1) in (
-          λ xs phrase p q. rw (k .ahead, k .fourth, k .fifth, m .last-is) (lone-read classes text phrase table after (nextIn before) p (sym q ∙ l) (ends-in before z) (m .lone) e),
+        let k = keeps-sixth before (m .sized) (freeIn before + 1) in (
+          λ xs phrase p q. rw (k .ahead, k .sixth, k .seventh, m .last-is) (lone-read classes text phrase table after (nextIn before) p (sym q ∙ l) (ends-in before z) (m .lone) e),
           record { same = ap (faultAhead classes text) (sym (k .ahead)); sized = k .sized },
         )
 
@@ -204,9 +204,9 @@ module _ (classes text : List ℕ) where
 
       pub close-done : endsAhead (aheadOf (getD now 0 0)) ≡ true → (between after : List ℕ)
           → after ≡ sets between (frame .number * addressRecordSize) (recordBytes (recordBy (enclosureKind e) (levelLimit - frame .levels) (frame .parent) (name .start) (getD before 2 0) (name .start) (name .end)))
-          → CloseIs classes text before frame e name between after true (set now 4 (getD before 2 0))
+          → CloseIs classes text before frame e name between after true (set now 6 (getD before 2 0))
       close-done g between after w =
-          let k = keeps-fifth now (x .sized) (getD before 2 0) in (
-            λ xs a b low table o p n l. rw (k .ahead, k .fourth, k .fifth, x .free-kept) (enclosed-read classes text e frame o n (rw (found-in before (closing-in e before f .ahead-is)) at l) (closing-in e before f .passes) (nextIn now) after (x .next) (ends-in now g) p w),
+          let k = keeps-seventh now (x .sized) (getD before 2 0) in (
+            λ xs a b low table o p n l. rw (k .ahead, k .sixth, k .seventh, x .free-kept) (enclosed-read classes text e frame o n (rw (found-in before (closing-in e before f .ahead-is)) at l) (closing-in e before f .passes) (nextIn now) after (x .next) (ends-in now g) p w),
             record { same = ap (faultAhead classes text) (found-in before (closing-in e before f .ahead-is)) ∙ x .next .faults ∙ ap (faultAhead classes text) (sym (k .ahead)); sized = k .sized },
           )

@@ -1,6 +1,6 @@
 -- Addresses that hold a list or an address: angle lists, groups and typed addresses. Assumes nothing.
 use mathlib.Core.Path.{_≡_, refl, sym, ap, _∙_}
-use mathlib.Core.Bool.{true, false, true≢false}
+use mathlib.Core.Bool.{Bool, true, false, true≢false}
 use mathlib.Core.List.{List, [], _∷_}
 use mathlib.Core.Option.{Option, none, some}
 use Prim.Native.Nat.{ℕ, suc, _+_, _*_, _-_, _≤_, _<_}
@@ -23,7 +23,7 @@ use Rattle.grammar.specs.Executable.Machine733.{Here, inTyped, inAngle, inGroup
 use Rattle.grammar.proofs.Rfc733.Complete.{begin, doneAddress, doneList, Clear, complete-doneList, run-angle, run-group}
 use Rattle.grammar.proofs.Rfc733.Readers.{ListEnds, endsAddress, endsList, deep-angle, deep-group, closed-unfit, clear-colon, run-typed}
 use Rattle.grammar.proofs.Rfc733.TreeRecords.{nameStart, nameEnd, addressEnd, addressRecords, listRecords}
-use Rattle.addresses.specs.Ties.Steps.{endsAddressNext, closesNext, refusedNext, opening, closing, enclosureKind, levelIn, enclosed, House, symbolsFrom, lexemeAt, symbolAt, symbolsAhead, Standing, AddressRead, AddressStops, AddressIs, Opening, Opened, ListRead, ListStops, inner, TypedFirst}
+use Rattle.addresses.specs.Ties.Steps.{endsAddressNext, closesNext, refusedNext, opening, closing, enclosureKind, levelIn, enclosed, House, symbolsFrom, lexemeAt, symbolAt, symbolsOn, symbolsAhead, Standing, AddressRead, AddressStops, AddressIs, Opening, Opened, ListRead, ListStops, inner, TypedFirst}
 use Rattle.addresses.specs.declared.Frame.{Frame}
 use Rattle.records.specs.declared.Span.{Span}
 use Rattle.addresses.specs.declared.Enclosure.{Enclosure}
@@ -114,15 +114,15 @@ module _ (classes text : List ℕ) where
   deep-stops e {xs} {a} {b} frame o z =
       record {
         why = tooDeep;
-        rest = symbolAt classes text (opening e) a b ∷ symbolsFrom classes text b;
+        rest = symbolsOn classes text (opening e) a b (o .apart);
         number-is = refl;
         place-is = refl;
-        stops = λ h c. rw z (deep-enclosed e h (o .name) (lexemeAt classes text (opening e) a b) xs (symbolsFrom classes text b) (o .yields) c);
+        stops = λ h c. rw z (deep-enclosed e h (o .name) (lexemeAt classes text (opening e) a b (o .apart)) xs (symbolsFrom classes text b) (o .yields) c);
       }
 
   module _ (e : Enclosure) {xs : List Sym} {a b : ℕ} {span : Span} (frame : Frame) (o : Opening classes text e xs a b span) (n : frame .levels ≡ 0 → ⊥) where
     abbrev mark : Lexeme
-    mark = lexemeAt classes text (opening e) a b
+    mark = lexemeAt classes text (opening e) a b (o .apart)
 
     -- the machine comes to the list
     comes-in : (h : Here) → Clear (fresh h) (atomColon xs) → run (levelsHere h + frame .levels) (begin h) xs ≡ run (levelsAt (levelIn e h (o .name) mark) + inner classes text frame .levels) (list (levelIn e h (o .name) mark) (idle empty)) (symbolsFrom classes text b)
@@ -154,7 +154,7 @@ module _ (classes text : List ℕ) where
         rest = [];
         number-is = refl;
         place-is = refl;
-        stops = λ h c. ap judge (comes-through e frame o n l h c ∙ ap (run (levelsHere h + frame .levels) _) z) ∙ run-unclosed e (levelsHere h + frame .levels) h (o .name) (lexemeAt classes text (opening e) a b) (l .tree);
+        stops = λ h c. ap judge (comes-through e frame o n l h c ∙ ap (run (levelsHere h + frame .levels) _) z) ∙ run-unclosed e (levelsHere h + frame .levels) h (o .name) (lexemeAt classes text (opening e) a b (o .apart)) (l .tree);
       }
 
   -- the list is not closed
@@ -168,23 +168,23 @@ module _ (classes text : List ℕ) where
         number-is = refl;
         place-is = refl;
         stops = λ h c. ap judge (comes-through e frame o n l h c)
-            ∙ run-other e (levelsHere h + frame .levels) h (o .name) (lexemeAt classes text (opening e) a b) (l .tree) (x .class) (lexemeAt classes text (x .class) (x .start) (x .end)) (symbolsFrom classes text (x .end)) (l .ends) f;
+            ∙ run-other e (levelsHere h + frame .levels) h (o .name) (lexemeAt classes text (opening e) a b (o .apart)) (l .tree) (x .class) (lexemeAt classes text (x .class) (x .start) (x .end) (x .apart)) (symbolsFrom classes text (x .end)) (l .ends) f;
       }
   unclosed-stops e frame o n Ended l start after f = never-closed e frame o n l refl
   unclosed-stops e frame o n (Fault number p) l start after f = never-closed e frame o n l refl
 
   module _ (e : Enclosure) {xs : List Sym} {a b : ℕ} {span : Span} (frame : Frame) (o : Opening classes text e xs a b span) (n : frame .levels ≡ 0 → ⊥)
-      {table between : List ℕ} {class : Class} {i j low free : ℕ} (l : ListRead classes text b (inner classes text frame) table between (foundAt class i j) low free) (q : sameClass (closing e) class ≡ true) where
+      {table between : List ℕ} {class : Class} {i j size low free : ℕ} {apart : Bool} (l : ListRead classes text b (inner classes text frame) table between (foundAt class i j size apart) low free) (q : sameClass (closing e) class ≡ true) where
     abbrev closed-by : Lexeme
-    closed-by = lexemeAt classes text class i j
+    closed-by = lexemeAt classes text class i j apart
 
     -- the machine comes after the closing mark
     comes-behind : (h : Here) → Clear (fresh h) (atomColon xs)
-        → run (levelsHere h + frame .levels) (begin h) xs ≡ run (levelsHere h + frame .levels) (doneAddress h (enclosed e (o .name) (lexemeAt classes text (opening e) a b) (l .tree) closed-by)) (symbolsFrom classes text j)
+        → run (levelsHere h + frame .levels) (begin h) xs ≡ run (levelsHere h + frame .levels) (doneAddress h (enclosed e (o .name) (lexemeAt classes text (opening e) a b (o .apart)) (l .tree) closed-by)) (symbolsFrom classes text j)
     comes-behind h c =
         comes-through e frame o n l h c
-        ∙ ap (λ (k : Class). run (levelsHere h + frame .levels) (doneList (levelIn e h (o .name) (lexemeAt classes text (opening e) a b)) (l .tree)) (of k closed-by ∷ symbolsFrom classes text j)) (sym (same-class (closing e) class q))
-        ∙ run-close e (levelsHere h + frame .levels) h (o .name) (lexemeAt classes text (opening e) a b) (l .tree) closed-by (symbolsFrom classes text j)
+        ∙ ap (λ (k : Class). run (levelsHere h + frame .levels) (doneList (levelIn e h (o .name) (lexemeAt classes text (opening e) a b (o .apart))) (l .tree)) (of k closed-by ∷ symbolsFrom classes text j)) (sym (same-class (closing e) class q))
+        ∙ run-close e (levelsHere h + frame .levels) h (o .name) (lexemeAt classes text (opening e) a b (o .apart)) (l .tree) closed-by (symbolsFrom classes text j)
 
     -- something after it that does not end the address
     pub behind-stops : (behind : Next) → NextIs classes text j behind → endsAddressNext behind ≡ false → (start : ℕ) (after : List ℕ) → AddressIs classes text xs frame start table after (refusedNext (length text) behind)
@@ -195,7 +195,7 @@ module _ (classes text : List ℕ) where
           number-is = refl;
           place-is = refl;
           stops = λ h c. ap judge (comes-behind h c ∙ ap (run (levelsHere h + frame .levels) _) (x .same))
-              ∙ run-behind e (levelsHere h + frame .levels) h (o .name) (lexemeAt classes text (opening e) a b) (l .tree) closed-by (y .class) (lexemeAt classes text (y .class) (y .start) (y .end)) (symbolsFrom classes text (y .end)) f;
+              ∙ run-behind e (levelsHere h + frame .levels) h (o .name) (lexemeAt classes text (opening e) a b (o .apart)) (l .tree) closed-by (y .class) (lexemeAt classes text (y .class) (y .start) (y .end) (y .apart)) (symbolsFrom classes text (y .end)) f;
         }
     behind-stops Ended x f start after = absurd (true≢false f)
     behind-stops (Fault number p) x f start after = absurd (true≢false f)
@@ -205,7 +205,7 @@ module _ (classes text : List ℕ) where
         → after ≡ sets between (frame .number * addressRecordSize) (recordBytes (recordBy (enclosureKind e) (levelLimit - frame .levels) (frame .parent) (span .start) j (span .start) (span .end)))
         → AddressRead classes text xs frame (span .start) table after behind j free
     enclosed-read behind after x f p w =
-        let t = lexemeAt classes text (opening e) a b in
+        let t = lexemeAt classes text (opening e) a b (o .apart) in
         let s : Standing classes text i j = l .ahead-ok .1 in
         let its-records : recordBy (enclosureKind e) (levelLimit - frame .levels) (frame .parent) (span .start) j (span .start) (span .end) ∷ listRecords (l .tree) (suc (levelLimit - frame .levels)) (suc (frame .number)) (suc (frame .number))
         ≡ addressRecords (enclosed e (o .name) t (l .tree) closed-by) (levelLimit - frame .levels) (frame .parent) (frame .number) =
@@ -227,26 +227,26 @@ module _ (classes text : List ℕ) where
 
   -- ---- typed addresses
 
-  module _ {start end behind : ℕ} {atom : Span} {frame : Frame} (t : TypedFirst classes text start end atom behind frame) where
+  module _ {start end behind : ℕ} (apart : Bool) {atom : Span} {frame : Frame} (t : TypedFirst classes text start end atom behind frame) where
     abbrev first-colon : Lexeme
-    first-colon = lexemeAt classes text Colon start end
+    first-colon = lexemeAt classes text Colon start end apart
 
     abbrev the-atom : Lexeme
-    the-atom = lexemeAt classes text Atom (atom .start) (atom .end)
+    the-atom = lexemeAt classes text Atom (atom .start) (atom .end) (t .follows .atom-apart)
 
-    pub typed-deep : frame .levels ≡ 0 → AddressStops classes text (symbolsAhead classes text (foundAt Colon start end)) frame tooManyLevels start
+    pub typed-deep : frame .levels ≡ 0 → AddressStops classes text (symbolsOn classes text Colon start end apart) frame tooManyLevels start
     typed-deep z =
         record {
           why = tooDeep;
-          rest = symbolsAhead classes text (foundAt Colon start end);
+          rest = symbolsOn classes text Colon start end apart;
           number-is = refl;
           place-is = refl;
-          stops = λ h c. rw z (deep-enclosed Group h none first-colon (symbolsAhead classes text (foundAt Colon start end)) (symbolsFrom classes text end) refl c);
+          stops = λ h c. rw z (deep-enclosed Group h none first-colon (symbolsOn classes text Colon start end apart) (symbolsFrom classes text end) refl c);
         }
 
     module _ (n : frame .levels ≡ 0 → ⊥) where
       -- the machine comes after the second colon
-      comes-typed : (h : Here) → run (levelsHere h + frame .levels) (begin h) (symbolsAhead classes text (foundAt Colon start end))
+      comes-typed : (h : Here) → run (levelsHere h + frame .levels) (begin h) (symbolsOn classes text Colon start end apart)
           ≡ run (levelsHere (inTyped h first-colon the-atom (t .follows .colon)) + inner classes text frame .levels) (want h first-colon the-atom (t .follows .colon)) (symbolsFrom classes text behind)
       comes-typed h =
           let q : levelsHere h + suc (frame .levels - 1) ≡ levelsHere h + frame .levels = omega arith in
@@ -260,7 +260,7 @@ module _ (classes text : List ℕ) where
           each-of (λ c. judge (run (levelsHere (inTyped h first-colon the-atom (t .follows .colon)) + inner classes text frame .levels) (want h first-colon the-atom (t .follows .colon)) (of c u ∷ ys)) ≡ refused unfit (of c u ∷ ys)) endsAddress
           (refl, (refl, (refl, tt))) k e
 
-      typed-ends : symbolsFrom classes text behind ≡ [] → AddressStops classes text (symbolsAhead classes text (foundAt Colon start end)) frame endsTooSoon (length text)
+      typed-ends : symbolsFrom classes text behind ≡ [] → AddressStops classes text (symbolsOn classes text Colon start end apart) frame endsTooSoon (length text)
       typed-ends e =
           record {
             why = unfinished;
@@ -272,21 +272,21 @@ module _ (classes text : List ℕ) where
 
       -- what is wanted does not begin
       pub typed-wanted : (ahead : Next) → NextIs classes text behind ahead → (start′ : ℕ) (table after : List ℕ) → endsAddressNext ahead ≡ true
-          → AddressIs classes text (symbolsAhead classes text (foundAt Colon start end)) frame start′ table after (refusedNext (length text) ahead)
+          → AddressIs classes text (symbolsOn classes text Colon start end apart) frame start′ table after (refusedNext (length text) ahead)
       typed-wanted (Found y) x start′ table after f =
           record {
             why = unfit;
             rest = symbolsAhead classes text (Found y);
             number-is = refl;
             place-is = refl;
-            stops = λ h c. ap judge (comes-typed h ∙ ap (run _ (want h first-colon the-atom (t .follows .colon))) (x .same)) ∙ want-ends (y .class) f (lexemeAt classes text (y .class) (y .start) (y .end)) (symbolsFrom classes text (y .end)) h;
+            stops = λ h c. ap judge (comes-typed h ∙ ap (run _ (want h first-colon the-atom (t .follows .colon))) (x .same)) ∙ want-ends (y .class) f (lexemeAt classes text (y .class) (y .start) (y .end) (y .apart)) (symbolsFrom classes text (y .end)) h;
           }
       typed-wanted Ended x start′ table after f = typed-ends (x .same)
       typed-wanted (Fault number p) x start′ table after f = typed-ends (x .same)
 
-      module _ {class : Class} {i j : ℕ} (x : NextIs classes text behind (foundAt class i j)) where
-        pub typed-stops : {number-told place : ℕ} → AddressStops classes text (symbolsAhead classes text (foundAt class i j)) (inner classes text frame) number-told place
-            → AddressStops classes text (symbolsAhead classes text (foundAt Colon start end)) frame number-told place
+      module _ {class : Class} {i j size : ℕ} {apart′ : Bool} (x : NextIs classes text behind (foundAt class i j size apart′)) where
+        pub typed-stops : {number-told place : ℕ} → AddressStops classes text (symbolsOn classes text class i j apart′) (inner classes text frame) number-told place
+            → AddressStops classes text (symbolsOn classes text Colon start end apart) frame number-told place
         typed-stops s =
             record {
               why = s .why;
@@ -296,9 +296,9 @@ module _ (classes text : List ℕ) where
               stops = λ h c. ap judge (comes-typed h ∙ ap (run _ (want h first-colon the-atom (t .follows .colon))) (x .same)) ∙ s .stops (inTyped h first-colon the-atom (t .follows .colon)) tt;
             }
 
-        pub typed-read : {ahead : Next} {last free : ℕ} (table between after : List ℕ) → AddressRead classes text (symbolsAhead classes text (foundAt class i j)) (inner classes text frame) i table between ahead last free
+        pub typed-read : {ahead : Next} {last free : ℕ} (table between after : List ℕ) → AddressRead classes text (symbolsOn classes text class i j apart′) (inner classes text frame) i table between ahead last free
             → after ≡ sets between (frame .number * addressRecordSize) (recordBytes (recordBy (kindNumber (typedKind (part text (atom .start) (atom .end)))) (levelLimit - frame .levels) (frame .parent) start last (atom .start) (atom .end)))
-            → AddressRead classes text (symbolsAhead classes text (foundAt Colon start end)) frame start table after ahead last free
+            → AddressRead classes text (symbolsOn classes text Colon start end apart) frame start table after ahead last free
         typed-read {ahead} {last} {free} table between after r w =
             let p : (h : Here) → suc (levelsHere h) + (frame .levels - 1) ≡ levelsHere h + frame .levels = λ h. omega arith in
             record {

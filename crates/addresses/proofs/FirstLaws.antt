@@ -18,7 +18,7 @@ use Rattle.grammar.specs.Believed.Records.{records}
 use Rattle.grammar.proofs.Any.Records.{length-records}
 use Rattle.scanner.specs.Believed.Scanning.{scanBy}
 use Rattle.scanner.specs.Believed.Answers.{unlessFault}
-use Rattle.scanner.specs.Ties.Cursors.{endNumber, aheadOf, nextFrom, nextIn}
+use Rattle.scanner.specs.Ties.Cursors.{endNumber, aheadOf, nextFrom, apartIn, nextIn}
 use Rattle.scanner.specs.Ties.Steps.{Faultless}
 use Rattle.scanner.specs.declared.Next.the-variants.{Ended, Fault}
 use Rattle.scanner.specs.declared.cursor.Ahead.{Ahead}
@@ -50,11 +50,11 @@ small-number tooDeep = omega arith
 -- no symbol is left, and no fault
 ended-in : (cursor : List ℕ) → aheadOf (getD cursor 0 0) ≡ End → nextIn cursor ≡ Ended
 unfolding nextIn
-ended-in cursor e = ap (λ (a : Ahead). nextFrom a (getD cursor 1 0) (getD cursor 2 0)) e
+ended-in cursor e = ap (λ (a : Ahead). nextFrom a (getD cursor 1 0) (getD cursor 2 0) (getD cursor 3 0) (apartIn cursor)) e
 
 faulty-in : (cursor : List ℕ) → aheadOf (getD cursor 0 0) ≡ Faulty → nextIn cursor ≡ Fault (getD cursor 2 0) (getD cursor 1 0)
 unfolding nextIn
-faulty-in cursor e = ap (λ (a : Ahead). nextFrom a (getD cursor 1 0) (getD cursor 2 0)) e
+faulty-in cursor e = ap (λ (a : Ahead). nextFrom a (getD cursor 1 0) (getD cursor 2 0) (getD cursor 3 0) (apartIn cursor)) e
 
 never : {n p m : ℕ} → Refused n p ≡ Accepted m → ⊥
 never e = let z : _≡_ {A = ℕ} 0 1 = cc in omega arith

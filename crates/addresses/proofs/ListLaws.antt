@@ -1,6 +1,6 @@
 -- A list, address by address. Assumes nothing.
 use mathlib.Core.Path.{_≡_, refl, sym, ap, _∙_}
-use mathlib.Core.Bool.{false, true≢false}
+use mathlib.Core.Bool.{Bool, false, true≢false}
 use mathlib.Core.List.{List, _∷_}
 use Prim.Native.Nat.{ℕ, _+_, _*_, _-_, _≤_}
 use native.Mathlib.Omega.{arith}
@@ -17,7 +17,7 @@ use Rattle.grammar.proofs.Rfc733.Complete.{doneList, Clear, complete-doneList}
 use Rattle.grammar.proofs.Rfc733.Readers.{AddressEnds, ListEnds, endsAddress}
 use Rattle.grammar.proofs.Rfc733.TreeRecords.{listCount, listRecords}
 use Rattle.grammar.proofs.RecordLaws.{stored-behind}
-use Rattle.addresses.specs.Ties.Steps.{symbolsFrom, lexemeAt, symbolsAhead, Comes, AddressRead, AddressStops, ListRead, ListStops}
+use Rattle.addresses.specs.Ties.Steps.{symbolsFrom, lexemeAt, symbolsOn, symbolsAhead, Comes, AddressRead, AddressStops, ListRead, ListStops}
 use Rattle.addresses.specs.declared.Frame.{Frame}
 use Rattle.addresses.proofs.NextLaws.{NextIs}
 
@@ -66,12 +66,12 @@ module _ (classes text : List ℕ) where
       }
 
   module _ {at : ℕ} {frame : Frame} {table now : List ℕ} where
-    pub list-comma : {a b last free : ℕ} (ahead : Next) → ListSoFar at frame table now (foundAt Comma a b) last free → NextIs classes text b ahead → ListSoFar at frame table now ahead b free
-    list-comma {a} {b} ahead w x =
+    pub list-comma : {a b size last free : ℕ} {apart : Bool} (ahead : Next) → ListSoFar at frame table now (foundAt Comma a b size apart) last free → NextIs classes text b ahead → ListSoFar at frame table now ahead b free
+    list-comma {a} {b} {apart = apart} ahead w x =
         record {
-          tree = idle (comma (w .tree) (lexemeAt classes text Comma a b));
-          reads = λ k c. w .reads k c ∙ run-comma (levelsAt k + frame .levels) k (w .tree) (lexemeAt classes text Comma a b) (symbolsFrom classes text b)
-              ∙ ap (run (levelsAt k + frame .levels) (list k (idle (comma (w .tree) (lexemeAt classes text Comma a b))))) (x .same);
+          tree = idle (comma (w .tree) (lexemeAt classes text Comma a b apart));
+          reads = λ k c. w .reads k c ∙ run-comma (levelsAt k + frame .levels) k (w .tree) (lexemeAt classes text Comma a b apart) (symbolsFrom classes text b)
+              ∙ ap (run (levelsAt k + frame .levels) (list k (idle (comma (w .tree) (lexemeAt classes text Comma a b apart))))) (x .same);
           clear = λ k c. tt;
           behind = tt;
           ahead-ok = x .ok;
@@ -83,15 +83,15 @@ module _ (classes text : List ℕ) where
         }
 
     -- one address more
-    pub list-address : {class : Class} {a b last free last′ free′ : ℕ} (after : List ℕ) (ahead : Next) → ListSoFar at frame table now (foundAt class a b) last free → endsAddress class ≡ false
-        → AddressRead classes text (symbolsAhead classes text (foundAt class a b)) record { levels = frame .levels; parent = frame .parent; number = free } a now after ahead last′ free′
+    pub list-address : {class : Class} {a b size last free last′ free′ : ℕ} {apart : Bool} (after : List ℕ) (ahead : Next) → ListSoFar at frame table now (foundAt class a b size apart) last free → endsAddress class ≡ false
+        → AddressRead classes text (symbolsOn classes text class a b apart) record { levels = frame .levels; parent = frame .parent; number = free } a now after ahead last′ free′
         → ListSoFar at frame table after ahead last′ free′
-    list-address {class} {a} {b} {last} {free} {last′} {free′} after ahead w f r = by (w .tree) (w .reads) (w .clear) (w .behind) (w .count) (w .stored)
+    list-address {class} {a} {b} {free = free} {last′ = last′} {free′ = free′} {apart = apart} after ahead w f r = by (w .tree) (w .reads) (w .clear) (w .behind) (w .count) (w .stored)
       where
         by : (l : AddressList)
-            → ((k : Level) → Clear (nameless k) (atomColon (symbolsFrom classes text at)) → run (levelsAt k + frame .levels) (list k (idle empty)) (symbolsFrom classes text at) ≡ run (levelsAt k + frame .levels) (doneList k l) (symbolsAhead classes text (foundAt class a b)))
-            → ((k : Level) → Clear (nameless k) (atomColon (symbolsFrom classes text at)) → ClearAt k l (symbolsAhead classes text (foundAt class a b)))
-            → Behind l (symbolsAhead classes text (foundAt class a b)) → free ≡ frame .number + listCount l
+            → ((k : Level) → Clear (nameless k) (atomColon (symbolsFrom classes text at)) → run (levelsAt k + frame .levels) (list k (idle empty)) (symbolsFrom classes text at) ≡ run (levelsAt k + frame .levels) (doneList k l) (symbolsOn classes text class a b apart))
+            → ((k : Level) → Clear (nameless k) (atomColon (symbolsFrom classes text at)) → ClearAt k l (symbolsOn classes text class a b apart))
+            → Behind l (symbolsOn classes text class a b apart) → free ≡ frame .number + listCount l
             → now ≡ sets table (frame .number * addressRecordSize) (tableBytes (listRecords l (levelLimit - frame .levels) (frame .parent) (frame .number))) → ListSoFar at frame table after ahead last′ free′
         by (idle p) reads clear behind count stored =
             record {
@@ -108,13 +108,13 @@ module _ (classes text : List ℕ) where
             }
         by (full p x) reads clear behind count stored = absurd (true≢false (sym behind ∙ f))
 
-    pub list-stops : {class : Class} {a b last free number-told place : ℕ} → ListSoFar at frame table now (foundAt class a b) last free → endsAddress class ≡ false
-        → AddressStops classes text (symbolsAhead classes text (foundAt class a b)) record { levels = frame .levels; parent = frame .parent; number = free } number-told place → ListStops classes text at frame number-told place
-    list-stops {class} {a} {b} {last} {free} {number-told} {place} w f s =
+    pub list-stops : {class : Class} {a b size last free number-told place : ℕ} {apart : Bool} → ListSoFar at frame table now (foundAt class a b size apart) last free → endsAddress class ≡ false
+        → AddressStops classes text (symbolsOn classes text class a b apart) record { levels = frame .levels; parent = frame .parent; number = free } number-told place → ListStops classes text at frame number-told place
+    list-stops {class} {a} {b} {apart = apart} w f s =
         record { why = s .why; rest = s .rest; number-is = s .number-is; place-is = s .place-is; stops = λ k c. by k (w .tree) (w .reads k c) (w .clear k c) (w .behind) }
       where
-        by : (k : Level) (l : AddressList) → run (levelsAt k + frame .levels) (list k (idle empty)) (symbolsFrom classes text at) ≡ run (levelsAt k + frame .levels) (doneList k l) (symbolsAhead classes text (foundAt class a b))
-            → ClearAt k l (symbolsAhead classes text (foundAt class a b)) → Behind l (symbolsAhead classes text (foundAt class a b))
+        by : (k : Level) (l : AddressList) → run (levelsAt k + frame .levels) (list k (idle empty)) (symbolsFrom classes text at) ≡ run (levelsAt k + frame .levels) (doneList k l) (symbolsOn classes text class a b apart)
+            → ClearAt k l (symbolsOn classes text class a b apart) → Behind l (symbolsOn classes text class a b apart)
             → judge (run (levelsAt k + frame .levels) (list k (idle empty)) (symbolsFrom classes text at)) ≡ Rattle.grammar.specs.Believed.Language.refused (s .why) (s .rest)
         by k (idle p) reads clear behind = ap judge reads ∙ s .stops (inList k p) clear
         by k (full p x) reads clear behind = absurd (true≢false (sym behind ∙ f))

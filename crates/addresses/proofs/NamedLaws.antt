@@ -13,7 +13,7 @@ use Rattle.scanner.specs.Believed.Answers.{foundAt}
 use Rattle.scanner.specs.declared.Next.the-variants.{Found, Ended, Fault}
 use Rattle.grammar.specs.Executable.Trees733.{Class, Lexeme, Sym, Phrase, one}
 use Rattle.grammar.proofs.Rfc733.Trees.{phraseThen}
-use Rattle.addresses.specs.Ties.Steps.{isWord, isQuoted, followsPhrase, loneQuoted, opening, House, symbolsFrom, lexemeAt, symbolsAhead, Comes, FirstWord, Words, WordsIs, NoMark, Named, Opening}
+use Rattle.addresses.specs.Ties.Steps.{isWord, isQuoted, followsPhrase, loneQuoted, opening, House, symbolsFrom, lexemeAt, symbolsOn, symbolsAhead, Comes, FirstWord, Words, WordsIs, NoMark, Named, Opening}
 use Rattle.records.specs.declared.Span.{Span}
 use Rattle.addresses.specs.declared.Enclosure.{Enclosure}
 use Rattle.addresses.specs.declared.Enclosure.the-variants.{Angle, Group}
@@ -33,13 +33,13 @@ module _ (classes text : List ℕ) where
   no-mark-left low (Fault number p) a o = tt
 
   -- the phrase that begins with a word
-  abbrev pub phraseOf : (class : Class) (start end : ℕ) {lone : Bool} {r : Words} → WordsIs classes text end lone r → Phrase
-  phraseOf class start end w = w .grow (one (wordOf class (lexemeAt classes text class start end)))
+  abbrev pub phraseOf : (class : Class) (start end : ℕ) (apart : Bool) {lone : Bool} {r : Words} → WordsIs classes text end lone r → Phrase
+  phraseOf class start end apart w = w .grow (one (wordOf class (lexemeAt classes text class start end apart)))
 
-  pub named-is : (class : Class) {start end : ℕ} {lone : Bool} {r : Words} → FirstWord classes text class start end → (w : WordsIs classes text end lone r)
-      → Named classes text (symbolsAhead classes text (foundAt class start end)) record { start = start; end = r .end } (phraseOf class start end w) (r .ahead)
-  named-is class {start} {end} f w =
-      let t = lexemeAt classes text class start end in
+  pub named-is : (class : Class) {start end : ℕ} (apart : Bool) {lone : Bool} {r : Words} → FirstWord classes text class start end → (w : WordsIs classes text end lone r)
+      → Named classes text (symbolsOn classes text class start end apart) record { start = start; end = r .end } (phraseOf class start end apart w) (r .ahead)
+  named-is class {start} {end} apart f w =
+      let t = lexemeAt classes text class start end apart in
       let q = one (wordOf class t) in
       record {
         yields = ap (λ (x : Sym). x ∷ symbolsFrom classes text end) (sym (word-symbol class t (f .word))) ∙ w .yields q;
@@ -47,17 +47,17 @@ module _ (classes text : List ℕ) where
         end-is = w .end-is q (ap (λ (l : Lexeme). l .end) (word-lexeme class t));
       }
 
-  pub named-lone : (class : Class) (start end : ℕ) {lone : Bool} {r : Words} → lone ≡ isQuoted class → (w : WordsIs classes text end lone r) → r .lone ≡ loneQuoted (phraseOf class start end w)
-  named-lone class start end e w = let t = lexemeAt classes text class start end in w .lone-is (one (wordOf class t)) (e ∙ word-lone class t)
+  pub named-lone : (class : Class) (start end : ℕ) (apart : Bool) {lone : Bool} {r : Words} → lone ≡ isQuoted class → (w : WordsIs classes text end lone r) → r .lone ≡ loneQuoted (phraseOf class start end apart w)
+  named-lone class start end apart e w = let t = lexemeAt classes text class start end apart in w .lone-is (one (wordOf class t)) (e ∙ word-lone class t)
 
   house-named : (e : Enclosure) (p : Phrase) (ys : List Sym) → House e (some p) ys
   house-named Angle p ys = tt
   house-named Group p ys = tt
 
   -- a phrase before the mark of an enclosed list is its name
-  pub named-opening : (e : Enclosure) {xs : List Sym} {span : Span} {p : Phrase} {a b : ℕ} → Named classes text xs span p (foundAt (opening e) a b) → Opening classes text e xs a b span
-  named-opening e {p = p} {b = b} n =
-      record { name = some p; yields = n .yields; start-is = sym (n .start-is); end-is = sym (n .end-is); house = house-named e p (symbolsFrom classes text b) }
+  pub named-opening : (e : Enclosure) {xs : List Sym} {span : Span} {p : Phrase} {a b size : ℕ} {apart : Bool} → Named classes text xs span p (foundAt (opening e) a b size apart) → Opening classes text e xs a b span
+  named-opening e {p = p} {b = b} {apart = apart} n =
+      record { name = some p; apart = apart; yields = n .yields; start-is = sym (n .start-is); end-is = sym (n .end-is); house = house-named e p (symbolsFrom classes text b) }
 
   -- the mark that stands after a phrase
   pub named-before : {xs : List Sym} {span : Span} {p : Phrase} {r s : Next} → Named classes text xs span p r → r ≡ s → Named classes text xs span p s

@@ -1,7 +1,9 @@
 -- What the next symbol tells of the symbols from a position on. Assumes nothing.
-use mathlib.Core.Path.{_≡_, refl, ap}
+use mathlib.Core.Path.{_≡_, refl, sym, ap, _∙_}
+use mathlib.Core.Bool.{Bool}
 use mathlib.Core.List.{List, [], _∷_}
 use Prim.Native.Nat.{ℕ}
+use lib.Dec.{ltb}
 use types.Run.{OneOf}
 use denote.Enum.Declared.{tagOf}
 use Rattle.scanner.proofs.Next as next-declared
@@ -9,8 +11,8 @@ use Rattle.scanner.specs.Believed.Scanning.{scanBy, symbolsOf}
 use Rattle.scanner.specs.Believed.Answers.{unlessFault, faultOf, nextOf}
 use Rattle.scanner.specs.declared.Next.{Next}
 use Rattle.scanner.specs.declared.Next.the-variants.{Found, Ended, Fault}
-use Rattle.scanner.proofs.Unfolding.{SymbolAt, found, found-end, found-fault, fault-on}
-use Rattle.addresses.specs.Ties.Steps.{symbolsFrom, symbolsAhead, Comes, faultFrom, faultAhead}
+use Rattle.scanner.proofs.Unfolding.{SymbolAt, found, found-apart, found-end, found-fault, fault-on}
+use Rattle.addresses.specs.Ties.Steps.{symbolsFrom, symbolsOn, symbolsAhead, Comes, faultFrom, faultAhead}
 use Rattle.addresses.proofs.ClassCases.{no-symbol}
 
 -- the next symbol at or after a position
@@ -25,7 +27,12 @@ module _ (classes text : List ℕ) where
   unfolding symbolsOf unlessFault
   next-is at (Found symbol) e =
       let x : SymbolAt classes text at (symbol .class) (symbol .start) (symbol .end) = found classes text at e in
-      record { ok = (x .from, record { starts = x .starts; within = x .within }); same = ap symbolsOf (x .same); faults = fault-on classes text x }
+      let apart : ltb at (symbol .start) ≡ symbol .apart = sym (found-apart classes text at e) in
+      record {
+        ok = (x .from, record { starts = x .starts; within = x .within });
+        same = ap symbolsOf (x .same) ∙ ap (λ (b : Bool). symbolsOn classes text (symbol .class) (symbol .start) (symbol .end) b) apart;
+        faults = fault-on classes text x;
+      }
   next-is at Ended e = let x = found-end classes text at e in record { ok = tt; same = ap symbolsOf x; faults = ap faultOf x }
   next-is at (Fault number p) e = let x = found-fault classes text at e in record { ok = tt; same = ap symbolsOf x; faults = ap faultOf x }
 

@@ -16,7 +16,7 @@ use Rattle.grammar.proofs.Rfc733.Complete.{run-word}
 use Rattle.grammar.proofs.Symbols.{each-other}
 use Rattle.grammar.proofs.Rfc733.Readers.{AddressEnds}
 use Rattle.grammar.proofs.Rfc733.TreeRecords.{wordLexeme, nodesEnd}
-use Rattle.addresses.specs.Ties.Steps.{isWord, symbolsFrom, lexemeAt, symbolAt, symbolsAhead, faultFrom, NodesEnd, Stops, NodesContext}
+use Rattle.addresses.specs.Ties.Steps.{isWord, symbolsFrom, lexemeAt, symbolAt, symbolsOn, symbolsAhead, faultFrom, NodesEnd, Stops, NodesContext}
 use Rattle.addresses.proofs.NextLaws.{NextIs}
 use Rattle.addresses.proofs.PhraseLaws.{wordOf, word-symbol, word-lexeme}
 
@@ -75,29 +75,29 @@ again m t = next-open m t
 
 module _ (classes text : List ℕ) where
   -- the nodes so far: the machine has come to p, after an "at"
-  pub record NodesSoFar (start at p : ℕ) : Type 0 where
+  pub record NodesSoFar (start at : ℕ) (apart : Bool) (p : ℕ) : Type 0 where
     pub open-nodes : OpenNodes
-    pub yields : symbolAt classes text At start at ∷ symbolsFrom classes text at ≡ openThen open-nodes (symbolsFrom classes text p)
-    pub comes : (c : NodesContext classes text) → run (c .limit) (firstAt (c .here) (c .phrase) (lexemeAt classes text At start at)) (symbolsFrom classes text at) ≡ run (c .limit) (openState (c .here) (c .phrase) open-nodes) (symbolsFrom classes text p)
+    pub yields : symbolAt classes text At start at apart ∷ symbolsFrom classes text at ≡ openThen open-nodes (symbolsFrom classes text p)
+    pub comes : (c : NodesContext classes text) → run (c .limit) (firstAt (c .here) (c .phrase) (lexemeAt classes text At start at apart)) (symbolsFrom classes text at) ≡ run (c .limit) (openState (c .here) (c .phrase) open-nodes) (symbolsFrom classes text p)
     pub from : at ≤ p
     pub faults : faultFrom classes text at ≡ faultFrom classes text p
 
-  pub nodes-start : {start at : ℕ} → NodesSoFar start at at
-  nodes-start {start} {at} = record { open-nodes = first-open (lexemeAt classes text At start at); yields = refl; comes = λ c. refl; from = omega arith; faults = refl }
+  pub nodes-start : {start at : ℕ} {apart : Bool} → NodesSoFar start at apart at
+  nodes-start {start} {at} {apart} = record { open-nodes = first-open (lexemeAt classes text At start at apart); yields = refl; comes = λ c. refl; from = omega arith; faults = refl }
 
   -- one node more, up to its end
-  pub record NodeRead (start at last : ℕ) : Type 0 where
+  pub record NodeRead (start at : ℕ) (apart : Bool) (last : ℕ) : Type 0 where
     pub nodes : Nodes
-    pub yields : symbolAt classes text At start at ∷ symbolsFrom classes text at ≡ nodesThen nodes (symbolsFrom classes text last)
-    pub comes : (c : NodesContext classes text) → run (c .limit) (firstAt (c .here) (c .phrase) (lexemeAt classes text At start at)) (symbolsFrom classes text at) ≡ run (c .limit) (node (c .here) (c .phrase) nodes) (symbolsFrom classes text last)
+    pub yields : symbolAt classes text At start at apart ∷ symbolsFrom classes text at ≡ nodesThen nodes (symbolsFrom classes text last)
+    pub comes : (c : NodesContext classes text) → run (c .limit) (firstAt (c .here) (c .phrase) (lexemeAt classes text At start at apart)) (symbolsFrom classes text at) ≡ run (c .limit) (node (c .here) (c .phrase) nodes) (symbolsFrom classes text last)
     pub end-is : nodesEnd nodes ≡ last
     pub from : at < last
     pub within : last ≤ length text
     pub faults : faultFrom classes text at ≡ faultFrom classes text last
 
-  pub node-read : {start at p a b : ℕ} {class : Class} → NodesSoFar start at p → NextIs classes text p (foundAt class a b) → isWord class ≡ true → NodeRead start at b
-  node-read {start} {at} {p} {a} {b} {class} w x o =
-      let t = lexemeAt classes text class a b in
+  pub node-read : {start at p a b size : ℕ} {first apart : Bool} {class : Class} → NodesSoFar start at first p → NextIs classes text p (foundAt class a b size apart) → isWord class ≡ true → NodeRead start at first b
+  node-read {p = p} {a = a} {b = b} {apart = apart} {class = class} w x o =
+      let t = lexemeAt classes text class a b apart in
       let word = wordOf class t in
       let e : symbolsFrom classes text p ≡ wordSymbol word ∷ symbolsFrom classes text b = x .same ∙ ap (λ (y : Sym). y ∷ symbolsFrom classes text b) (sym (word-symbol class t o)) in
       record {
@@ -111,10 +111,10 @@ module _ (classes text : List ℕ) where
       }
 
   -- another "at"
-  pub nodes-again : {start at last a b : ℕ} → NodeRead start at last → NextIs classes text last (foundAt At a b) → NodesSoFar start at b
-  nodes-again {a = a} {b = b} w x =
+  pub nodes-again : {start at last a b size : ℕ} {first apart : Bool} → NodeRead start at first last → NextIs classes text last (foundAt At a b size apart) → NodesSoFar start at first b
+  nodes-again {a = a} {b = b} {apart = apart} w x =
       record {
-        open-nodes = next-open (w .nodes) (lexemeAt classes text At a b);
+        open-nodes = next-open (w .nodes) (lexemeAt classes text At a b apart);
         yields = w .yields ∙ ap (nodesThen (w .nodes)) (x .same);
         comes = λ c. w .comes c ∙ ap (run (c .limit) (node (c .here) (c .phrase) (w .nodes))) (x .same);
         from = omega (arith, w .from, x .ok .0, x .ok .1 .starts);
@@ -122,28 +122,28 @@ module _ (classes text : List ℕ) where
       }
 
   -- the end of the address
-  pub nodes-end : {start at last : ℕ} (ahead : Next) → NodeRead start at last → NextIs classes text last ahead → AddressEnds (symbolsAhead classes text ahead) → NodesEnd classes text start at ahead last
+  pub nodes-end : {start at last : ℕ} {apart : Bool} (ahead : Next) → NodeRead start at apart last → NextIs classes text last ahead → AddressEnds (symbolsAhead classes text ahead) → NodesEnd classes text start at apart ahead last
   nodes-end ahead w x e =
       record { nodes = w .nodes; yields = w .yields ∙ ap (nodesThen (w .nodes)) (x .same); end-is = w .end-is; ends = e; ahead-ok = x .ok; from = w .from; within = w .within }
 
   -- ---- refusals
 
-  abbrev NodesStop : ℕ → ℕ → ℕ → ℕ → Type 0
-  NodesStop start at number-told place =
-      Stops classes text (λ (c : NodesContext classes text) why rest. judge (run (c .limit) (firstAt (c .here) (c .phrase) (lexemeAt classes text At start at)) (symbolsFrom classes text at)) ≡ refused why rest) number-told place
+  abbrev NodesStop : ℕ → ℕ → Bool → ℕ → ℕ → Type 0
+  NodesStop start at apart number-told place =
+      Stops classes text (λ (c : NodesContext classes text) why rest. judge (run (c .limit) (firstAt (c .here) (c .phrase) (lexemeAt classes text At start at apart)) (symbolsFrom classes text at)) ≡ refused why rest) number-told place
 
-  pub stops-no-node : {start at p a b : ℕ} {class : Class} → NodesSoFar start at p → NextIs classes text p (foundAt class a b) → isWord class ≡ false → NodesStop start at noListGoesOn a
-  stops-no-node {a = a} {b = b} {class = class} w x o =
+  pub stops-no-node : {start at p a b size : ℕ} {first apart : Bool} {class : Class} → NodesSoFar start at first p → NextIs classes text p (foundAt class a b size apart) → isWord class ≡ false → NodesStop start at first noListGoesOn a
+  stops-no-node {a = a} {b = b} {size = size} {apart = apart} {class = class} w x o =
       record {
         why = unfit;
-        rest = symbolsAhead classes text (foundAt class a b);
+        rest = symbolsOn classes text class a b apart;
         number-is = refl;
         place-is = refl;
         stops = λ c. ap judge (w .comes c ∙ ap (run (c .limit) (openState (c .here) (c .phrase) (w .open-nodes))) (x .same))
-            ∙ no-node (c .limit) (c .here) (c .phrase) (w .open-nodes) class (lexemeAt classes text class a b) (symbolsFrom classes text b) o;
+            ∙ no-node (c .limit) (c .here) (c .phrase) (w .open-nodes) class (lexemeAt classes text class a b apart) (symbolsFrom classes text b) o;
       }
 
-  pub stops-node-wanted : {start at p : ℕ} → NodesSoFar start at p → symbolsFrom classes text p ≡ [] → NodesStop start at endsTooSoon (length text)
+  pub stops-node-wanted : {start at p : ℕ} {apart : Bool} → NodesSoFar start at apart p → symbolsFrom classes text p ≡ [] → NodesStop start at apart endsTooSoon (length text)
   stops-node-wanted w e =
       record {
         why = unfinished;
@@ -153,13 +153,13 @@ module _ (classes text : List ℕ) where
         stops = λ c. ap judge (w .comes c ∙ ap (run (c .limit) (openState (c .here) (c .phrase) (w .open-nodes))) e) ∙ node-wanted (c .limit) (c .here) (c .phrase) (w .open-nodes);
       }
 
-  pub stops-behind-node : {start at last a b : ℕ} {class : Class} → NodeRead start at last → NextIs classes text last (foundAt class a b) → followsNode class ≡ false → NodesStop start at noListGoesOn a
-  stops-behind-node {a = a} {b = b} {class = class} w x o =
+  pub stops-behind-node : {start at last a b size : ℕ} {first apart : Bool} {class : Class} → NodeRead start at first last → NextIs classes text last (foundAt class a b size apart) → followsNode class ≡ false → NodesStop start at first noListGoesOn a
+  stops-behind-node {a = a} {b = b} {size = size} {apart = apart} {class = class} w x o =
       record {
         why = unfit;
-        rest = symbolsAhead classes text (foundAt class a b);
+        rest = symbolsOn classes text class a b apart;
         number-is = refl;
         place-is = refl;
         stops = λ c. ap judge (w .comes c ∙ ap (run (c .limit) (node (c .here) (c .phrase) (w .nodes))) (x .same))
-            ∙ behind-node (c .limit) (c .here) (c .phrase) (w .nodes) class (lexemeAt classes text class a b) (symbolsFrom classes text b) o;
+            ∙ behind-node (c .limit) (c .here) (c .phrase) (w .nodes) class (lexemeAt classes text class a b apart) (symbolsFrom classes text b) o;
       }

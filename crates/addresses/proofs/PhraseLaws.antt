@@ -54,9 +54,9 @@ module _ (classes text : List ℕ) where
   words-start r =
       record { grow = λ q. q; yields = λ q. refl; start-is = λ q. refl; end-is = λ q e. e; lone-is = λ q e. e; from = omega arith; within = r; faults = refl }
 
-  pub words-more : {other : Class} {end last a b : ℕ} {first lone : Bool} → WordsSoFar end first last lone → NextIs classes text last (foundAt other a b) → isWord other ≡ true → WordsSoFar end first b false
-  words-more {other} {end} {last} {a} {b} w x o =
-      let t = lexemeAt classes text other a b in
+  pub words-more : {other : Class} {end last a b size : ℕ} {first lone apart : Bool} → WordsSoFar end first last lone → NextIs classes text last (foundAt other a b size apart) → isWord other ≡ true → WordsSoFar end first b false
+  words-more {other} {last = last} {a = a} {b = b} {apart = apart} w x o =
+      let t = lexemeAt classes text other a b apart in
       let e : symbolsFrom classes text last ≡ wordSymbol (wordOf other t) ∷ symbolsFrom classes text b = x .same ∙ ap (λ (y : Sym). y ∷ symbolsFrom classes text b) (sym (word-symbol other t o)) in
       record {
         grow = λ q. more (w .grow q) (wordOf other t);

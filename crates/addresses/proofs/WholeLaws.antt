@@ -1,5 +1,6 @@
 -- A whole body: the verdict, and what follows from it for the answer and the table. Assumes nothing.
 use mathlib.Core.Path.{_≡_, refl, sym, ap, _∙_}
+use mathlib.Core.Bool.{Bool}
 use mathlib.Core.List.{List, [], _∷_}
 use Prim.Native.Nat.{ℕ}
 use native.Mathlib.Nat.{zero-add}
@@ -28,7 +29,7 @@ use Rattle.grammar.proofs.Rfc733.TreeRecords.{tree-records, tree-count}
 use Rattle.addresses.specs.Believed.Editions.{edition733}
 use Rattle.addresses.specs.Believed.Outcome.{Outcome, AnsweredBy, refusal, outcome}
 use Rattle.addresses.specs.Believed.Condition3.{Condition3}
-use Rattle.addresses.specs.Ties.Steps.{symbolsFrom, symbolsAhead, lexemeAt, ListRead, ListStops}
+use Rattle.addresses.specs.Ties.Steps.{symbolsFrom, symbolsOn, symbolsAhead, lexemeAt, ListRead, ListStops}
 use Rattle.addresses.specs.Ties.Whole.{Fitting, IsListed, IsRefused, FaultFirst}
 use Rattle.addresses.specs.declared.Frame.{Frame}
 use Rattle.addresses.proofs.AnyEdition as any
@@ -56,8 +57,8 @@ module _ (classes text : List ℕ) where
     pub verdict-stops : {number-told place : ℕ} (s : ListStops classes text at (outermost limit) number-told place) → answer limit (symbolsFrom classes text at) ≡ refused (s .why) (s .rest)
     verdict-stops s = ap asForests (rw (zero-add limit) at (s .stops top tt))
 
-    pub verdict-closed : {last free a b : ℕ} {class : Class} {table after : List ℕ} → ListRead classes text at (outermost limit) table after (foundAt class a b) last free → answer limit (symbolsFrom classes text at) ≡ refused unfit (symbolsAhead classes text (foundAt class a b))
-    verdict-closed {a = a} {b = b} {class = class} l = ap asForests (ap judge (rw (zero-add limit) at (l .reads top tt)) ∙ not-closed limit (l .tree) class (lexemeAt classes text class a b) (symbolsFrom classes text b) (l .ends))
+    pub verdict-closed : {last free a b size : ℕ} {apart : Bool} {class : Class} {table after : List ℕ} → ListRead classes text at (outermost limit) table after (foundAt class a b size apart) last free → answer limit (symbolsFrom classes text at) ≡ refused unfit (symbolsOn classes text class a b apart)
+    verdict-closed {a = a} {b = b} {apart = apart} {class = class} l = ap asForests (ap judge (rw (zero-add limit) at (l .reads top tt)) ∙ not-closed limit (l .tree) class (lexemeAt classes text class a b apart) (symbolsFrom classes text b) (l .ends))
 
   pub whole-listed : {at last free : ℕ} {table after : List ℕ} (ahead : Next) → ListRead classes text at (outermost levelLimit) table after ahead last free → symbolsAhead classes text ahead ≡ [] → IsListed (answer levelLimit) classes text at table after free
   whole-listed {at} {table = table} ahead l e =
@@ -71,7 +72,7 @@ module _ (classes text : List ℕ) where
   pub whole-stops : {at number-told place : ℕ} → ListStops classes text at (outermost levelLimit) number-told place → IsRefused (answer levelLimit) classes text at number-told place
   whole-stops {at} s = record { why = s .why; rest = s .rest; verdict-is = verdict-stops levelLimit at s; number-is = s .number-is; place-is = s .place-is }
 
-  pub whole-closed : {at last free a b : ℕ} {class : Class} {table after : List ℕ} → ListRead classes text at (outermost levelLimit) table after (foundAt class a b) last free → IsRefused (answer levelLimit) classes text at noListGoesOn a
+  pub whole-closed : {at last free a b size : ℕ} {apart : Bool} {class : Class} {table after : List ℕ} → ListRead classes text at (outermost levelLimit) table after (foundAt class a b size apart) last free → IsRefused (answer levelLimit) classes text at noListGoesOn a
   whole-closed {at} l = record { why = unfit; rest = _; verdict-is = verdict-closed levelLimit at l; number-is = refl; place-is = refl }
 
 -- ---- condition 3

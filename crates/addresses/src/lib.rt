@@ -38,15 +38,16 @@ use scanner::cursor::CLASS;
 use scanner::cursor::END;
 use scanner::cursor::ENDED;
 use scanner::cursor::FAULT;
+use scanner::cursor::FROM;
 use scanner::cursor::START;
 use scanner::cursor::ahead_of;
 use scanner::cursor::put;
 use scanner::cursor::step;
 
 // The places of a cursor that are this walk's own: the next free record number, and the end of the last symbol read.
-const FREE: usize = 3;
+const FREE: usize = 5;
 
-const LAST: usize = 4;
+const LAST: usize = 6;
 
 // A body of up to so many bytes is read once, beside the table.
 const ONCE_LIMIT: usize = 1024;
@@ -130,22 +131,22 @@ fn ends_address(ahead: Ahead) -> bool
 }
 
 // The refusal of what stands ahead: 8 at a symbol, 9 at the end of the text.
-fn refuse(text: &[u8], cursor: &mut [usize; 5]) -> bool
+fn refuse(text: &[u8], cursor: &mut [usize; 7]) -> bool
     requires { ⌜ length (now cursor) ≡ cursorSize ⌝ }
     ensures { λ r. ⌜ reading r (now (cursor .exit)) ≡ refusedNext (length (now (text .entry))) (nextIn (now (cursor .entry))) ⌝ }
 {
     match ahead_of(cursor[CLASS]) {
         Ahead::Symbol(_) => {
             let place = cursor[START];
-            put(cursor, FAULT, place, NO_LIST_GOES_ON as usize);
+            put(cursor, FAULT, place, NO_LIST_GOES_ON as usize, 0);
         }
-        _ => put(cursor, FAULT, text.len(), ENDS_TOO_SOON as usize),
+        _ => put(cursor, FAULT, text.len(), ENDS_TOO_SOON as usize, 0),
     }
     false
 }
 
 // The words of a phrase whose first stands ahead, and whether they are one quoted-string; lone: whether the first is one.
-fn read_words(classes: &[u8; 256], text: &[u8], cursor: &mut [usize; 5], lone: bool) -> bool
+fn read_words(classes: &[u8; 256], text: &[u8], cursor: &mut [usize; 7], lone: bool) -> bool
     requires { ⌜ (length (now cursor) ≡ cursorSize) × (getD (now cursor) 2 0 ≤ length (now text)) ⌝ }
     ensures { λ r. ⌜ PhraseIs (now (classes .entry)) (now (text .entry)) (now (cursor .entry)) lone r (now (cursor .exit)) ⌝ }
 {
@@ -162,7 +163,7 @@ fn read_words(classes: &[u8; 256], text: &[u8], cursor: &mut [usize; 5], lone: b
 }
 
 // The nodes after the "at" that stands ahead, to the end of the address.
-fn read_nodes(classes: &[u8; 256], text: &[u8], cursor: &mut [usize; 5]) -> bool
+fn read_nodes(classes: &[u8; 256], text: &[u8], cursor: &mut [usize; 7]) -> bool
     requires { ⌜ length (now cursor) ≡ cursorSize ⌝ }
     ensures { λ r. ⌜ NodesAre (now (classes .entry)) (now (text .entry)) (now (cursor .entry)) r (now (cursor .exit)) ⌝ }
 {
@@ -188,7 +189,7 @@ fn read_nodes(classes: &[u8; 256], text: &[u8], cursor: &mut [usize; 5]) -> bool
 }
 
 // The atom and ":" that make a typed address of the ":" that stands ahead; after them the second ":" stands ahead.
-fn typed_atom(classes: &[u8; 256], text: &[u8], cursor: &mut [usize; 5]) -> TypedAtom
+fn typed_atom(classes: &[u8; 256], text: &[u8], cursor: &mut [usize; 7]) -> TypedAtom
     requires { ⌜ length (now cursor) ≡ cursorSize ⌝ }
     ensures { λ r. ⌜ TypedAtomIs (now (classes .entry)) (now (text .entry)) (now (cursor .entry)) r (now (cursor .exit)) ⌝ }
 {
@@ -216,7 +217,7 @@ fn read_mailbox(
     classes: &[u8; 256],
     text: &[u8],
     table: &mut [u8],
-    cursor: &mut [usize; 5],
+    cursor: &mut [usize; 7],
     levels: usize,
     parent: usize,
     name: Span,
@@ -243,7 +244,7 @@ fn read_lone(
     classes: &[u8; 256],
     text: &[u8],
     table: &mut [u8],
-    cursor: &mut [usize; 5],
+    cursor: &mut [usize; 7],
     levels: usize,
     parent: usize,
     lone: bool,
@@ -316,7 +317,7 @@ fn close_list(
     classes: &[u8; 256],
     text: &[u8],
     table: &mut [u8],
-    cursor: &mut [usize; 5],
+    cursor: &mut [usize; 7],
     frame: Frame,
     enclosure: Enclosure,
     name: Span,
@@ -349,7 +350,7 @@ fn read_list(
     classes: &[u8; 256],
     text: &[u8],
     table: &mut [u8],
-    cursor: &mut [usize; 5],
+    cursor: &mut [usize; 7],
     levels: usize,
     parent: usize,
 ) -> bool
@@ -378,7 +379,7 @@ fn read_address(
     classes: &[u8; 256],
     text: &[u8],
     table: &mut [u8],
-    cursor: &mut [usize; 5],
+    cursor: &mut [usize; 7],
     levels: usize,
     parent: usize,
 ) -> bool
@@ -405,7 +406,7 @@ fn read_named(
     classes: &[u8; 256],
     text: &[u8],
     table: &mut [u8],
-    cursor: &mut [usize; 5],
+    cursor: &mut [usize; 7],
     levels: usize,
     parent: usize,
 ) -> bool
@@ -440,7 +441,7 @@ fn read_enclosed(
     classes: &[u8; 256],
     text: &[u8],
     table: &mut [u8],
-    cursor: &mut [usize; 5],
+    cursor: &mut [usize; 7],
     levels: usize,
     parent: usize,
     name: Span,
@@ -451,7 +452,7 @@ fn read_enclosed(
     let enclosure = enclosure_of(ahead_of(cursor[CLASS]));
     if levels == 0 {
         let place = cursor[START];
-        put(cursor, FAULT, place, TOO_MANY_LEVELS as usize); // at its opening mark
+        put(cursor, FAULT, place, TOO_MANY_LEVELS as usize, 0); // at its opening mark
         return false;
     }
     let number = cursor[FREE];
@@ -473,7 +474,7 @@ fn read_colon(
     classes: &[u8; 256],
     text: &[u8],
     table: &mut [u8],
-    cursor: &mut [usize; 5],
+    cursor: &mut [usize; 7],
     levels: usize,
     parent: usize,
 ) -> bool
@@ -482,6 +483,7 @@ fn read_colon(
 {
     let start = cursor[START];
     let end = cursor[END];
+    let from = cursor[FROM];
     match typed_atom(classes, text, cursor) {
         TypedAtom::Typed(first, last) => {
             let atom = Span {
@@ -491,7 +493,8 @@ fn read_colon(
             read_typed(classes, text, table, cursor, levels, parent, start, atom)
         }
         TypedAtom::Nameless => {
-            put(cursor, COLON as usize, start, end);
+            put(cursor, COLON as usize, start, end, 1);
+            cursor[FROM] = from;
             let name = Span { start, end: start };
             read_enclosed(classes, text, table, cursor, levels, parent, name)
         }
@@ -503,7 +506,7 @@ fn read_typed(
     classes: &[u8; 256],
     text: &[u8],
     table: &mut [u8],
-    cursor: &mut [usize; 5],
+    cursor: &mut [usize; 7],
     levels: usize,
     parent: usize,
     start: usize,
@@ -513,7 +516,7 @@ fn read_typed(
     ensures { λ r. ⌜ TypedIs (now (classes .entry)) (now (text .entry)) (now (cursor .entry)) levels parent start atom (now (table .entry)) (now (table .exit)) r (now (cursor .exit)) ⌝ }
 {
     if levels == 0 {
-        put(cursor, FAULT, start, TOO_MANY_LEVELS as usize); // at its first ":"
+        put(cursor, FAULT, start, TOO_MANY_LEVELS as usize, 0); // at its first ":"
         return false;
     }
     step(classes, text, cursor);
@@ -543,7 +546,7 @@ fn read_whole(classes: &[u8; 256], text: &[u8], table: &mut [u8], at: usize) -> 
     requires { ⌜ Fitting (now text) at ⌝ }
     ensures { λ r. ⌜ WholeFirst (answer levelLimit) (now (classes .entry)) (now (text .entry)) at (now (table .entry)) (now (table .exit)) r ⌝ }
 {
-    let mut cursor: [usize; 5] = [ENDED, at, at, 0, at];
+    let mut cursor: [usize; 7] = [ENDED, at, at, 0, 0, 0, at];
     if !read_list(classes, text, table, &mut cursor, LEVEL_LIMIT, 0) {
         return Whole::Refused(cursor[END] as u8, cursor[START]);
     }
@@ -627,7 +630,7 @@ fn ends_within(classes: &[u8; 256], text: &[u8], levels: usize) -> bool
     ensures { λ r. ⌜ EndsWithin (now (classes .entry)) (now (text .entry)) levels 0 r ⌝ }
 {
     let mut none: [u8; 1] = [0; 1];
-    let mut cursor: [usize; 5] = [ENDED, 0, 0, 0, 0];
+    let mut cursor: [usize; 7] = [ENDED, 0, 0, 0, 0, 0, 0];
     if !read_list(classes, text, &mut none[..0], &mut cursor, levels, 0) {
         return false;
     }

@@ -1,10 +1,11 @@
 // The libraries for C: lent memory is a pointer with a length, and answers are numbers. Each function refuses as the library does.
 //
-// `told` is an array of three: an answer's number, position and count; of four for an expansion, of five for a touched byte. Of a shorter one the front is filled.
+// `told` is an array of three: an answer's number, position and count; of four for an expansion, of five for a touched byte, of seven for a symbol. Of a shorter one the front is filled.
 ghost use mathlib.Core.Path.{_≡_};
 ghost use mathlib.Core.List.{_∷_, []};
 ghost use lib.Seq.{sets};
-ghost use Rattle.scanner.specs.Believed.Answers.{bodyScanned};
+ghost use Rattle.octets.specs.Believed.Choice.{pick};
+ghost use Rattle.scanner.specs.Believed.Answers.{bodyScanned, nextInBody};
 ghost use Rattle.header.specs.Believed.Names.{knownOf};
 ghost use Rattle.header.specs.Believed.Split.{splitAnswer, splitTable};
 ghost use Rattle.addresses.specs.Believed.Outcome.{outcome};
@@ -14,11 +15,13 @@ ghost use Rattle.dates.specs.Believed.Outcome.{dateAnswer};
 ghost use Rattle.plain.specs.Believed.Written.{plainOutcome};
 ghost use Rattle.expansion.specs.Believed.Outcome.{expandOutcome};
 ghost use Rattle.touch.specs.Believed.Touched.{touched};
-ghost use Rattle.capi.specs.Believed.Told.{toldIn, expansionToldIn, dateToldIn, touchToldIn, knownNumber, replyNumber};
+ghost use Rattle.capi.specs.Believed.Told.{toldIn, expansionToldIn, dateToldIn, touchToldIn, classNumber, symbolToldIn, knownNumber, replyNumber};
 use expansion::Expanded;
 use header::names::Known;
 use octets::answers::Answer;
 use octets::stored::store_number;
+use scanner::Class;
+use scanner::Next;
 use touch::Touched;
 
 // Three numbers at the front of an array.
@@ -28,6 +31,16 @@ fn put_three(array: &mut [u64], number: u8, position: usize, count: usize)
     store_number(array, 0, number as u64);
     store_number(array, 1, position as u64);
     store_number(array, 2, count as u64);
+}
+
+// A symbol's place, the length of its meaning and whether it stands apart, after three numbers.
+fn put_places(array: &mut [u64], start: usize, end: usize, length: usize, apart: bool)
+    ensures { λ _. ⌜ now (array .exit) ≡ sets (now (array .entry)) 3 (start ∷ end ∷ length ∷ pick apart 1 0 ∷ []) ⌝ }
+{
+    store_number(array, 3, start as u64);
+    store_number(array, 4, end as u64);
+    store_number(array, 5, length as u64);
+    store_number(array, 6, apart as u64);
 }
 
 // The number, position and count of an answer.
@@ -57,6 +70,47 @@ fn tell_expanded(array: &mut [u64], expanded: Expanded)
     let answer = expanded.answer;
     tell(array, answer);
     store_number(array, 3, expanded.openings as u64);
+}
+
+// The number of a class of symbols.
+fn class_number(class: Class) -> u8
+    ensures { λ r. ⌜ r ≡ classNumber class ⌝ }
+{
+    match class {
+        Class::Atom => 1,
+        Class::Quoted => 2,
+        Class::At => 3,
+        Class::LessThan => 4,
+        Class::GreaterThan => 5,
+        Class::Comma => 6,
+        Class::Semicolon => 7,
+        Class::Colon => 8,
+        Class::Stray => 9,
+        Class::Dot => 9,
+        Class::Literal => 9,
+    }
+}
+
+// The number and position of a fault, then the number of the symbol's class, its start, its end, the length of its meaning and
+// whether it stands apart; zeros for what is not there.
+fn tell_symbol(array: &mut [u64], next: Next)
+    ensures { λ _. ⌜ now (array .exit) ≡ symbolToldIn (now (array .entry)) next ⌝ }
+{
+    match next {
+        Next::Found(symbol) => {
+            let class = symbol.class;
+            put_three(array, 0, 0, class_number(class) as usize);
+            put_places(array, symbol.start, symbol.end, symbol.length, symbol.apart)
+        }
+        Next::Ended => {
+            put_three(array, 0, 0, 0);
+            put_places(array, 0, 0, 0, false)
+        }
+        Next::Fault(number, place) => {
+            put_three(array, number, place, 0);
+            put_places(array, 0, 0, 0, false)
+        }
+    }
 }
 
 // Split a message into fields: field records in the table.
@@ -89,6 +143,14 @@ pub extern "C" fn rfc733_scan(message: &[u8], start: usize, end: usize, array: &
     ensures { λ _. ⌜ now (array .exit) ≡ toldIn (now (array .entry)) (bodyScanned (now (message .entry)) start end) ⌝ }
 {
     tell(array, scanner::scan_body(message, start, end));
+}
+
+// The next symbol at or after a position of a message's body that ends at end.
+#[no_mangle]
+pub extern "C" fn rfc733_next_symbol(message: &[u8], at: usize, end: usize, array: &mut [u64])
+    ensures { λ _. ⌜ now (array .exit) ≡ symbolToldIn (now (array .entry)) (nextInBody (now (message .entry)) at end) ⌝ }
+{
+    tell_symbol(array, scanner::next_symbol(message, at, end));
 }
 
 // Read the address list in the body of a message from start up to end by the rules of an edition, 733 or 822: address records in the table.

@@ -15,7 +15,7 @@ use Rattle.octets.specs.Believed.Answers.{numberOf, positionOf, countOf}
 use Rattle.records.specs.Believed.AddressRecords.{AddressRecord, recordBy, tableBytes}
 use Rattle.scanner.specs.Believed.Kinds.{kindOf}
 use Rattle.scanner.specs.Believed.Characters.{charactersFrom}
-use Rattle.scanner.specs.Believed.Scanning.{scanFrom, symbolsOf}
+use Rattle.scanner.specs.Believed.Scanning.{scanFrom, parted, symbolsOf}
 use Rattle.scanner.specs.Believed.Answers.{unlessFault}
 use Rattle.editions.specs.Believed.Outcome.{outcomeOf}
 
@@ -77,5 +77,5 @@ examples =
     ∷ []
 
 pub examples-hold : all examples ≡ true
-unfolding classOf classTable classOf822 classTable822 kindOf charactersFrom scanFrom symbolsOf unlessFault lower same
+unfolding classOf classTable classOf822 classTable822 kindOf charactersFrom scanFrom parted symbolsOf unlessFault lower same
 examples-hold = refl

@@ -17,7 +17,7 @@ use Rattle.scanner.specs.Believed.Symbols.{Symbol}
 use Rattle.scanner.specs.Believed.Answers.{unlessFault}
 use Rattle.scanner.specs.Believed.Characters.{charactersAt}
 use Rattle.scanner.specs.declared.Class.{Class}
-use Rattle.scanner.proofs.FaultNumbers.{isFault, Numbered, numbered}
+use Rattle.scanner.proofs.FaultNumbers.{isFault, Numbered, numbered-scan}
 use Rattle.grammar.specs.Believed.Grammar.{Forest}
 use Rattle.grammar.specs.Believed.Language.{unfit, unfinished, tooDeep, Verdict, accepted, refused}
 use Rattle.grammar.specs.Believed.Rfc822.{Nonterminal}
@@ -65,4 +65,4 @@ shallow message start end table =
     let symbols = symbolsIn edition822 message start end in
     let scan = scanBy (edition822 .classes) (take end message) start in
     checked table (ltb messageLimit (length message)) (either (ltb end start) (ltb (length message) end)) (unlessFault (refusal table) scan (decided end table (read levelLimit symbols)))
-    (scanned table scan (decided end table (read levelLimit symbols)) (numbered (edition822 .classes) (charactersAt (take end message) start) outside) (judged end table symbols (read levelLimit symbols) refl))
+    (scanned table scan (decided end table (read levelLimit symbols)) (numbered-scan (edition822 .classes) (take end message) start) (judged end table symbols (read levelLimit symbols) refl))

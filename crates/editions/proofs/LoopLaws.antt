@@ -28,7 +28,7 @@ use Rattle.addresses.proofs.NextLaws.{NextIs}
 use Rattle.editions.specs.Believed.Outcome.{verdict822}
 use Rattle.editions.specs.Ties.Places.{Walked, stepFrom, ends, stops, walkFrom, endsAt, noGroup}
 use Rattle.editions.specs.declared.Walk.{Walk}
-use Rattle.editions.specs.Ties.Walks.{walkedOf, Fine, Holds, Goes, Stops}
+use Rattle.editions.specs.Ties.Walks.{walkedOf, Fine, Holds, Besides, Goes, Stops}
 use Rattle.editions.proofs.Follows.{walkedIn}
 use Rattle.editions.proofs.Verdicts.{loop-listed, loop-unfinished, loop-stopped}
 
@@ -47,7 +47,10 @@ module _ (classes text : List ℕ) where
 
   -- a symbol as RFC 822 takes it
   abbrev word-of : Symbol → Sym
-  word-of f = of (classIn822 (f .class) (f .start) (f .end)) (lexemeAt classes text (f .class) (f .start) (f .end))
+  word-of f = of (classIn822 (f .class) (f .start) (f .end)) (lexemeAt classes text (f .class) (f .start) (f .end) (f .apart))
+
+  abbrev besides : Symbol → Besides
+  besides f = record { meaning = word-of f .lexeme .meaning; apart = f .apart }
 
   next-words : {p : ℕ} {f : Symbol} → NextIs classes text p (Found f) → words p ≡ word-of f ∷ words (f .end)
   next-words x = ap takenIn822 (x .same)
@@ -61,7 +64,7 @@ module _ (classes text : List ℕ) where
   pub come-on : {at p : ℕ} {f : Symbol} {lent table after : List ℕ} {w v : Walk} → Come at lent table p w → NextIs classes text p (Found f)
       → Goes w (classIn822 (f .class) (f .start) (f .end)) (f .start) (f .end) table after v → Come at lent after (f .end) v
   come-on {f = f} {lent = lent} {w = w} {v = v} c x g =
-      let (ss, h, q) = g .steps (word-of f .lexeme .meaning) (c .rs) lent (c .holds) in
+      let (ss, h, q) = g .steps (besides f) (c .rs) lent (c .holds) in
       record {
         rs = ss;
         holds = h;
@@ -79,7 +82,7 @@ module _ (classes text : List ℕ) where
         why = unfit;
         rest = t ∷ words (f .end);
         verdict-is = loop-stopped levelLimit 0 0 (words at) (t ∷ words (f .end))
-            (c .same ∙ ap (walkFrom (walkedOf w (c .rs))) (next-words x) ∙ run-stop (walkedOf w (c .rs)) t (words (f .end)) (g .stops (t .lexeme .meaning) (c .rs) lent (c .holds)));
+            (c .same ∙ ap (walkFrom (walkedOf w (c .rs))) (next-words x) ∙ run-stop (walkedOf w (c .rs)) t (words (f .end)) (g .stops (besides f) (c .rs) lent (c .holds)));
         number-is = refl;
         place-is = refl;
       }

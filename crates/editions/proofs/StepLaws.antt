@@ -18,7 +18,7 @@ use Rattle.records.proofs.TableLaws.{stored-last}
 use Rattle.editions.specs.declared.Walk.{Walk}
 use Rattle.editions.specs.declared.Stepped.{Stepped}
 use Rattle.editions.specs.declared.Stepped.the-variants.{On, Off}
-use Rattle.editions.specs.Ties.Walks.{effectFrom, walkBy, walkedOf, Fine, Holds, newBy, CloseIs, symbolOf, Goes, Stops, StepIs}
+use Rattle.editions.specs.Ties.Walks.{effectFrom, walkBy, walkedOf, Fine, Holds, newBy, CloseIs, Besides, symbolOf, Goes, Stops, StepIs}
 use Rattle.editions.proofs.Follows.{set-length}
 
 open-zero : (g c : ℕ) (f : Walked) (t : Lexeme) → g ≡ 0 → openGroup g c f t ≡ some (addRecord 3 (suc (length (f .records))) (f .angle) c f t)
@@ -37,19 +37,19 @@ pub record Leads (w : Walk) (class : Class) (next k : ℕ) : Type 0 where
   pub low : k < 9 → next < slotCount
 
 module _ {w : Walk} {class : Class} {next k : ℕ} (x : Leads w class next k) (start end : ℕ) (table : List ℕ) where
-  abbrev lexeme : List ℕ → Lexeme
+  abbrev lexeme : Besides → Lexeme
   lexeme m = symbolOf class start end m .lexeme
 
   -- what the effect with this number does, from the loop with these records
-  abbrev Does : ℕ → List AddressRecord → List ℕ → Option Walked → Type 0
+  abbrev Does : ℕ → List AddressRecord → Besides → Option Walked → Type 0
   Does n rs m o = effect (effectFrom n) next (walkedOf w rs) (lexeme m) ≡ o
 
-  known : (n : ℕ) → k ≡ n → (rs : List AddressRecord) (m : List ℕ) {o : Option Walked} → Does n rs m o → stepFrom (walkedOf w rs) (symbolOf class start end m) ≡ o
+  known : (n : ℕ) → k ≡ n → (rs : List AddressRecord) (m : Besides) {o : Option Walked} → Does n rs m o → stepFrom (walkedOf w rs) (symbolOf class start end m) ≡ o
   known n q rs m d = let e : effectFrom n ≡ effectOf next = rw q at (x .effect-is) in rw (← (x .next-is), ← e) d
 
   -- ---- the records stay
 
-  pub keeps : (n a b : ℕ) → n < 9 → ((rs : List AddressRecord) (m : List ℕ) → Does n rs m (some (walkedBy next a b (w .group) (w .angle) rs)))
+  pub keeps : (n a b : ℕ) → n < 9 → ((rs : List AddressRecord) (m : Besides) → Does n rs m (some (walkedBy next a b (w .group) (w .angle) rs)))
       → k ≡ n → {v : Walk} → v ≡ walkBy next a b (w .group) (w .angle) (w .free) → Goes w class start end table table v
   keeps n a b l d q e =
       rw e
@@ -72,7 +72,7 @@ module _ {w : Walk} {class : Class} {next k : ℕ} (x : Leads w class next k) (s
         stored = a ∙ rw (h .stored, ← (h .counted)) (stored-last addressLayout lent rs (new kind));
       }
 
-  adds : (n kind group angle : ℕ) → n < 9 → group ≤ w .free + 1 → angle ≤ w .free + 1 → ((rs : List AddressRecord) (m : List ℕ) → length rs ≡ w .free → Does n rs m (some (addRecord kind group angle next (walkedOf w rs) (lexeme m))))
+  adds : (n kind group angle : ℕ) → n < 9 → group ≤ w .free + 1 → angle ≤ w .free + 1 → ((rs : List AddressRecord) (m : Besides) → length rs ≡ w .free → Does n rs m (some (addRecord kind group angle next (walkedOf w rs) (lexeme m))))
       → k ≡ n → {after : List ℕ} {v : Walk} → after ≡ sets table (w .free * addressRecordSize) (recordBytes (new kind)) → v ≡ walkBy next (w .name .start) (w .name .end) group angle (w .free + 1) → Goes w class start end table after v
   adds n kind group angle l f g d q a e =
       rw e
@@ -101,7 +101,7 @@ module _ {w : Walk} {class : Class} {next k : ℕ} (x : Leads w class next k) (s
   ended number z l a v n rs lent h =
       record { counted = set-length (number - 1) end rs ∙ h .counted ∙ sym n; stored = a ∙ rw (h .stored) (end-stored lent rs (number - 1) end (omega (arith, h .counted))) }
 
-  closes : (n number group angle : ℕ) → n < 9 → number ≤ w .free → group ≤ w .free → angle ≤ w .free → ((rs : List AddressRecord) (m : List ℕ) → length rs ≡ w .free → Does n rs m (closeRecord number group angle next (walkedOf w rs) (lexeme m)))
+  closes : (n number group angle : ℕ) → n < 9 → number ≤ w .free → group ≤ w .free → angle ≤ w .free → ((rs : List AddressRecord) (m : Besides) → length rs ≡ w .free → Does n rs m (closeRecord number group angle next (walkedOf w rs) (lexeme m)))
       → k ≡ n → (after : List ℕ) {then : Walk} (r : Stepped) → then ≡ walkBy next (w .name .start) (w .name .end) group angle (w .free) → CloseIs number end then table after r → StepIs w class start end table after r
   closes n number group angle l f g i d q after (On v) e (u, z, a) =
       rw (u, e)

@@ -82,7 +82,7 @@ meaning-is : (classes text : List ℕ) (c : Class) (start end : ℕ) → c ≡ A
 meaning-is classes text c start end e = rw e
 
 -- the next symbol follows
-follows : {classes text : List ℕ} {at : ℕ} {f : Symbol} → NextIs classes text at (Found f) → Follows text at (f .class) (lexemeAt classes text (f .class) (f .start) (f .end)) (f .start) (f .end)
+follows : {classes text : List ℕ} {at : ℕ} {f : Symbol} → NextIs classes text at (Found f) → Follows text at (f .class) (lexemeAt classes text (f .class) (f .start) (f .end) (f .apart)) (f .start) (f .end)
 follows {classes} {text} {f = f} x =
     record { start-is = refl; end-is = refl; from = x .ok .0; starts = x .ok .1 .starts; within = x .ok .1 .within; meaning = meaning-is classes text (f .class) (f .start) (f .end) }
 
@@ -94,11 +94,11 @@ module _ {classes text lent : List ℕ} {from : ℕ} {e : Engine} {stack table :
   reading-next {next} i = next-is classes text (e .at) next i
 
   pub reading-turning : {f : Symbol} {actions : List ℕ} {action : ℕ} (column : ℕ) → NextIs classes text (e .at) (Found f) → actions ≡ actionTable → column ≡ classNumber (f .class)
-      → action ≡ getD actions (e .mode * columns + column) 0 → Turning text lent (r .state) (lexemeAt classes text (f .class) (f .start) (f .end)) e action (f .class) (f .start) (f .end) stack table
+      → action ≡ getD actions (e .mode * columns + column) 0 → Turning text lent (r .state) (lexemeAt classes text (f .class) (f .start) (f .end) (f .apart)) e action (f .class) (f .start) (f .end) stack table
   reading-turning {f = f} column x q k i = record { stands = r .stands; follows = follows x; action-is = entry-of (r .stands) (f .class) column q k i }
 
   -- one symbol on
-  pub reading-on : {f : Symbol} {e′ : Engine} {stack′ table′ : List ℕ} → NextIs classes text (e .at) (Found f) → GoesTo text lent (stepOn levelLimit (r .state) (f .class) (lexemeAt classes text (f .class) (f .start) (f .end))) (f .end) e′ stack′ table′
+  pub reading-on : {f : Symbol} {e′ : Engine} {stack′ table′ : List ℕ} → NextIs classes text (e .at) (Found f) → GoesTo text lent (stepOn levelLimit (r .state) (f .class) (lexemeAt classes text (f .class) (f .start) (f .end) (f .apart))) (f .end) e′ stack′ table′
       → Reading classes text lent from e′ stack′ table′
   reading-on x g =
       record {
@@ -109,7 +109,7 @@ module _ {classes text lent : List ℕ} {from : ℕ} {e : Engine} {stack table :
       }
 
   -- the symbol is refused
-  pub reading-stops : {f : Symbol} {n : ℕ} {stack′ : List ℕ} → NextIs classes text (e .at) (Found f) → StopsBy (stepOn levelLimit (r .state) (f .class) (lexemeAt classes text (f .class) (f .start) (f .end))) n stack stack′ → StopsAtSymbol classes text lent from stack′ n (f .start) e
+  pub reading-stops : {f : Symbol} {n : ℕ} {stack′ : List ℕ} → NextIs classes text (e .at) (Found f) → StopsBy (stepOn levelLimit (r .state) (f .class) (lexemeAt classes text (f .class) (f .start) (f .end) (f .apart))) n stack stack′ → StopsAtSymbol classes text lent from stack′ n (f .start) e
   reading-stops {f} x g =
       let v : run levelLimit machine.start (symbolsFrom classes text from) ≡ stopped (g .why) (symbolsAhead classes text (Found f)) = r .reads ∙ ap (run levelLimit (r .state)) (x .same) ∙ rw (g .steps) refl in
       record {

@@ -2,16 +2,16 @@
 use Prim.Native.Nat.{ℕ, suc, _+_}
 use native.Mathlib.Omega.{arith}
 use mathlib.Core.Path.{_≡_, refl, ap}
+use mathlib.Core.Bool.{Bool}
 use mathlib.Core.List.{List, [], _∷_, _++_, List·Memᴰ, List·Memᴰ·head as here, List·Memᴰ·tail as there}
 use mathlib.Core.Option.{Option, none, some}
 use lib.ListN.{take as front}
 use Rattle.octets.specs.Believed.Classes.{classTable}
 use Rattle.octets.specs.Believed.Numbers.{levelLimit}
 use Rattle.octets.specs.declared.answers.Answer.the-variants.{Refused}
-use Rattle.scanner.specs.Believed.Characters.{charactersAt}
-use Rattle.scanner.specs.Believed.Scanning.{Scanned, outside, symbol, symbolsOf}
+use Rattle.scanner.specs.Believed.Scanning.{Scanned, symbolsOf}
 use Rattle.scanner.specs.Believed.Answers.{bodyChecked, unlessFault, faultOf}
-use Rattle.scanner.proofs.OnlyMeanings.{Taking, scanTaking, SameButData, both-end, both-fault, both-next, both-quoted, only-meanings}
+use Rattle.scanner.proofs.OnlyMeanings.{Taking, scanByTaking, SameButData, both-end, both-fault, both-next, both-quoted, only-meanings, quotedAs}
 use Rattle.grammar.specs.Believed.Grammar.{Item, Makes, Rule, branch, yield, Fits, done, take, apply}
 use Rattle.grammar.specs.Believed.Grammar as item
 use Rattle.grammar.specs.Believed.Language.{Verdict, accepted, refused, Refusal, startOf}
@@ -30,15 +30,15 @@ use Rattle.equality.proofs.Verdicts.{refused-alike}
 -- they agree in class, start and end, and in the meaning too unless they are quoted-strings
 pub data SameSymbol : Sym → Sym → Type 0 where
   itself : (x : Sym) → SameSymbol x x
-  quoteds : (start end : ℕ) (t u : List ℕ) → SameSymbol (symbol Quoted start end t) (symbol Quoted start end u)
+  quoteds : (start end : ℕ) (t u : List ℕ) (apart : Bool) → SameSymbol (quotedAs start end t apart) (quotedAs start end u apart)
 
 same-class : {x y : Sym} → SameSymbol x y → y .class ≡ x .class
 same-class (itself x) = refl
-same-class (quoteds start end t u) = refl
+same-class (quoteds start end t u apart) = refl
 
 turned-round : {x y : Sym} → SameSymbol x y → SameSymbol y x
 turned-round (itself x) = itself x
-turned-round (quoteds start end t u) = quoteds start end u t
+turned-round (quoteds start end t u apart) = quoteds start end u t apart
 
 same-keeps : KeepsClass SameSymbol
 same-keeps = record { class = same-class; turned = turned-round; itself = itself }
@@ -46,17 +46,17 @@ same-keeps = record { class = same-class; turned = turned-round; itself = itself
 same-start : (p : ℕ) {xs ys : List Sym} → Pairwise SameSymbol xs ys → startOf p ys ≡ startOf p xs
 same-start p no-symbol = refl
 same-start p (one-symbol (itself x) a) = refl
-same-start p (one-symbol (quoteds start end t u) a) = refl
+same-start p (one-symbol (quoteds start end t u apart) a) = refl
 
 same-end : (p : ℕ) {xs ys : List Sym} → Pairwise SameSymbol xs ys → lastEnd p ys ≡ lastEnd p xs
 same-end p no-symbol = refl
 same-end p (one-symbol (itself x) a) = same-end (x .lexeme .end) a
-same-end p (one-symbol (quoteds start end t u) a) = same-end end a
+same-end p (one-symbol (quoteds start end t u apart) a) = same-end end a
 
 -- no atom is a quoted-string
 same-atom : {x y : Sym} → SameSymbol x y → x .class ≡ Atom → y .lexeme .meaning ≡ x .lexeme .meaning
 same-atom (itself x) e = refl
-same-atom (quoteds start end t u) e = absurd (let z : _≡_ {A = ℕ} 0 1 = cc in omega arith)
+same-atom (quoteds start end t u apart) e = absurd (let z : _≡_ {A = ℕ} 0 1 = cc in omega arith)
 
 -- ---- every rule makes records of the same kind: by the meaning of an atom, or whatever the name means
 
@@ -127,7 +127,7 @@ unfolding symbolsOf
 agreeing both-end = no-symbol
 agreeing (both-fault number p) = no-symbol
 agreeing (both-next x h) = one-symbol (itself x) (agreeing h)
-agreeing (both-quoted start end t u h) = one-symbol (quoteds start end t u) (agreeing h)
+agreeing (both-quoted start end t u apart h) = one-symbol (quoteds start end t u apart) (agreeing h)
 
 -- the same fault, or what is the same otherwise
 same-unless : {A : Type 0} (refuse : ℕ → ℕ → A) {r s : Scanned} → SameButData r s → {a b : A} → a ≡ b → unlessFault refuse r a ≡ unlessFault refuse s b
@@ -135,7 +135,7 @@ unfolding unlessFault
 same-unless refuse both-end e = e
 same-unless refuse (both-fault number p) e = refl
 same-unless refuse (both-next x h) e = same-unless refuse h e
-same-unless refuse (both-quoted start end t u h) e = same-unless refuse h e
+same-unless refuse (both-quoted start end t u apart h) e = same-unless refuse h e
 
 pub same-fault : {r s : Scanned} → SameButData r s → faultOf r ≡ faultOf s
 same-fault h = same-unless Refused h refl
@@ -154,10 +154,10 @@ same-decided {r} {s} h end table limit = same-unless (refusal table) h (by (answ
 -- its outcome, were this the rule of what a backslash takes
 abbrev pub outcomeTaking : Taking → List ℕ → ℕ → ℕ → List ℕ → Outcome
 outcomeTaking rule message start end table =
-    let r : Scanned = scanTaking rule classTable (charactersAt (front end message) start) outside in
+    let r : Scanned = scanByTaking rule classTable (front end message) start in
     bodyChecked (refusal table) message start end (unlessFault (refusal table) r (decided end table (answer levelLimit (symbolsOf r))))
 
 -- whatever the rule, document 01's too: the same number, position and count, and the same table
 pub same-outcome : (rule : Taking) (message : List ℕ) (start end : ℕ) (table : List ℕ) → outcomeTaking rule message start end table ≡ outcome message start end table
 same-outcome rule message start end table =
-    ap (bodyChecked (refusal table) message start end) (same-decided (only-meanings rule classTable (charactersAt (front end message) start) outside) end table levelLimit)
+    ap (bodyChecked (refusal table) message start end) (same-decided (only-meanings rule classTable (front end message) start) end table levelLimit)

@@ -18,6 +18,7 @@ use Rattle.scanner.specs.Believed.Scanning.{Scanned, faultAt, State, outside, i
 use Rattle.scanner.specs.Believed.Answers.{unlessFault, faultOf}
 use Rattle.scanner.proofs.CharacterLaws.{plain-here, no-fold}
 use Rattle.grammar.specs.Executable.Trees733.{Sym}
+use Rattle.scanner.proofs.PartedLaws.{fault-parted}
 use Rattle.equality.specs.Believed.Comments.{stateOf, stateAfter, opensComment, commentMayFollow, closes, BeginsWithComment, EveryCommentIsOne}
 use Rattle.equality.proofs.InComments.{never, closesBy, Within, comment, taking, closes-within, Does, faults, leaves, goes-on, does}
 use Rattle.equality.proofs.Splits.{fold-here, apart-before-open, split}
@@ -156,7 +157,8 @@ every-comment before tail start h c f = by (opens-comment (s .state) tail (start
 
     there : faultOf (scan (before ++ (openByte ∷ tail)) start) ≡ faultOf (scanFrom classTable (charactersFrom characters.none (openByte ∷ tail) (start + length (drop start before))) (s .state))
     there =
-        ap (λ cs. faultOf (scanFrom classTable (charactersFrom characters.none cs start) outside)) (drop-append-le start before (openByte ∷ tail) h)
+        fault-parted start (scanFrom classTable (charactersAt (before ++ (openByte ∷ tail)) start) outside)
+        ∙ ap (λ cs. faultOf (scanFrom classTable (charactersFrom characters.none cs start) outside)) (drop-append-le start before (openByte ∷ tail) h)
         ∙ ap (λ cs. faultOf (scanFrom classTable cs outside)) (split (drop start before) (openByte ∷ tail) start (apart-before-open (drop start before) tail))
         ∙ fault-behind (charactersAt before start) _ outside (s .state) (s .reached)
 

@@ -14,12 +14,12 @@ use Rattle.octets.proofs.ChoiceLaws.{both-parts}
 use Rattle.scanner.specs.Believed.Characters.{Character, character, charactersFrom}
 use Rattle.scanner.specs.Believed.Characters as characters
 use Rattle.scanner.specs.Believed.Kinds.{characterKind}
-use Rattle.scanner.specs.Believed.Scanning.{Scanned, ended, State, outside, inComment, Move, go, halt, move, then, scanFrom, scan}
+use Rattle.scanner.specs.Believed.Scanning.{Scanned, ended, State, outside, inComment, Move, go, halt, move, then, scanFrom, scan, parted}
 use Rattle.equality.specs.Believed.Comments.{stateOf, stateAfter, opensComment, closes, isComment}
 use Rattle.equality.specs.Believed.Exchange.{Place, MayHoldComment, messageWith, endWith}
 use Rattle.equality.proofs.Splits.{apart-before-open, apart-behind, split}
 use Rattle.equality.proofs.Pairs.{to-themselves}
-use Rattle.equality.proofs.Shifts.{alike-keeps, AlikeScans, both-fault, alike-followed, alike-from, shifted}
+use Rattle.equality.proofs.Shifts.{alike-keeps, AlikeScans, alike-parted, both-fault, alike-followed, alike-from, shifted}
 use Rattle.equality.proofs.InComments.{never}
 use Rattle.equality.proofs.Through.{endedBy, behindComment, behind-alike, comment-scans}
 use Rattle.equality.proofs.LastBytes.{comment-ends-no-line}
@@ -84,14 +84,16 @@ module _ (place : Place) (may : MayHoldComment place) where
   pub bodies-scan-alike : (one other : List ℕ) → isComment one ≡ true → isComment other ≡ true
       → AlikeScans (scan (take (endWith place one) (messageWith place one)) (place .start)) (scan (take (endWith place other) (messageWith place other)) (place .start))
   bodies-scan-alike one other c d =
-      rw (body-bytes one, body-bytes other)
-      (exchanged (drop (place .start) (place .before)) (take (place .rest) (place .behind)) (place .start) one other (opened one c) (opened other d) opens-there)
+      alike-parted (place .start) (place .start)
+      (rw (body-bytes one, body-bytes other)
+      (exchanged (drop (place .start) (place .before)) (take (place .rest) (place .behind)) (place .start) one other (opened one c) (opened other d) opens-there))
 
 -- ---- alone
 
 -- a comment, as a body of its own, scans without fault to no symbol
 pub scans-alone : (bytes : List ℕ) → isComment bytes ≡ true → scan bytes 0 ≡ ended
-unfolding scanFrom
+unfolding scanFrom parted
 scans-alone bytes c =
     let o = opened bytes c in
-    rw (o .opens, ← (append-nil (charactersFrom characters.none (openByte ∷ o .inside) 0))) (comment-scans outside (o .inside) 0 [] refl (o .closed))
+    let e : scanFrom classTable (charactersFrom characters.none bytes 0) outside ≡ ended = rw (o .opens, ← (append-nil (charactersFrom characters.none (openByte ∷ o .inside) 0))) (comment-scans outside (o .inside) 0 [] refl (o .closed)) in
+    ap (parted 0) e

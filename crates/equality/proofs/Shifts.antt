@@ -6,7 +6,7 @@ use mathlib.Core.List.{List, [], _∷_, _++_}
 use Rattle.octets.specs.Believed.Classes.{classTable}
 use Rattle.octets.specs.Believed.Numbers.{quotedNotClosed, commentNotClosed}
 use Rattle.scanner.specs.Believed.Characters.{Character, character, foldAt, InFold, none, lineFeed, white, charactersFrom}
-use Rattle.scanner.specs.Believed.Scanning.{Scanned, ended, next, faultAt, State, outside, inAtom, inQuoted, takingInQuoted, inComment, takingInComment, Move, go, halt, atom, moveOutside, endingWith, moveInAtom, moveInQuoted, closed, moveInComment, take, takenData, move, atEnd, followedBy, then, scanFrom}
+use Rattle.scanner.specs.Believed.Scanning.{Scanned, ended, next, faultAt, State, outside, inAtom, inQuoted, takingInQuoted, inComment, takingInComment, Move, go, halt, atom, moveOutside, endingWith, moveInAtom, moveInQuoted, closed, moveInComment, take, takenData, move, atEnd, followedBy, then, scanFrom, parted}
 use Rattle.scanner.proofs.CharacterLaws.{plain-here}
 use Rattle.grammar.specs.Executable.Trees733.{Sym}
 use Rattle.plain.proofs.ByteKinds.{KindView}
@@ -52,6 +52,13 @@ pub data AlikeScans : Scanned → Scanned → Type 0 where
   both-ended : AlikeScans ended ended
   both-next : {x y : Sym} {r s : Scanned} → AlikeSymbol x y → AlikeScans r s → AlikeScans (next x r) (next y s)
   both-fault : (n p q : ℕ) → AlikeScans (faultAt n p) (faultAt n q)
+
+-- whichever symbols stand apart
+pub alike-parted : (from from′ : ℕ) {r s : Scanned} → AlikeScans r s → AlikeScans (parted from r) (parted from′ s)
+unfolding parted
+alike-parted from from′ both-ended = both-ended
+alike-parted from from′ (both-next {x = x} {y = y} a h) = both-next record { class = a .class; meaning = a .meaning } (alike-parted (x .lexeme .end) (y .lexeme .end) h)
+alike-parted from from′ (both-fault n p q) = both-fault n p q
 
 pub data AlikeStates : State → State → Type 0 where
   outsides : AlikeStates outside outside

@@ -4,7 +4,7 @@ use Rattle.octets.specs.Believed.Classes.{classOf, classTable}
 use Rattle.octets.specs.Believed.Letters.{lower, same}
 use Rattle.scanner.specs.Believed.Kinds.{kindOf}
 use Rattle.scanner.specs.Believed.Characters.{charactersFrom}
-use Rattle.scanner.specs.Believed.Scanning.{scanFrom, symbolsOf}
+use Rattle.scanner.specs.Believed.Scanning.{scanFrom, symbolsOf, parted}
 use Rattle.scanner.specs.Believed.Answers.{unlessFault}
 use Rattle.dates.specs.Believed.Names.{called, place}
 use Rattle.dates.specs.Believed.Parts.{isMark, isRun, keyOf, runs, parts}
@@ -16,5 +16,5 @@ use Rattle.dates.specs.Believed.Outcome.{dateAnswer}
 use Rattle.examples.specs.Believed.Examples.{ExamplesHold}
 
 pub examples-hold : ExamplesHold
-unfolding scanFrom symbolsOf charactersFrom kindOf classOf classTable lower same unlessFault called place isMark isRun keyOf runs parts decimal offsetOf leap monthLength daysBeforeMonth daysOfYears dayNumber firstKey firstBytes after done digitsOf named upToSix secondAfter minuteAfter hourOf zoneNamed zoneSigned zoneOf hourAfter pastDash yearAfter monthAfter dayAfter readingOf dayExists timeExists nameTrue momentOf dateAnswer
+unfolding scanFrom parted symbolsOf charactersFrom kindOf classOf classTable lower same unlessFault called place isMark isRun keyOf runs parts decimal offsetOf leap monthLength daysBeforeMonth daysOfYears dayNumber firstKey firstBytes after done digitsOf named upToSix secondAfter minuteAfter hourOf zoneNamed zoneSigned zoneOf hourAfter pastDash yearAfter monthAfter dayAfter readingOf dayExists timeExists nameTrue momentOf dateAnswer
 examples-hold = (refl, (refl, (refl, (refl, (refl, (refl, (refl, (refl, (refl, (refl, (refl, (refl, (refl, tt)))))))))))))

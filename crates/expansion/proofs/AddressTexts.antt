@@ -10,7 +10,7 @@ use Rattle.octets.specs.Believed.Choice.{pick}
 use Rattle.octets.specs.Ties.Writing.{Wrote}
 use Rattle.grammar.specs.Believed.Rfc733.{sameClass}
 use Rattle.grammar.proofs.Rfc733.Readers.{endsAddress}
-use Rattle.scanner.specs.Believed.Scanning.{scanBy, symbol}
+use Rattle.scanner.specs.Believed.Scanning.{scanBy, symbol, apartFrom}
 use Rattle.scanner.specs.Believed.Answers.{foundAt, nextOf}
 use Rattle.scanner.specs.declared.Class.{Class}
 use Rattle.scanner.specs.declared.Class.the-variants.{Colon}
@@ -55,7 +55,7 @@ pub coming-first : (classes text : List ℕ) (start : ℕ) (own : List ℕ) {com
 coming-first classes text start own e = record { at = start; is = e; counted = omega arith; same-length = refl; same = refl; count = omega arith }
 
 module _ {classes text : List ℕ} {start : ℕ} {own₀ own : List ℕ} {n : ℕ} {place : Place} {coming : Next} (l : Coming classes text start own₀ own n place coming) where
-  pub comes : {class : Class} {first end : ℕ} → coming ≡ foundAt class first end → SymbolAt classes text (l .at) class first end
+  pub comes : {class : Class} {first end size : ℕ} {apart : Bool} → coming ≡ foundAt class first end size apart → SymbolAt classes text (l .at) class first end
   comes e = found classes text (l .at) (sym e ∙ l .is)
 
   ended-with : walkText place (untilEnd (symbolsFrom classes text (l .at))) ≡ [] → (n ≡ length (addressFrom classes text start)) × (own ≡ sets own₀ 0 (addressFrom classes text start))
@@ -64,24 +64,24 @@ module _ {classes text : List ℕ} {start : ℕ} {own₀ own : List ℕ} {n : �
   pub coming-none : NoneComes coming → (n ≡ length (addressFrom classes text start)) × (own ≡ sets own₀ 0 (addressFrom classes text start))
   coming-none h = ended-with (ap (λ xs. walkText place (untilEnd xs)) (no-symbols classes text coming (l .at) (l .is) h))
 
-  until-next : {class : Class} {first end : ℕ} → coming ≡ foundAt class first end
-      → untilEnd (symbolsFrom classes text (l .at)) ≡ pick (endsAddress class) [] (symbol class first end (meaningAt classes text class first end) ∷ untilEnd (symbolsFrom classes text end))
+  until-next : {class : Class} {first end size : ℕ} {apart : Bool} → coming ≡ foundAt class first end size apart
+      → untilEnd (symbolsFrom classes text (l .at)) ≡ pick (endsAddress class) [] (apartFrom (l .at) (symbol class first end (meaningAt classes text class first end)) ∷ untilEnd (symbolsFrom classes text end))
   until-next e = ap untilEnd (next-symbol classes text (comes e))
 
-  pub coming-end : {class : Class} {first end : ℕ} → coming ≡ foundAt class first end → endsAddress class ≡ true → (n ≡ length (addressFrom classes text start)) × (own ≡ sets own₀ 0 (addressFrom classes text start))
+  pub coming-end : {class : Class} {first end size : ℕ} {apart : Bool} → coming ≡ foundAt class first end size apart → endsAddress class ≡ true → (n ≡ length (addressFrom classes text start)) × (own ≡ sets own₀ 0 (addressFrom classes text start))
   coming-end {class} {first} {end} e g =
-      ended-with (ap (walkText place) (until-next e ∙ ap (λ z. pick z [] (symbol class first end (meaningAt classes text class first end) ∷ untilEnd (symbolsFrom classes text end))) g))
+      ended-with (ap (walkText place) (until-next e ∙ ap (λ z. pick z [] (apartFrom (l .at) (symbol class first end (meaningAt classes text class first end)) ∷ untilEnd (symbolsFrom classes text end))) g))
 
-  pub coming-next : {class : Class} {first end : ℕ} {later : Next} {colon : Bool} {own′ : List ℕ} {n′ : ℕ} {place′ : Place} → coming ≡ foundAt class first end → endsAddress class ≡ false → length text ≤ textLimit
+  pub coming-next : {class : Class} {first end size : ℕ} {apart : Bool} {later : Next} {colon : Bool} {own′ : List ℕ} {n′ : ℕ} {place′ : Place} → coming ≡ foundAt class first end size apart → endsAddress class ≡ false → length text ≤ textLimit
       → later ≡ nextOf (scanBy classes text end) → colon ≡ isColon later → length own′ ≡ length own
       → Wrote (symbolText class (meaningAt classes text class first end) place colon) own n own′ n′ → n′ ≤ n + 2 * length text + 3 → place′ ≡ after class place colon
       → Coming classes text start own₀ own′ n′ place′ later
-  coming-next {class} {first} {end} {later} {colon} {own′} {n′} {place′} e g h k c s w b p =
+  coming-next {class} {first} {end} {colon = colon} {place′ = place′} e g h k c s w b p =
       let x = comes e in
       let ys : List Sym = untilEnd (symbolsFrom classes text end) in
       let q : colon ≡ colonNext ys = c ∙ ap isColon k ∙ colon-of (scanBy classes text end) ∙ sym (until-colon (symbolsFrom classes text end)) in
       let t : walkText place (untilEnd (symbolsFrom classes text (l .at))) ≡ symbolText class (meaningAt classes text class first end) place colon (walkText place′ ys) =
-      rw (p, q) (ap (walkText place) (until-next e ∙ ap (λ z. pick z [] (symbol class first end (meaningAt classes text class first end) ∷ ys)) g)) in
+      rw (p, q) (ap (walkText place) (until-next e ∙ ap (λ z. pick z [] (apartFrom (l .at) (symbol class first end (meaningAt classes text class first end)) ∷ ys)) g)) in
       record {
         at = end;
         is = k;

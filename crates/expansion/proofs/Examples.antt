@@ -13,7 +13,7 @@ use Rattle.octets.specs.Believed.Text.{bytes}
 use Rattle.octets.specs.Believed.Answers.{numberOf, positionOf, countOf}
 use Rattle.scanner.specs.Believed.Kinds.{kindOf}
 use Rattle.scanner.specs.Believed.Characters.{charactersFrom}
-use Rattle.scanner.specs.Believed.Scanning.{scanFrom, symbolsOf}
+use Rattle.scanner.specs.Believed.Scanning.{scanFrom, symbolsOf, parted}
 use Rattle.scanner.specs.Believed.Answers.{unlessFault}
 use Rattle.expansion.specs.Believed.Outcome.{expandOutcome}
 
@@ -79,5 +79,5 @@ rows =
     ∷ []
 
 pub examples-hold : all rows ≡ true
-unfolding kindOf classTable classOf charactersFrom scanFrom symbolsOf unlessFault lower same
+unfolding kindOf classTable classOf charactersFrom scanFrom parted symbolsOf unlessFault lower same
 examples-hold = refl

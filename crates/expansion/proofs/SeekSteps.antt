@@ -7,7 +7,7 @@ use mathlib.Core.List.{List, [], _∷_}
 use mathlib.Core.Option.{Option, none, some}
 use types.Run.{OneOf}
 use Rattle.octets.specs.Believed.Choice.{pick, both}
-use Rattle.scanner.specs.Believed.Scanning.{Scanned, ended, next, faultAt, symbolsOf, scanBy, symbol}
+use Rattle.scanner.specs.Believed.Scanning.{Scanned, ended, next, faultAt, symbolsOf, scanBy, symbol, apartFrom}
 use Rattle.scanner.specs.Believed.Answers.{nextOf}
 use Rattle.scanner.specs.declared.Class.{Class}
 use Rattle.scanner.specs.declared.Class.the-variants.{At, LessThan, GreaterThan, Comma}
@@ -40,7 +40,7 @@ module _ (classes text : List ℕ) where
   no-symbols coming at e h = none-of (scanBy classes text at) (rw e at h)
 
   pub next-symbol : {at : ℕ} {class : Class} {start end : ℕ} → SymbolAt classes text at class start end
-      → symbolsFrom classes text at ≡ symbol class start end (meaningAt classes text class start end) ∷ symbolsFrom classes text end
+      → symbolsFrom classes text at ≡ apartFrom at (symbol class start end (meaningAt classes text class start end)) ∷ symbolsFrom classes text end
   unfolding symbolsOf
   next-symbol x = rw (x .same)
 

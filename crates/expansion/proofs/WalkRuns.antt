@@ -158,7 +158,7 @@ module _ (classes store text : List ℕ) (start : ℕ) (around : Around) (stage 
         }
 
     -- the symbol that comes
-    pub comes : {class : Class} {first end : ℕ} → coming ≡ foundAt class first end → SymbolAt classes text (l .at) class first end
+    pub comes : {class : Class} {first end size : ℕ} {apart : Bool} → coming ≡ foundAt class first end size apart → SymbolAt classes text (l .at) class first end
     comes e = found classes text (l .at) (sym e ∙ l .is)
 
     pub low : levels .many ≤ levelLimit
@@ -168,7 +168,7 @@ module _ (classes store text : List ℕ) (start : ℕ) (around : Around) (stage 
     pub room : stage .written ≤ textShare * stage .openings → here .written ≤ textShare * (here .openings + 1)
     room h = omega (arith, h, l .counted, l .from)
 
-    module _ {class : Class} {first end : ℕ} (e : coming ≡ foundAt class first end) where
+    module _ {class : Class} {first end size : ℕ} {apart : Bool} (e : coming ≡ foundAt class first end size apart) where
       abbrev x : SymbolAt classes text (l .at) class first end
       x = comes e
 

@@ -8,7 +8,7 @@ use Rattle.octets.specs.Believed.Letters.{lower, same}
 use Rattle.octets.specs.Believed.Text.{bytes}
 use Rattle.scanner.specs.Believed.Kinds.{kindOf}
 use Rattle.scanner.specs.Believed.Characters.{charactersFrom}
-use Rattle.scanner.specs.Believed.Scanning.{scanFrom, symbolsOf}
+use Rattle.scanner.specs.Believed.Scanning.{scanFrom, symbolsOf, parted}
 use Rattle.scanner.specs.Believed.Answers.{unlessFault}
 use Rattle.expected.specs.Executable.Named.{expectedIn}
 
@@ -48,5 +48,5 @@ rows =
     ∷ []
 
 rows-hold : AllHold rows
-unfolding scanFrom symbolsOf charactersFrom kindOf classOf classTable lower same unlessFault
+unfolding scanFrom parted symbolsOf charactersFrom kindOf classOf classTable lower same unlessFault
 rows-hold = (refl, (refl, (refl, (refl, (refl, (refl, (refl, (refl, (refl, (refl, tt))))))))))

@@ -7,7 +7,11 @@ use lib.ListN.{getD}
 use borrow.Author.Tests.{eqb-true}
 use Rattle.octets.specs.Believed.Choice.{pick, either}
 use Rattle.grammar.specs.Believed.Rfc733.{classNumber, sameClass}
-use Rattle.grammar.specs.Executable.Trees733.{Class, Atom, Quoted, At, LessThan, GreaterThan, Comma, Semicolon, Colon, Stray, Dot, Literal, Sym, oneOf}
+use Rattle.grammar.specs.Executable.Trees733.{Class, Atom, Quoted, At, LessThan, GreaterThan, Comma, Semicolon, Colon, Stray, Dot, Literal, Lexeme, Sym, oneOf}
+
+-- a lexeme, where it does not matter which
+abbrev pub nowhere : Lexeme
+nowhere = record { start = 0; end = 0; meaning = []; apart = false }
 
 -- ---- the test of classes tells them apart
 

@@ -9,7 +9,7 @@ use Rattle.octets.specs.Believed.Octets.{returnByte, lineFeedByte}
 use Rattle.octets.specs.Believed.Text.{bytes}
 use Rattle.scanner.specs.Believed.Characters.{charactersFrom}
 use Rattle.scanner.specs.Believed.Kinds.{kindOf}
-use Rattle.scanner.specs.Believed.Scanning.{scanFrom, symbolsOf}
+use Rattle.scanner.specs.Believed.Scanning.{scanFrom, symbolsOf, parted}
 use Rattle.scanner.specs.Believed.Answers.{unlessFault}
 use Rattle.header.specs.Believed.Fields.{nameHolds, nameStartsWith, crlf, endsBody, atLineStart, atName, atBody, headerFrom}
 use Rattle.header.specs.Believed.Names.{knownNames, knownIn}
@@ -55,5 +55,5 @@ AllHold [] = Unit {0}
 AllHold (row ∷ more) = (listing (row .edition) (ended (returnByte ∷ lineFeedByte ∷ []) (row .message)) ≡ ended (lineFeedByte ∷ []) (row .printed)) × AllHold more
 
 pub rows-hold : AllHold rows
-unfolding scanFrom symbolsOf charactersFrom kindOf classOf classOf822 classTable classTable822 lower same unlessFault nameHolds nameStartsWith crlf endsBody atLineStart atName atBody headerFrom knownNames knownIn answerIn answerFor called place isMark isRun keyOf runs parts decimal offsetOf leap monthLength daysBeforeMonth daysOfYears dayNumber firstKey firstBytes after done digitsPart named upToSix secondAfter minuteAfter hourOf zoneNamed zoneSigned zoneOf hourAfter pastDash yearAfter monthAfter dayAfter readingOf dayExists timeExists nameTrue momentOf dateAnswer digitsOf signed spaced each fieldText
+unfolding scanFrom parted symbolsOf charactersFrom kindOf classOf classOf822 classTable classTable822 lower same unlessFault nameHolds nameStartsWith crlf endsBody atLineStart atName atBody headerFrom knownNames knownIn answerIn answerFor called place isMark isRun keyOf runs parts decimal offsetOf leap monthLength daysBeforeMonth daysOfYears dayNumber firstKey firstBytes after done digitsPart named upToSix secondAfter minuteAfter hourOf zoneNamed zoneSigned zoneOf hourAfter pastDash yearAfter monthAfter dayAfter readingOf dayExists timeExists nameTrue momentOf dateAnswer digitsOf signed spaced each fieldText
 rows-hold = (refl, (refl, (refl, (refl, (refl, (refl, (refl, (refl, (refl, (refl, tt))))))))))

@@ -4,7 +4,8 @@ use mathlib.Core.Logic.{_⊎_, inl, inr}
 use mathlib.Core.Bool.{Bool, true, false}
 use Prim.Native.Nat.{ℕ}
 use native.Mathlib.Omega.{arith}
-use Rattle.octets.specs.Believed.Choice.{both, either}
+use mir.Val.{boolByte}
+use Rattle.octets.specs.Believed.Choice.{pick, both, either}
 
 pub both-true : (t : Bool) → both t true ≡ t
 both-true true = refl
@@ -27,3 +28,8 @@ both-parts false b e = absurd (let z : _≡_ {A = ℕ} 0 1 = cc in omega arith)
 pub either-parts : (a b : Bool) → either a b ≡ true → (a ≡ true) ⊎ (b ≡ true)
 either-parts true b e = inl refl
 either-parts false b e = inr e
+
+-- the number of a truth value, as a cast gives it
+pub cast-bool : (b : Bool) → boolByte b ≡ pick b 1 0
+cast-bool true = refl
+cast-bool false = refl

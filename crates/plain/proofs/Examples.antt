@@ -19,7 +19,7 @@ use Rattle.octets.specs.Believed.Tests.{every}
 use Rattle.octets.proofs.LetterLaws.{same-bytes}
 use Rattle.scanner.specs.Believed.Kinds.{kindOf}
 use Rattle.scanner.specs.Believed.Characters.{charactersFrom}
-use Rattle.scanner.specs.Believed.Scanning.{Scanned, ended, next, faultAt, takenData, scanFrom, scan, symbolsOf}
+use Rattle.scanner.specs.Believed.Scanning.{Scanned, ended, next, faultAt, takenData, scanFrom, scan, symbolsOf, parted}
 use Rattle.scanner.proofs.BodyChecks.{in-order}
 use Rattle.scanner.specs.Believed.Answers.{unlessFault, faultOf}
 use Rattle.grammar.specs.Believed.Language.{Verdict, accepted, refused}
@@ -125,7 +125,7 @@ abbrev right : ℕ → Example → Bool
 right i e = both (leb (length (e .body)) messageLimit) (isText (plainOf (e .body)) (e .plain))
 
 every-right : T (every right 0 table)
-unfolding scanFrom takenData charactersFrom symbolsOf unlessFault kindOf classOf classTable lower same
+unfolding scanFrom parted takenData charactersFrom symbolsOf unlessFault kindOf classOf classTable lower same
 every-right = tt
 
 -- ---- what the test says

@@ -17,7 +17,7 @@ use Rattle.octets.proofs.ChoiceLaws.{both-false}
 use Rattle.scanner.specs.Believed.Symbols.{Symbol}
 use Rattle.scanner.specs.Believed.Kinds.{kindOfClass, kindOf}
 use Rattle.scanner.specs.Believed.Characters.{foldAt, none, charactersFrom}
-use Rattle.scanner.specs.Believed.Scanning.{Scanned, ended, next, State, outside, inAtom, inQuoted, takingInQuoted, atomClass, takenData, move, then, scanFrom, symbolsOf}
+use Rattle.scanner.specs.Believed.Scanning.{Scanned, ended, next, State, outside, inAtom, inQuoted, takingInQuoted, atomClass, takenData, move, then, scanFrom, symbolsOf, parted}
 use Rattle.scanner.specs.Believed.Scanning as scanning
 use Rattle.scanner.specs.Believed.Answers.{unlessFault, faultOf}
 use Rattle.scanner.proofs.MoveLaws.{tag, quoted-data, taken, taken-alone}
@@ -44,6 +44,12 @@ pub seen-marks : {s : Scanned} {ms : List Mark} → Seen s ms → marks (symbols
 unfolding symbolsOf
 seen-marks over = refl
 seen-marks (then-one {x = x} v) = ap (λ ms. mark (x .class) (x .lexeme .meaning) ∷ ms) (seen-marks v)
+
+-- .. told which symbols stand apart
+pub seen-parted : {s : Scanned} {ms : List Mark} (from : ℕ) → Seen s ms → Seen (parted from s) ms
+unfolding parted
+seen-parted from over = over
+seen-parted from (then-one {x = x} v) = then-one (seen-parted (x .lexeme .end) v)
 
 abbrev scanAs : List ℕ → ℕ → State → Scanned
 scanAs t p state = scanFrom classTable (charactersFrom none t p) state

@@ -25,7 +25,7 @@ use Rattle.plain.specs.Ties.Walking.{writtenText}
 use Rattle.plain.specs.Believed.RoundTrip.{AcceptedBody, RoundTrip}
 use Rattle.plain.proofs.TreeMeanings.{listMeaning, meaning-forest, addressesDepth, list-depth}
 use Rattle.plain.proofs.Writable.{WritableList, listOf}
-use Rattle.plain.proofs.Reading.{seen-faultless, seen-marks, reads-plain}
+use Rattle.plain.proofs.Reading.{seen-faultless, seen-marks, seen-parted, reads-plain}
 use Rattle.plain.proofs.Growing.{grown}
 use Rattle.plain.proofs.Walks.{walk-plain}
 use Rattle.plain.proofs.ScannedWords.{WritableSymbols, writable-symbols, writable-list}
@@ -40,7 +40,7 @@ pub record Reread (t : List ℕ) (m : Addresses) : Type 0 where
 
 pub reread-writable : (w : WritableList) → Reread (addressesText (listOf w) []) (listOf w)
 reread-writable w =
-    let v = reads-plain w .from 0 in
+    let v = seen-parted 0 (reads-plain w .from 0) in
     let (t, d, e, n) = grown w _ (seen-marks v) in
     record { again = asForest t; faultless = seen-faultless v; derived = forest-derived d; means = meaning-forest t ∙ e; deep = forest-levels t ∙ n }
 

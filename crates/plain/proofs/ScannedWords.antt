@@ -18,7 +18,7 @@ use Rattle.octets.proofs.ChoiceLaws.{both-parts, either-parts}
 use Rattle.scanner.specs.Believed.Kinds.{kindOfClass, kindOf, characterKind}
 use Rattle.scanner.specs.Believed.Characters.{Character, character, foldAt, InFold, lineFeed, charactersFrom, charactersAt}
 use Rattle.scanner.specs.Believed.Characters as characters
-use Rattle.scanner.specs.Believed.Scanning.{Scanned, next, faultAt, State, outside, inAtom, inQuoted, takingInQuoted, inLiteral, takingInLiteral, inComment, takingInComment, Move, go, halt, atomClass, moveOutside, endingWith, moveInAtom, moveInQuoted, closed, moveInComment, take, takenData, move, atEnd, followedBy, then, scanFrom, scan, symbolsOf}
+use Rattle.scanner.specs.Believed.Scanning.{Scanned, next, faultAt, State, outside, inAtom, inQuoted, takingInQuoted, inLiteral, takingInLiteral, inComment, takingInComment, Move, go, halt, atomClass, moveOutside, endingWith, moveInAtom, moveInQuoted, closed, moveInComment, take, takenData, move, atEnd, followedBy, then, scanFrom, scan, symbolsOf, parted, ended}
 use Rattle.scanner.specs.Believed.Scanning as scanning
 use Rattle.scanner.proofs.MoveLaws.{tag}
 use Rattle.grammar.specs.Executable.Trees733.{Class, Atom, Quoted, At, LessThan, GreaterThan, Comma, Semicolon, Colon, Stray, Dot, Literal, Sym, of, atomWord, quotedWord, Phrase, one, more, Nodes, first, Slot, comma, AddressList, idle, full}
@@ -278,9 +278,15 @@ good-from [] state q h = good-end state h
 good-from (character b p folded ∷ cs) state q h =
     good-then (move state (characterKind classTable b folded) b p folded) (λ state′. scanFrom classTable cs state′) (good-move state b p folded (q .0) h) (λ state′ h′. good-from cs state′ (q .1) h′)
 
+good-parted : (from : ℕ) (s : Scanned) → GoodScan s → GoodScan (parted from s)
+unfolding parted symbolsOf
+good-parted from ended h = h
+good-parted from (next x rest) h = (h .0, good-parted (x .lexeme .end) rest (h .1))
+good-parted from (faultAt n p) h = h
+
 -- the symbols of a text from a position on
 pub writable-symbols : (text : List ℕ) (at : ℕ) → WritableSymbols (symbolsOf (scan text at))
-writable-symbols text at = good-from (charactersAt text at) outside (known characters.none _ at tt) tt
+writable-symbols text at = good-parted at _ (good-from (charactersAt text at) outside (known characters.none _ at tt) tt)
 
 -- ---- trees
 

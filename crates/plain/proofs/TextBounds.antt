@@ -1,5 +1,6 @@
 -- The plain text has at most four times the bytes of the body: each character leads to four bytes at most. Assumes nothing.
 use mathlib.Core.Bool.{Bool, true, false}
+use mathlib.Core.Path.{_≡_, refl}
 use mathlib.Core.List.{List, [], _∷_, _++_}
 use Prim.Native.Nat.{ℕ, zero, suc, _+_, _*_, _-_, _≤_}
 use native.Mathlib.Omega.{arith}
@@ -12,7 +13,7 @@ use Rattle.octets.specs.Believed.Text.{bytes}
 use Rattle.scanner.specs.Believed.Symbols.{Symbol}
 use Rattle.scanner.specs.Believed.Kinds.{kindOfClass, kindOf, characterKind}
 use Rattle.scanner.specs.Believed.Characters.{Character, character, InFold, none, lineFeed, white as whiteSpace, foldAt, charactersFrom, charactersAt}
-use Rattle.scanner.specs.Believed.Scanning.{Scanned, ended, next, faultAt, State, outside, inAtom, inQuoted, takingInQuoted, inLiteral, takingInLiteral, inComment, takingInComment, Move, go, halt, symbol, atom, single, moveOutside, endingWith, moveInAtom, moveInQuoted, moveInLiteral, moveInComment, closed, take, takenData, move, followedBy, then, scanFrom, symbolsOf}
+use Rattle.scanner.specs.Believed.Scanning.{Scanned, ended, next, faultAt, State, outside, inAtom, inQuoted, takingInQuoted, inLiteral, takingInLiteral, inComment, takingInComment, Move, go, halt, symbol, atom, single, moveOutside, endingWith, moveInAtom, moveInQuoted, moveInLiteral, moveInComment, closed, take, takenData, move, followedBy, then, scanFrom, symbolsOf, parted}
 use Rattle.scanner.specs.declared.Class.{Class}
 use Rattle.scanner.specs.declared.Class.the-variants.{Atom, Quoted, At, LessThan, GreaterThan, Comma, Semicolon, Colon, Stray, Dot, Literal}
 use Rattle.plain.specs.Believed.PlainText.{needsBackslash, backslashText, dataText, quotedText}
@@ -314,6 +315,19 @@ fewer whiteSpace (b ∷ rest) p = omega (arith, fewer none rest (p + 1))
 fewer none (b ∷ rest) p =
     one-of (foldAt (b ∷ rest) 0) (charactersFrom lineFeed rest (p + 1)) (character b p false ∷ charactersFrom none rest (p + 1)) (suc (length rest)) (omega (arith, fewer lineFeed rest (p + 1))) (omega (arith, fewer none rest (p + 1)))
 
+-- the text of symbols does not depend on which stand apart
+colon-parted : (from : ℕ) (s : Scanned) → colonNext (symbolsOf (parted from s)) ≡ colonNext (symbolsOf s)
+unfolding parted symbolsOf
+colon-parted from ended = refl
+colon-parted from (next x rest) = refl
+colon-parted from (faultAt n p) = refl
+
+text-parted : (from : ℕ) (s : Scanned) (place : Place) → walkText place (symbolsOf (parted from s)) ≡ walkText place (symbolsOf s)
+unfolding parted symbolsOf
+text-parted from ended place = refl
+text-parted from (next x rest) place = rw (colon-parted (x .lexeme .end) rest, text-parted (x .lexeme .end) rest)
+text-parted from (faultAt n p) place = refl
+
 -- what is written of a body
 pub written-most : (classes text : List ℕ) (start : ℕ) → length (writtenText classes text start) ≤ 4 * (length text - start)
-written-most classes text start = omega (arith, most classes (charactersAt text start) outside Start, fewer none (drop start text) start, length-drop start text)
+written-most classes text start = rw (text-parted start (scanFrom classes (charactersAt text start) outside) Start) (omega (arith, most classes (charactersAt text start) outside Start, fewer none (drop start text) start, length-drop start text))

@@ -23,7 +23,7 @@ use Rattle.scanner.specs.declared.Next.{Next}
 use Rattle.scanner.specs.declared.Next.the-variants.{Found, Ended, Fault}
 use Rattle.scanner.specs.declared.cursor.Ahead.{Ahead}
 use Rattle.scanner.specs.declared.cursor.Ahead.the-variants.{Symbol, End, Faulty}
-use Rattle.scanner.specs.Ties.Cursors.{aheadOf, nextFrom, nextIn}
+use Rattle.scanner.specs.Ties.Cursors.{aheadOf, nextFrom, apartIn, nextIn}
 use Rattle.scanner.specs.Ties.Meanings.{meaningAt}
 use Rattle.scanner.proofs.Unfolding.{SymbolAt, Unfolded, no-symbol, a-symbol, a-fault, unfolded, found}
 use Rattle.plain.specs.Ties.Walking.{gapText, symbolText, after, colonNext, walkText, textFrom, writtenText}
@@ -81,24 +81,24 @@ not-ahead (Symbol class) o = absurd (miss (1 ∷ 2 ∷ []) 0 tt o)
 not-ahead End o = refl
 not-ahead Faulty o = refl
 
-none-from : (a : Ahead) → OneOf (1 ∷ 2 ∷ []) (tagOf ahead-type a) → (start end : ℕ) → NoneComes (nextFrom a start end)
-none-from (Symbol class) o start end = absurd (miss (1 ∷ 2 ∷ []) 0 tt o)
-none-from End o start end = tt
-none-from Faulty o start end = tt
+none-from : (a : Ahead) → OneOf (1 ∷ 2 ∷ []) (tagOf ahead-type a) → (start end size : ℕ) (apart : Bool) → NoneComes (nextFrom a start end size apart)
+none-from (Symbol class) o start end size apart = absurd (miss (1 ∷ 2 ∷ []) 0 tt o)
+none-from End o start end size apart = tt
+none-from Faulty o start end size apart = tt
 
-colon-from : (a : Ahead) (start end : ℕ) → colonAhead a ≡ isColon (nextFrom a start end)
-colon-from (Symbol class) start end = refl
-colon-from End start end = refl
-colon-from Faulty start end = refl
+colon-from : (a : Ahead) (start end size : ℕ) (apart : Bool) → colonAhead a ≡ isColon (nextFrom a start end size apart)
+colon-from (Symbol class) start end size apart = refl
+colon-from End start end size apart = refl
+colon-from Faulty start end size apart = refl
 
 module _ (cursor : List ℕ) {a : Ahead} (e : a ≡ aheadOf (getD cursor 0 0)) where
   pub none-ahead : OneOf (1 ∷ 2 ∷ []) (tagOf ahead-type a) → NoneComes (nextIn cursor)
   unfolding nextIn
-  none-ahead o = rw (sym e) (none-from a o (getD cursor 1 0) (getD cursor 2 0))
+  none-ahead o = rw (sym e) (none-from a o (getD cursor 1 0) (getD cursor 2 0) (getD cursor 3 0) (apartIn cursor))
 
   pub colon-in : {colon : Bool} → colon ≡ colonAhead a → colon ≡ isColon (nextIn cursor)
   unfolding nextIn
-  colon-in c = rw (sym e) (c ∙ colon-from a (getD cursor 1 0) (getD cursor 2 0))
+  colon-in c = rw (sym e) (c ∙ colon-from a (getD cursor 1 0) (getD cursor 2 0) (getD cursor 3 0) (apartIn cursor))
 
 nothing-of : (place : Place) (s : Scanned) → NoneComes (nextOf s) → walkText place (symbolsOf s) ≡ []
 unfolding symbolsOf
@@ -125,11 +125,11 @@ less-by later x h (a-symbol y) = rw (y .same) (omega (arith, x .starts, x .withi
 less-by later x h (a-fault e) = rw e (omega (arith, x .starts, x .within))
 
 -- it falls, after a symbol or further on
-pub behind-falls : {classes text : List ℕ} {at : ℕ} {class : Class} {first end : ℕ} {coming next′ : Next} (later : ℕ) → SymbolAt classes text at class first end → end ≤ later → coming ≡ foundAt class first end
+pub behind-falls : {classes text : List ℕ} {at : ℕ} {class : Class} {first end size : ℕ} {apart : Bool} {coming next′ : Next} (later : ℕ) → SymbolAt classes text at class first end → end ≤ later → coming ≡ foundAt class first end size apart
     → next′ ≡ nextOf (scanBy classes text later) → behind (length text) next′ < behind (length text) coming
 behind-falls {classes} {text} later x h e k = rw (e, k) (less-by later x h (unfolded classes text later))
 
-pub behind-less : {classes text : List ℕ} {at : ℕ} {class : Class} {first end : ℕ} {coming later : Next} → SymbolAt classes text at class first end → coming ≡ foundAt class first end
+pub behind-less : {classes text : List ℕ} {at : ℕ} {class : Class} {first end size : ℕ} {apart : Bool} {coming later : Next} → SymbolAt classes text at class first end → coming ≡ foundAt class first end size apart
     → later ≡ nextOf (scanBy classes text end) → behind (length text) later < behind (length text) coming
 behind-less {end = end} x e k = behind-falls end x (omega arith) e k
 
@@ -154,15 +154,15 @@ coming-first classes text start out e = record { at = start; is = e; counted = o
 
 module _ {classes text : List ℕ} {start : ℕ} {out₀ out : List ℕ} {n : ℕ} {place : Place} {coming : Next} (l : Coming classes text start out₀ out n place coming) where
   -- the symbol that comes
-  pub comes : {class : Class} {first end : ℕ} → coming ≡ foundAt class first end → SymbolAt classes text (l .at) class first end
+  pub comes : {class : Class} {first end size : ℕ} {apart : Bool} → coming ≡ foundAt class first end size apart → SymbolAt classes text (l .at) class first end
   comes e = found classes text (l .at) (sym e ∙ l .is)
 
   -- it is written
-  pub coming-next : {class : Class} {first end : ℕ} {later : Next} {colon : Bool} {out′ : List ℕ} {n′ : ℕ} {place′ : Place} → coming ≡ foundAt class first end → length text ≤ textLimit
+  pub coming-next : {class : Class} {first end size : ℕ} {apart : Bool} {later : Next} {colon : Bool} {out′ : List ℕ} {n′ : ℕ} {place′ : Place} → coming ≡ foundAt class first end size apart → length text ≤ textLimit
       → later ≡ nextOf (scanBy classes text end) → colon ≡ isColon later → length out′ ≡ length out
       → Wrote (symbolText class (meaningAt classes text class first end) place colon) out n out′ n′ → n′ ≤ n + 2 * length text + 3 → place′ ≡ after class place colon
       → Coming classes text start out₀ out′ n′ place′ later
-  coming-next {class} {first} {end} {later} {colon} {out′} {n′} {place′} e h k c s w b p =
+  coming-next {class} {first} {end} {colon = colon} {place′ = place′} e h k c s w b p =
       let x = comes e in
       let q : colon ≡ colonNext (symbolsOf (scanBy classes text end)) = c ∙ ap isColon k ∙ colon-of (scanBy classes text end) in
       let t : textFrom classes text place (l .at) ≡ symbolText class (meaningAt classes text class first end) place colon (textFrom classes text place′ end) =

@@ -33,6 +33,8 @@ use scanner::cursor::Ahead;
 use scanner::cursor::CLASS;
 use scanner::cursor::END;
 use scanner::cursor::ENDED;
+use scanner::cursor::FROM;
+use scanner::cursor::LENGTH;
 use scanner::cursor::START;
 use scanner::cursor::ahead_of;
 use scanner::cursor::step;
@@ -255,9 +257,9 @@ fn colon_ahead(ahead: Ahead) -> bool
 }
 
 // Write the plain text from the symbol ahead on, as far as there is room: the answer is its length. The cursor keeps where the body starts.
-fn write_from(classes: &[u8; 256], text: &[u8], cursor: &mut [usize; 5], out: &mut [u8]) -> usize
-    requires { ⌜ (length (now text) ≤ textLimit) × (length (now cursor) ≡ cursorSize) × (nextIn (now cursor) ≡ nextOf (scanBy (now classes) (now text) (getD (now cursor) 3 0))) ⌝ }
-    ensures { λ r. ⌜ (r ≡ length (writtenText (now (classes .entry)) (now (text .entry)) (getD (now (cursor .entry)) 3 0))) × (now (out .exit) ≡ sets (now (out .entry)) 0 (writtenText (now (classes .entry)) (now (text .entry)) (getD (now (cursor .entry)) 3 0))) ⌝ }
+fn write_from(classes: &[u8; 256], text: &[u8], cursor: &mut [usize; 7], out: &mut [u8]) -> usize
+    requires { ⌜ (length (now text) ≤ textLimit) × (length (now cursor) ≡ cursorSize) × (nextIn (now cursor) ≡ nextOf (scanBy (now classes) (now text) (getD (now cursor) 5 0))) ⌝ }
+    ensures { λ r. ⌜ (r ≡ length (writtenText (now (classes .entry)) (now (text .entry)) (getD (now (cursor .entry)) 5 0))) × (now (out .exit) ≡ sets (now (out .entry)) 0 (writtenText (now (classes .entry)) (now (text .entry)) (getD (now (cursor .entry)) 5 0))) ⌝ }
 {
     let mut n: usize = 0;
     let mut place = Place::Start;
@@ -270,6 +272,8 @@ fn write_from(classes: &[u8; 256], text: &[u8], cursor: &mut [usize; 5], out: &m
             class,
             start: cursor[START],
             end: cursor[END],
+            length: cursor[LENGTH],
+            apart: cursor[FROM] < cursor[START],
         };
         step(classes, text, cursor);
         ahead = ahead_of(cursor[CLASS]);
@@ -284,7 +288,7 @@ fn write_by(classes: &[u8; 256], text: &[u8], start: usize, out: &mut [u8]) -> u
     requires { ⌜ length (now text) ≤ textLimit ⌝ }
     ensures { λ r. ⌜ (r ≡ length (writtenText (now (classes .entry)) (now (text .entry)) start)) × (now (out .exit) ≡ sets (now (out .entry)) 0 (writtenText (now (classes .entry)) (now (text .entry)) start)) ⌝ }
 {
-    let mut cursor: [usize; 5] = [ENDED, start, start, start, 0];
+    let mut cursor: [usize; 7] = [ENDED, start, start, 0, 0, start, 0];
     step(classes, text, &mut cursor);
     write_from(classes, text, &mut cursor, out)
 }

@@ -18,8 +18,8 @@ use Rattle.octets.proofs.Parts.{part-none}
 use Rattle.octets.proofs.Tables.{at}
 use Rattle.scanner.specs.Believed.Kinds.{kindOfClass, kindOf}
 use Rattle.scanner.specs.Believed.Characters.{foldAt, charactersAt}
-use Rattle.scanner.specs.Believed.Scanning.{inAtom, inQuoted, go, scanFrom, atom, next, scanBy}
-use Rattle.scanner.specs.Ties.Steps.{FirstCharacter, ReturnIsControl, plainAt, PlainEnds, DataPasses}
+use Rattle.scanner.specs.Believed.Scanning.{inAtom, inQuoted, go, scanFrom, atom, next}
+use Rattle.scanner.specs.Ties.Steps.{outsideAt, FirstCharacter, ReturnIsControl, plainAt, PlainEnds, DataPasses}
 use Rattle.scanner.specs.declared.ByteKind.{ByteKind}
 use Rattle.scanner.specs.declared.ByteKind.the-variants.{Plain}
 use Rattle.scanner.proofs.KindLaws.{class-kind}
@@ -77,12 +77,12 @@ module _ (classes text : List ℕ) (p : ℕ) (h : p < length text) (l : getD cla
   by-kind true e = rw e (hit otherKinds 2 tt)
   by-kind false e = rw e (other-class (getD classes (getD text p 0) 0) l)
 
-  by-fold : (fold : Bool) → foldAt text p ≡ fold → (start : ℕ) (t : List ℕ) → scanFrom classes (charactersAt text p) (inAtom start p t) ≡ next (atom start p t) (scanBy classes text p)
+  by-fold : (fold : Bool) → foldAt text p ≡ fold → (start : ℕ) (t : List ℕ) → scanFrom classes (charactersAt text p) (inAtom start p t) ≡ next (atom start p t) (outsideAt classes text p)
   by-fold true e start t = atom-ends start t (fold-first classes text p e) (hit otherKinds 0 tt)
   by-fold false e start t = atom-ends start t (plain-first classes text p h e refl) (by-kind (eqb (getD text p 0) returnByte) refl)
 
   -- any other byte ends an atom
-  pub other-byte : (start : ℕ) (t : List ℕ) → scanFrom classes (charactersAt text p) (inAtom start p t) ≡ next (atom start p t) (scanBy classes text p)
+  pub other-byte : (start : ℕ) (t : List ℕ) → scanFrom classes (charactersAt text p) (inAtom start p t) ≡ next (atom start p t) (outsideAt classes text p)
   other-byte = by-fold (foldAt text p) refl
 
 -- ---- an atom
@@ -106,7 +106,7 @@ module _ {classes text : List ℕ} {at p : ℕ} (w : Running classes text at p) 
         within = omega arith;
       }
 
-  ends-by : ((start : ℕ) → scanFrom classes (charactersAt text p) (inAtom start p (part text start p)) ≡ next (atom start p (part text start p)) (scanBy classes text p)) → PlainEnds classes text at p
+  ends-by : ((start : ℕ) → scanFrom classes (charactersAt text p) (inAtom start p (part text start p)) ≡ next (atom start p (part text start p)) (outsideAt classes text p)) → PlainEnds classes text at p
   ends-by e = record { atom-from = λ start s. record { same = w .same start s ∙ e start; from = w .from; within = w .within }; from = w .from; within = w .within }
 
   -- any other ends it

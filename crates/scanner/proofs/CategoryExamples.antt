@@ -8,7 +8,7 @@ use Rattle.octets.specs.Believed.Letters.{lower, same}
 use Rattle.octets.specs.Believed.Text.{bytes}
 use Rattle.scanner.specs.Believed.Kinds.{kindOf}
 use Rattle.scanner.specs.Believed.Characters.{charactersFrom}
-use Rattle.scanner.specs.Believed.Scanning.{scanFrom}
+use Rattle.scanner.specs.Believed.Scanning.{scanFrom, parted}
 use Rattle.scanner.specs.Believed.Answers.{unlessFault}
 use Rattle.scanner.specs.Believed.Categories.{between, categoryOf, categoryAt}
 use Rattle.scanner.specs.declared.Category.{Category}
@@ -93,6 +93,6 @@ table =
     marks ∷ quotes ∷ at-alone ∷ at-quoted ∷ fold-between ∷ fold-in-comment ∷ fold-in-quoted ∷ comments ∷ no-symbol ∷ stray ∷ faulty ∷ inner ∷ out-of-order ∷ []
 
 pub right : Right table
-unfolding crlf row whole toldFrom marks quotes at-alone at-quoted fold-between fold-in-comment fold-in-quoted comments no-symbol stray faulty inner out-of-order table between categoryOf unlessFault scanFrom charactersFrom kindOf classOf classTable lower same
+unfolding crlf row whole toldFrom marks quotes at-alone at-quoted fold-between fold-in-comment fold-in-quoted comments no-symbol stray faulty inner out-of-order table between categoryOf unlessFault parted scanFrom charactersFrom kindOf classOf classTable lower same
 right =
     and refl (and refl (and refl (and refl (and refl (and refl (and refl (and refl (and refl (and refl (and refl (and refl (and refl none))))))))))))

@@ -98,12 +98,12 @@ module _ (classes text : List ℕ) (at : ℕ) where
   -- a byte that starts no fold
   pub plain-first : {kind : ByteKind} → at < length text → foldAt text at ≡ false → kind ≡ kindOf classes (getD text at 0) → FirstCharacter classes text at kind at (at + 1)
   plain-first h e k =
-      record { folded = false; characters = plain-at text at h e; kind-is = k; from = omega arith; behind = refl; within = omega arith; tight = λ n. refl }
+      record { folded = false; characters = plain-at text at h e; kind-is = k; from = omega arith; distance = refl; behind = refl; within = omega arith; tight = λ n. refl }
 
   -- the white space of a fold
   pub fold-first : foldAt text at ≡ true → FirstCharacter classes text at White (at + 2) (at + 3)
   fold-first e =
-      record { folded = true; characters = fold-at text at e; kind-is = refl; from = omega arith; behind = omega arith; within = omega (arith, fold-within text at e); tight = λ n. absurd (n refl) }
+      record { folded = true; characters = fold-at text at e; kind-is = refl; from = omega arith; distance = refl; behind = omega arith; within = omega (arith, fold-within text at e); tight = λ n. absurd (n refl) }
 
   -- there is a first character, or the text has ended
   pub data View : Type 0 where

@@ -3,12 +3,14 @@ use mathlib.Core.Path.{_≡_, refl}
 use mathlib.Core.List.{List, [], _∷_}
 use Prim.Native.Nat.{ℕ}
 use native.Mathlib.Omega.{arith}
+use lib.Dec.{ltb}
 use lib.ListN.{length, set, getD}
-use Rattle.scanner.specs.Ties.Cursors.{cursorSize, classNumber, endNumber, faultNumber, placed, moved, aheadOf, nextFrom, nextIn}
+use Rattle.scanner.specs.Believed.Scanning.{Scanned, ended, next, faultAt, parted}
+use Rattle.scanner.specs.Believed.Answers.{nextOf}
+use Rattle.scanner.specs.Ties.Cursors.{cursorSize, classNumber, endNumber, faultNumber, placed, moved, behindSymbol, aheadOf, nextFrom, nextIn}
 use Rattle.scanner.specs.declared.Class.{Class}
 use Rattle.scanner.specs.declared.Class.the-variants.{Atom, Quoted, At, LessThan, GreaterThan, Comma, Semicolon, Colon, Stray, Dot, Literal}
 use Rattle.scanner.specs.declared.Next.{Next}
-use Rattle.scanner.specs.declared.Next.the-variants.{Found, Ended, Fault}
 use Rattle.scanner.specs.declared.cursor.Ahead.the-variants.{Symbol}
 
 -- a class has a number of its own
@@ -26,50 +28,54 @@ class-ahead Stray = refl
 class-ahead Dot = refl
 class-ahead Literal = refl
 
--- what holds of every list of five numbers holds of a cursor
-pub each-cursor : (P : List ℕ → Type 0) → ((a b c d e : ℕ) → P (a ∷ b ∷ c ∷ d ∷ e ∷ [])) → (cursor : List ℕ) → length cursor ≡ cursorSize → P cursor
-each-cursor P f (a ∷ b ∷ c ∷ d ∷ e ∷ []) l = f a b c d e
-each-cursor P f [] l = absurd (omega arith)
-each-cursor P f (a ∷ []) l = absurd (omega arith)
-each-cursor P f (a ∷ b ∷ []) l = absurd (omega arith)
-each-cursor P f (a ∷ b ∷ c ∷ []) l = absurd (omega arith)
-each-cursor P f (a ∷ b ∷ c ∷ d ∷ []) l = absurd (omega arith)
-each-cursor P f (a ∷ b ∷ c ∷ d ∷ e ∷ x ∷ xs) l = absurd (omega arith)
+-- what holds of every list of seven numbers holds of a cursor
+pub each-cursor : (P : List ℕ → Type 0) → ((a b c d e f g : ℕ) → P (a ∷ b ∷ c ∷ d ∷ e ∷ f ∷ g ∷ [])) → (cursor : List ℕ) → length cursor ≡ cursorSize → P cursor
+each-cursor P h (a ∷ b ∷ c ∷ d ∷ e ∷ f ∷ g ∷ []) l = h a b c d e f g
+each-cursor P h [] l = absurd (omega arith)
+each-cursor P h (a ∷ []) l = absurd (omega arith)
+each-cursor P h (a ∷ b ∷ []) l = absurd (omega arith)
+each-cursor P h (a ∷ b ∷ c ∷ []) l = absurd (omega arith)
+each-cursor P h (a ∷ b ∷ c ∷ d ∷ []) l = absurd (omega arith)
+each-cursor P h (a ∷ b ∷ c ∷ d ∷ e ∷ []) l = absurd (omega arith)
+each-cursor P h (a ∷ b ∷ c ∷ d ∷ e ∷ f ∷ []) l = absurd (omega arith)
+each-cursor P h (a ∷ b ∷ c ∷ d ∷ e ∷ f ∷ g ∷ x ∷ xs) l = absurd (omega arith)
 
 -- a cursor with something else ahead, its own numbers as they were
 pub record Leads (before after : List ℕ) (next : Next) : Type 0 where
   pub ahead : nextIn after ≡ next
-  pub fourth : getD after 3 0 ≡ getD before 3 0
-  pub fifth : getD after 4 0 ≡ getD before 4 0
+  pub sixth : getD after 5 0 ≡ getD before 5 0
+  pub seventh : getD after 6 0 ≡ getD before 6 0
   pub sized : length after ≡ cursorSize
 
-pub leads-placed : (cursor : List ℕ) → length cursor ≡ cursorSize → (number start end : ℕ) → Leads cursor (placed number start end cursor) (nextFrom (aheadOf number) start end)
+-- .. looked for from the end of its symbol
+leads-placed : (cursor : List ℕ) → length cursor ≡ cursorSize → (number start end size : ℕ)
+    → Leads cursor (placed number start end size (behindSymbol cursor)) (nextFrom (aheadOf number) start end size (ltb (getD cursor 2 0) start))
 unfolding nextIn
-leads-placed cursor l number start end =
-    each-cursor (λ x. Leads x (placed number start end x) (nextFrom (aheadOf number) start end)) (λ a b c d e. record { ahead = refl; fourth = refl; fifth = refl; sized = refl }) cursor l
+leads-placed cursor l number start end size =
+    each-cursor (λ x. Leads x (placed number start end size (behindSymbol x)) (nextFrom (aheadOf number) start end size (ltb (getD x 2 0) start))) (λ a b c d e f g. record { ahead = refl; sixth = refl; seventh = refl; sized = refl }) cursor l
 
 -- .. after it has moved on
-pub leads-on : (cursor : List ℕ) → length cursor ≡ cursorSize → {after : List ℕ} (next : Next) → after ≡ moved next cursor → Leads cursor after next
-unfolding aheadOf
-leads-on cursor l (Found symbol) e =
-    rw e (rw (class-ahead (symbol .class)) at (leads-placed cursor l (classNumber (symbol .class)) (symbol .start) (symbol .end)))
-leads-on cursor l Ended e = rw e (leads-placed cursor l endNumber 0 0)
-leads-on cursor l (Fault number p) e = rw e (leads-placed cursor l faultNumber p number)
+pub leads-on : (cursor : List ℕ) → length cursor ≡ cursorSize → {after : List ℕ} (s : Scanned) → after ≡ moved (nextOf (parted (getD cursor 2 0) s)) (behindSymbol cursor) → Leads cursor after (nextOf (parted (getD cursor 2 0) s))
+unfolding aheadOf parted
+leads-on cursor l ended e = rw e (leads-placed cursor l endNumber 0 0 0)
+leads-on cursor l (next x rest) e =
+    rw e (rw (class-ahead (x .class)) at (leads-placed cursor l (classNumber (x .class)) (x .lexeme .start) (x .lexeme .end) (length (x .lexeme .meaning))))
+leads-on cursor l (faultAt number p) e = rw e (leads-placed cursor l faultNumber p number 0)
 
 -- a cursor with another number of its own
-pub record Keeps (before after : List ℕ) (fourth-told fifth-told : ℕ) : Type 0 where
+pub record Keeps (before after : List ℕ) (sixth-told seventh-told : ℕ) : Type 0 where
   pub class : getD after 0 0 ≡ getD before 0 0
   pub start : getD after 1 0 ≡ getD before 1 0
   pub end : getD after 2 0 ≡ getD before 2 0
   pub ahead : nextIn after ≡ nextIn before
-  pub fourth : getD after 3 0 ≡ fourth-told
-  pub fifth : getD after 4 0 ≡ fifth-told
+  pub sixth : getD after 5 0 ≡ sixth-told
+  pub seventh : getD after 6 0 ≡ seventh-told
   pub sized : length after ≡ cursorSize
 
-pub keeps-fourth : (cursor : List ℕ) → length cursor ≡ cursorSize → (n : ℕ) → Keeps cursor (set cursor 3 n) n (getD cursor 4 0)
+pub keeps-sixth : (cursor : List ℕ) → length cursor ≡ cursorSize → (n : ℕ) → Keeps cursor (set cursor 5 n) n (getD cursor 6 0)
 unfolding nextIn
-keeps-fourth cursor l n = each-cursor (λ x. Keeps x (set x 3 n) n (getD x 4 0)) (λ a b c d e. record { class = refl; start = refl; end = refl; ahead = refl; fourth = refl; fifth = refl; sized = refl }) cursor l
+keeps-sixth cursor l n = each-cursor (λ x. Keeps x (set x 5 n) n (getD x 6 0)) (λ a b c d e f g. record { class = refl; start = refl; end = refl; ahead = refl; sixth = refl; seventh = refl; sized = refl }) cursor l
 
-pub keeps-fifth : (cursor : List ℕ) → length cursor ≡ cursorSize → (n : ℕ) → Keeps cursor (set cursor 4 n) (getD cursor 3 0) n
+pub keeps-seventh : (cursor : List ℕ) → length cursor ≡ cursorSize → (n : ℕ) → Keeps cursor (set cursor 6 n) (getD cursor 5 0) n
 unfolding nextIn
-keeps-fifth cursor l n = each-cursor (λ x. Keeps x (set x 4 n) (getD x 3 0) n) (λ a b c d e. record { class = refl; start = refl; end = refl; ahead = refl; fourth = refl; fifth = refl; sized = refl }) cursor l
+keeps-seventh cursor l n = each-cursor (λ x. Keeps x (set x 6 n) (getD x 5 0) n) (λ a b c d e f g. record { class = refl; start = refl; end = refl; ahead = refl; sixth = refl; seventh = refl; sized = refl }) cursor l

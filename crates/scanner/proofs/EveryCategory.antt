@@ -14,7 +14,7 @@ use Rattle.octets.specs.Believed.Letters.{sameLetters}
 use Rattle.octets.specs.Believed.Text.{bytes, part}
 use Rattle.octets.specs.declared.answers.Answer.the-variants.{Accepted}
 use Rattle.scanner.specs.Believed.Characters.{charactersAt}
-use Rattle.scanner.specs.Believed.Scanning.{Scanned, ended, next, faultAt, State, outside, inComment, Move, go, halt, move, moveInComment, closed, symbolsOf, scanFrom, scanBy}
+use Rattle.scanner.specs.Believed.Scanning.{Scanned, ended, next, faultAt, State, outside, inComment, Move, go, halt, move, moveInComment, closed, symbolsOf, scanFrom, parted, scanBy}
 use Rattle.scanner.specs.Believed.Scanning as scanning
 use Rattle.scanner.specs.Ties.Steps.{FirstCharacter, Faultless}
 use Rattle.scanner.specs.Believed.Categories.{ofSymbol, takenIn, behind, between, categoryOf, Told, InStray, here, further, ToldUnlessStray}
@@ -145,9 +145,16 @@ module _ (classes text : List ℕ) (place : ℕ) where
   walk zero at gap start m h k o = by-view at gap start (view classes text at) h k o (λ q a b. absurd (omega arith))
   walk (suc n) at gap start m h k o = by-view at gap start (view classes text at) h k o (λ q a b g s. walk n q g s (omega arith) b k)
 
+  -- whether symbols stand apart is all the same
+  none-parted : (from : ℕ) (s : Scanned) → NoneUpTo place (parted from s) → NoneUpTo place s
+  unfolding parted
+  none-parted from ended n = n
+  none-parted from (next x rest) n = n
+  none-parted from (faultAt number p) n = n
+
   -- a byte before the first symbol
   between-told : (at : ℕ) → at ≤ place → place < length text → NoneUpTo place (scanBy classes text at) → ToldFrom at outside
-  between-told at h k n = walk place at Outside 0 (omega arith) h k n
+  between-told at h k n = walk place at Outside 0 (omega arith) h k (none-parted at _ n)
 
   -- ---- in a text
 

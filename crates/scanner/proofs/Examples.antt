@@ -1,14 +1,17 @@
 -- Texts and what they scan to, worked out by hand from document 01 and, of a taken line end, document 02, in one table with one statement over its rows. Assumes nothing.
 use mathlib.Core.Path.{_≡_, refl}
+use mathlib.Core.Bool.{true}
 use mathlib.Core.List.{List, [], _∷_, _++_}
 use Prim.Native.Nat.{ℕ}
 use lib.ListN.{replicate}
 use Rattle.octets.specs.Believed.Classes.{classOf, classTable}
 use Rattle.octets.specs.Believed.Letters.{lower, same}
 use Rattle.octets.specs.Believed.Text.{bytes}
+use Rattle.scanner.specs.Believed.Symbols.{Symbol}
 use Rattle.scanner.specs.Believed.Kinds.{kindOf}
 use Rattle.scanner.specs.Believed.Characters.{charactersFrom}
-use Rattle.scanner.specs.Believed.Scanning.{Scanned, ended, next, faultAt, symbol, takenData, scanFrom, scan}
+use Rattle.scanner.specs.Believed.Scanning.{Scanned, ended, next, faultAt, symbol, takenData, scanFrom, parted, scan}
+use Rattle.scanner.specs.declared.Class.{Class}
 use Rattle.scanner.specs.declared.Class.the-variants.{Atom, Quoted, At, LessThan, GreaterThan, Comma, Semicolon, Colon, Stray}
 
 -- a text and what it scans to
@@ -24,6 +27,10 @@ pub data Right : List Row → Type 0 where
   none : Right []
   and : {r : Row} {rows : List Row} → scan (r .text) 0 ≡ r .scans → Right rows → Right (r ∷ rows)
 
+-- a symbol that stands apart
+abbrev apart : Symbol Class → Symbol Class
+apart x = record { class = x .class; lexeme = record { start = x .lexeme .start; end = x .lexeme .end; meaning = x .lexeme .meaning; apart = true } }
+
 unfoldable pub crlf : List ℕ
 crlf = 13 ∷ 10 ∷ []
 
@@ -31,15 +38,15 @@ crlf = 13 ∷ 10 ∷ []
 nested : Row
 nested =
     row (bytes "Muhammed(I am (the) greatest)Ali at(the)WBA")
-    (next (symbol Atom 0 8 (bytes "Muhammed")) (next (symbol Atom 29 32 (bytes "Ali")) (next (symbol At 33 35 (bytes "at")) (next (symbol Atom 40 43 (bytes "WBA")) ended))))
+    (next (symbol Atom 0 8 (bytes "Muhammed")) (next (apart (symbol Atom 29 32 (bytes "Ali"))) (next (apart (symbol At 33 35 (bytes "at"))) (next (apart (symbol Atom 40 43 (bytes "WBA"))) ended))))
 
 -- RFC 733's own: a quoted-string, a mark and an atom
 sysmail : Row
-sysmail = row (bytes "\":sysmail\"@ Some-Host") (next (symbol Quoted 0 10 (bytes ":sysmail")) (next (symbol At 10 11 (bytes "@")) (next (symbol Atom 12 21 (bytes "Some-Host")) ended)))
+sysmail = row (bytes "\":sysmail\"@ Some-Host") (next (symbol Quoted 0 10 (bytes ":sysmail")) (next (symbol At 10 11 (bytes "@")) (next (apart (symbol Atom 12 21 (bytes "Some-Host"))) ended)))
 
 -- a fold parts two atoms
 folded-atoms : Row
-folded-atoms = row (bytes "ab" ++ (crlf ++ bytes " cd")) (next (symbol Atom 0 2 (bytes "ab")) (next (symbol Atom 5 7 (bytes "cd")) ended))
+folded-atoms = row (bytes "ab" ++ (crlf ++ bytes " cd")) (next (symbol Atom 0 2 (bytes "ab")) (next (apart (symbol Atom 5 7 (bytes "cd"))) ended))
 
 -- in a quoted-string its CRLF is no datum, and its white space is
 folded-quoted : Row
@@ -76,10 +83,10 @@ half-taken = row (bytes "\"a\\" ++ crlf) (faultAt 5 0)
 
 -- in a comment, also after a backslash
 folded-comment : Row
-folded-comment = row (bytes "(a" ++ (crlf ++ bytes " b) c")) (next (symbol Atom 8 9 (bytes "c")) ended)
+folded-comment = row (bytes "(a" ++ (crlf ++ bytes " b) c")) (next (apart (symbol Atom 8 9 (bytes "c"))) ended)
 
 taken-in-comment : Row
-taken-in-comment = row (bytes "(a\\" ++ (crlf ++ bytes " ) c")) (next (symbol Atom 8 9 (bytes "c")) ended)
+taken-in-comment = row (bytes "(a\\" ++ (crlf ++ bytes " ) c")) (next (apart (symbol Atom 8 9 (bytes "c"))) ended)
 
 -- a CRLF whose white space is not there is no fold
 half-fold : Row
@@ -95,7 +102,7 @@ marks =
 
 -- "at" in any case of letters; quoted it is a word
 at-cases : Row
-at-cases = row (bytes "at At AT aT \"at\" ate") (next (symbol At 0 2 (bytes "at")) (next (symbol At 3 5 (bytes "At")) (next (symbol At 6 8 (bytes "AT")) (next (symbol At 9 11 (bytes "aT")) (next (symbol Quoted 12 16 (bytes "at")) (next (symbol Atom 17 20 (bytes "ate")) ended))))))
+at-cases = row (bytes "at At AT aT \"at\" ate") (next (symbol At 0 2 (bytes "at")) (next (apart (symbol At 3 5 (bytes "At"))) (next (apart (symbol At 6 8 (bytes "AT"))) (next (apart (symbol At 9 11 (bytes "aT"))) (next (apart (symbol Quoted 12 16 (bytes "at"))) (next (apart (symbol Atom 17 20 (bytes "ate"))) ended))))))
 
 -- 5 at its opening quote, 6 at the outermost "(", each only at the end
 open-quoted : Row
@@ -143,14 +150,14 @@ controls-comment = row (bytes "(" ++ (127 ∷ 10 ∷ bytes ")")) ended
 
 -- a quote in a comment is data, and so is a parenthesis in a quoted-string
 quote-in-comment : Row
-quote-in-comment = row (bytes "(a \" b) c") (next (symbol Atom 8 9 (bytes "c")) ended)
+quote-in-comment = row (bytes "(a \" b) c") (next (apart (symbol Atom 8 9 (bytes "c"))) ended)
 
 comment-in-quoted : Row
-comment-in-quoted = row (bytes "\"(\" x") (next (symbol Quoted 0 3 (bytes "(")) (next (symbol Atom 4 5 (bytes "x")) ended))
+comment-in-quoted = row (bytes "\"(\" x") (next (symbol Quoted 0 3 (bytes "(")) (next (apart (symbol Atom 4 5 (bytes "x"))) ended))
 
 -- comments nest without a limit of their own
 deep-comment : Row
-deep-comment = row (replicate 300 40 ++ (replicate 300 41 ++ bytes "x")) (next (symbol Atom 600 601 (bytes "x")) ended)
+deep-comment = row (replicate 300 40 ++ (replicate 300 41 ++ bytes "x")) (next (apart (symbol Atom 600 601 (bytes "x"))) ended)
 
 pub table : List Row
 table =
@@ -159,6 +166,6 @@ table =
     ∷ deep-comment ∷ []
 
 pub right : Right table
-unfolding row crlf nested sysmail folded-atoms folded-quoted folded-taken closed-after-taken taken-twice folded-after-taken third-backslash return-before-fold return-then-line-feed half-taken folded-comment taken-in-comment half-fold marks at-cases open-quoted open-comment open-inner taking-at-end return-quoted return-taken above above-taken above-comment delete line-feed controls-quoted controls-comment quote-in-comment comment-in-quoted deep-comment table scanFrom takenData charactersFrom kindOf classOf classTable lower same
+unfolding row crlf nested sysmail folded-atoms folded-quoted folded-taken closed-after-taken taken-twice folded-after-taken third-backslash return-before-fold return-then-line-feed half-taken folded-comment taken-in-comment half-fold marks at-cases open-quoted open-comment open-inner taking-at-end return-quoted return-taken above above-taken above-comment delete line-feed controls-quoted controls-comment quote-in-comment comment-in-quoted deep-comment table parted scanFrom takenData charactersFrom kindOf classOf classTable lower same
 right =
     and refl (and refl (and refl (and refl (and refl (and refl (and refl (and refl (and refl (and refl (and refl (and refl (and refl (and refl (and refl (and refl (and refl (and refl (and refl (and refl (and refl (and refl (and refl (and refl (and refl (and refl (and refl (and refl (and refl (and refl (and refl (and refl (and refl none))))))))))))))))))))))))))))))))

@@ -10,13 +10,14 @@ use Rattle.scanner.specs.Believed.Kinds.{kindOf, characterKind}
 use Rattle.scanner.specs.Believed.Characters.{Character, character, charactersAt}
 use Rattle.scanner.specs.Believed.Scanning.{outside, inAtom, moveOutside, moveInAtom, go, single, then, scanFrom, scanBy}
 use Rattle.scanner.specs.Believed.Answers.{unlessFault, faultOf}
-use Rattle.scanner.specs.Ties.Steps.{FirstCharacter}
+use Rattle.scanner.specs.Ties.Steps.{outsideAt, FirstCharacter}
 use Rattle.scanner.specs.declared.Class.the-variants.{Stray}
 use Rattle.scanner.specs.declared.ByteKind.{ByteKind}
 use Rattle.scanner.specs.declared.ByteKind.the-variants.{White, Control, Return, Plain, Open, Close, Quote, Backslash, Mark, Above, OpenBracket, CloseBracket}
 use Rattle.scanner.proofs.ByteKind.{the-type}
 use Rattle.scanner.proofs.CharacterLaws.{return-kind, no-return, plain-first}
 use Rattle.scanner.proofs.MoveLaws.{moves}
+use Rattle.scanner.proofs.PartedLaws.{fault-parted}
 
 -- in an atom the faults are those outside
 abbrev AsOutside : List ℕ → List Character → Type 0
@@ -45,7 +46,7 @@ atom-faults classes (character b p folded ∷ rest) start end t = by-kind classe
 
 -- a byte that is no fault and opens nothing
 module _ {classes text : List ℕ} {at p q : ℕ} where
-  pub harmless : (kind : ByteKind) → FirstCharacter classes text at kind p q → OneOf (0 ∷ 3 ∷ 5 ∷ 7 ∷ 8 ∷ []) (tagOf the-type kind) → faultOf (scanBy classes text at) ≡ faultOf (scanBy classes text q)
+  harmless : (kind : ByteKind) → FirstCharacter classes text at kind p q → OneOf (0 ∷ 3 ∷ 5 ∷ 7 ∷ 8 ∷ []) (tagOf the-type kind) → faultOf (outsideAt classes text at) ≡ faultOf (outsideAt classes text q)
   unfolding unlessFault
   harmless White x o = ap faultOf (moves x outside (go [] outside) refl)
   harmless Control x o = absurd (miss (0 ∷ 3 ∷ 5 ∷ 7 ∷ 8 ∷ []) 1 tt o)
@@ -63,7 +64,8 @@ module _ {classes text : List ℕ} {at p q : ℕ} where
 -- .. told by its kind alone
 pub harmless-byte : (classes text : List ℕ) (p : ℕ) (kind : ByteKind) → p < length text → kind ≡ kindOf classes (getD text p 0) → OneOf (0 ∷ 3 ∷ 5 ∷ 7 ∷ 8 ∷ []) (tagOf the-type kind)
     → faultOf (scanBy classes text p) ≡ faultOf (scanBy classes text (p + 1))
-harmless-byte classes text p kind h k o = harmless kind (plain-first classes text p h (no-return text p no-cr) k) o
+harmless-byte classes text p kind h k o =
+    fault-parted p (outsideAt classes text p) ∙ harmless kind (plain-first classes text p h (no-return text p no-cr) k) o ∙ sym (fault-parted (p + 1) (outsideAt classes text (p + 1)))
   where
     no-cr : getD text p 0 ≡ returnByte → ⊥
     no-cr e = miss (0 ∷ 3 ∷ 5 ∷ 7 ∷ 8 ∷ []) 2 tt (rw (k ∙ sym (return-kind classes (getD text p 0) e)) at o)

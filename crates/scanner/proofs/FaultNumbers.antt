@@ -8,8 +8,8 @@ use Rattle.octets.specs.Believed.Choice.{either}
 use Rattle.octets.specs.Believed.Numbers.{byteAbove127, quotedNotClosed, commentNotClosed, strayControl, literalNotClosed}
 use Rattle.scanner.specs.Believed.Symbols.{Symbol}
 use Rattle.scanner.specs.Believed.Kinds.{characterKind}
-use Rattle.scanner.specs.Believed.Characters.{Character, character}
-use Rattle.scanner.specs.Believed.Scanning.{Scanned, ended, next, faultAt, State, outside, inAtom, inQuoted, takingInQuoted, inLiteral, takingInLiteral, inComment, takingInComment, Move, go, halt, atom, endingWith, moveOutside, moveInAtom, moveInQuoted, moveInLiteral, moveInComment, move, atEnd, followedBy, then, scanFrom}
+use Rattle.scanner.specs.Believed.Characters.{Character, character, charactersAt}
+use Rattle.scanner.specs.Believed.Scanning.{Scanned, ended, next, faultAt, State, outside, inAtom, inQuoted, takingInQuoted, inLiteral, takingInLiteral, inComment, takingInComment, Move, go, halt, atom, endingWith, moveOutside, moveInAtom, moveInQuoted, moveInLiteral, moveInComment, move, atEnd, followedBy, then, scanFrom, parted, scanBy}
 use Rattle.scanner.specs.Believed.Scanning as scanning
 use Rattle.scanner.specs.declared.Class.{Class}
 use Rattle.scanner.specs.declared.ByteKind.{ByteKind}
@@ -147,8 +147,18 @@ moved (go symbols state) rest h f = followed symbols (rest state) (f state)
 moved (halt symbols n p) rest h f = followed symbols (faultAt n p) h
 
 -- whatever is scanned
-pub numbered : (classes : List ℕ) (characters : List Character) (state : State) → Numbered (scanFrom classes characters state)
+numbered : (classes : List ℕ) (characters : List Character) (state : State) → Numbered (scanFrom classes characters state)
 unfolding scanFrom
 numbered classes [] state = at-end state
 numbered classes (character b p folded ∷ rest) state =
     moved (move state (characterKind classes b folded) b p folded) (λ state′. scanFrom classes rest state′) (each-move state (characterKind classes b folded) b p folded) (λ state′. numbered classes rest state′)
+
+numbered-parted : (from : ℕ) (s : Scanned) → Numbered s → Numbered (parted from s)
+unfolding parted
+numbered-parted from ended h = h
+numbered-parted from (next x rest) h = numbered-parted (x .lexeme .end) rest h
+numbered-parted from (faultAt n p) h = h
+
+-- .. of a text
+pub numbered-scan : (classes text : List ℕ) (at : ℕ) → Numbered (scanBy classes text at)
+numbered-scan classes text at = numbered-parted at _ (numbered classes (charactersAt text at) outside)

@@ -2,6 +2,7 @@
 pub mod KindLaws
 pub mod CharacterLaws
 pub mod MoveLaws
+pub mod PartedLaws
 pub mod ByteLaws
 pub mod CursorMoves
 pub mod Meanings

@@ -1,21 +1,22 @@
 -- What one character does in each state. Assumes nothing.
 use mathlib.Core.Path.{_≡_, refl, sym, ap, _∙_}
-use mathlib.Core.Bool.{Bool, false}
+use mathlib.Core.Bool.{Bool, true, false}
 use mathlib.Core.List.{List, [], _∷_, _++_}
 use Prim.Native.Nat.{ℕ, zero, suc, _+_, _-_, _≤_, _<_}
 use native.Mathlib.Numerals.{add-one}
 use native.Mathlib.Omega.{arith}
-use lib.ListN.{length, getD, take, drop, length-drop}
+use lib.ListN.{length, getD, take, drop, length-drop, length-append}
 use lib.Seq.{take-suc, getD-drop}
 use types.Run.{OneOf, miss}
 use denote.Enum.Declared.{tagOf}
 use Rattle.octets.specs.Believed.Numbers.{strayControl}
+use Rattle.octets.specs.Believed.Choice.{pick}
 use Rattle.octets.specs.Believed.Text.{part}
 use Rattle.octets.proofs.Parts.{part-none}
 use Rattle.scanner.specs.Believed.Characters.{charactersAt}
-use Rattle.scanner.specs.Believed.Scanning.{Scanned, next, faultAt, State, outside, inAtom, inQuoted, takingInQuoted, inLiteral, takingInLiteral, inComment, takingInComment, Move, go, halt, symbol, atom, single, takenData, move, closed, atEnd, then, scanFrom, scanBy}
+use Rattle.scanner.specs.Believed.Scanning.{Scanned, next, faultAt, State, outside, inAtom, inQuoted, takingInQuoted, inLiteral, takingInLiteral, inComment, takingInComment, Move, go, halt, symbol, atom, single, takenData, move, closed, atEnd, then, scanFrom}
 use Rattle.scanner.specs.Believed.Scanning as scanning
-use Rattle.scanner.specs.Ties.Steps.{FirstCharacter}
+use Rattle.scanner.specs.Ties.Steps.{outsideAt, FirstCharacter}
 use Rattle.scanner.specs.declared.Class.{Class}
 use Rattle.scanner.specs.declared.Class.the-variants.{Stray}
 use Rattle.scanner.specs.declared.ByteKind.{ByteKind}
@@ -72,7 +73,7 @@ ends-atom classes CloseBracket b p folded start end t rest o = refl
 
 -- an atom ends before any other byte, which then does what it does outside
 pub atom-ends : {classes text : List ℕ} {at p q : ℕ} {kind : ByteKind} (start : ℕ) (t : List ℕ) → FirstCharacter classes text at kind p q → NotPlain kind
-    → scanFrom classes (charactersAt text at) (inAtom start at t) ≡ next (atom start at t) (scanBy classes text at)
+    → scanFrom classes (charactersAt text at) (inAtom start at t) ≡ next (atom start at t) (outsideAt classes text at)
 atom-ends {classes} {text} {at} {p} {q} {kind} start t x o =
     moves x (inAtom start at t) _ refl ∙ ends-atom classes kind (getD text p 0) p (x .folded) start at t (λ s. scanFrom classes (charactersAt text q) s) o
     ∙ ap (next (atom start at t)) (sym (moves x outside _ refl))
@@ -183,13 +184,13 @@ atom-on {classes} {text} {at} {p} {q} start l x =
 
 -- a plain byte outside begins one
 pub atom-begins : {classes text : List ℕ} {at p q : ℕ} → FirstCharacter classes text at Plain p q
-    → scanBy classes text at ≡ scanFrom classes (charactersAt text q) (inAtom p q (part text p q))
+    → outsideAt classes text at ≡ scanFrom classes (charactersAt text q) (inAtom p q (part text p q))
 atom-begins {classes} {text} {at} {p} {q} x =
     moves x outside (go [] (inAtom p (p + 1) (getD text p 0 ∷ []))) refl ∙ rw (part-one text p q (x .behind) (x .within), ← (x .behind))
 
 -- the text ends in an atom
 pub atom-last : (classes text : List ℕ) (start at : ℕ) (t : List ℕ) → charactersAt text at ≡ []
-    → scanFrom classes (charactersAt text at) (inAtom start at t) ≡ next (atom start at t) (scanBy classes text at)
+    → scanFrom classes (charactersAt text at) (inAtom start at t) ≡ next (atom start at t) (outsideAt classes text at)
 atom-last classes text start at t e = at-end classes text at (inAtom start at t) e ∙ ap (next (atom start at t)) (sym (at-end classes text at outside e))
 
 -- ---- a quoted-string
@@ -219,6 +220,37 @@ module _ {classes text : List ℕ} {start at p : ℕ} (w : Quoting classes text 
   quoted-taken {s = s} {kind = kind} x y o =
       let t : List ℕ = w .meaning ++ takenData (getD text s 0) (y .folded) in
       record { meaning = t; same = quoted-taking x y (go [] (inQuoted start t)) (taken kind (inQuoted start t) s o) }
+
+-- what a backslash takes has the bytes that stand up to the character's end
+taken-length : (b at p q : ℕ) (folded : Bool) → p ≡ pick folded (at + 2) at → q ≡ p + 1 → length (takenData b folded) ≡ q - at
+unfolding takenData
+taken-length b at p q true d n = omega arith
+taken-length b at p q false d n = omega arith
+
+-- .. with so many data, counted
+pub record Counting (classes text : List ℕ) (start at p size : ℕ) : Type 0 where
+  pub quoting : Quoting classes text start at p
+  pub size-is : size ≡ length (quoting .meaning)
+  pub low : size ≤ p
+
+module _ {classes text : List ℕ} {start at p size : ℕ} (w : Counting classes text start at p size) where
+  pub counting-on : {q r : ℕ} {kind : ByteKind} → FirstCharacter classes text p kind q r → Data kind → Counting classes text start at r (size + 1)
+  unfolding quoted-on
+  counting-on {q} x o =
+      record {
+        quoting = quoted-on (w .quoting) x o;
+        size-is = rw (w .size-is) (sym (length-append (w .quoting .meaning) (getD text q 0 ∷ [])));
+        low = omega (arith, w .low, x .from, x .behind);
+      }
+
+  pub counting-taken : {q r s u : ℕ} {kind : ByteKind} → FirstCharacter classes text p Backslash q r → FirstCharacter classes text r kind s u → Taken kind → Counting classes text start at u (size + (u - r))
+  unfolding quoted-taken
+  counting-taken {r = r} {s = s} {u = u} x y o =
+      record {
+        quoting = quoted-taken (w .quoting) x y o;
+        size-is = rw (w .size-is, ← (taken-length (getD text s 0) r s u (y .folded) (y .distance) (y .behind))) (sym (length-append (w .quoting .meaning) (takenData (getD text s 0) (y .folded))));
+        low = omega (arith, w .low, x .from, x .behind, y .from, y .behind);
+      }
 
 -- ---- a domain literal
 
@@ -288,7 +320,7 @@ module _ {classes text : List ℕ} {start at depth p : ℕ} (w : Commenting clas
   comment-closes x n = record { same = comment-moves x (go [] (closed depth start)) refl ∙ rw (closed-inner depth start n) }
 
   -- it closes itself, and scanning goes on outside
-  pub comment-over : {q r : ℕ} → FirstCharacter classes text p Close q r → depth ≡ 0 → scanFrom classes (charactersAt text at) (inComment 0 start) ≡ scanBy classes text r
+  pub comment-over : {q r : ℕ} → FirstCharacter classes text p Close q r → depth ≡ 0 → scanFrom classes (charactersAt text at) (inComment 0 start) ≡ outsideAt classes text r
   comment-over x e = comment-moves x (go [] (closed depth start)) refl ∙ rw e
 
   -- a backslash, and what comes of the character after it
@@ -306,16 +338,16 @@ module _ {classes text : List ℕ} {start at depth p : ℕ} (w : Commenting clas
 module _ {classes text : List ℕ} {at p q : ℕ} where
   -- a single byte that is a symbol
   single-next : {kind : ByteKind} (class : Class) (x : FirstCharacter classes text at kind p q) → move outside kind (getD text p 0) p (x .folded) ≡ go (single class (getD text p 0) p ∷ []) outside
-      → scanBy classes text at ≡ next (symbol class p q (getD text p 0 ∷ [])) (scanBy classes text q)
+      → outsideAt classes text at ≡ next (symbol class p q (getD text p 0 ∷ [])) (outsideAt classes text q)
   single-next class x e =
       moves x outside (go (single class (getD text p 0) p ∷ []) outside) e
-      ∙ ap (λ (end : ℕ). next (symbol class p end (getD text p 0 ∷ [])) (scanBy classes text q)) (sym (x .behind))
+      ∙ ap (λ (end : ℕ). next (symbol class p end (getD text p 0 ∷ [])) (outsideAt classes text q)) (sym (x .behind))
 
-  pub mark-next : {class : Class} → FirstCharacter classes text at (Mark class) p q → scanBy classes text at ≡ next (symbol class p q (getD text p 0 ∷ [])) (scanBy classes text q)
+  pub mark-next : {class : Class} → FirstCharacter classes text at (Mark class) p q → outsideAt classes text at ≡ next (symbol class p q (getD text p 0 ∷ [])) (outsideAt classes text q)
   mark-next {class} x = single-next class x refl
 
-  pub stray-next : {kind : ByteKind} → FirstCharacter classes text at kind p q → OneOf (5 ∷ 7 ∷ 11 ∷ []) (tag kind) → scanBy classes text at ≡ next (symbol Stray p q (getD text p 0 ∷ [])) (scanBy classes text q)
+  pub stray-next : {kind : ByteKind} → FirstCharacter classes text at kind p q → OneOf (5 ∷ 7 ∷ 11 ∷ []) (tag kind) → outsideAt classes text at ≡ next (symbol Stray p q (getD text p 0 ∷ [])) (outsideAt classes text q)
   stray-next {kind} x o = single-next Stray x (stray kind (getD text p 0) p (x .folded) o)
 
-  pub control-next : {kind : ByteKind} → FirstCharacter classes text at kind p q → OneOf (1 ∷ 2 ∷ []) (tag kind) → scanBy classes text at ≡ faultAt strayControl p
+  pub control-next : {kind : ByteKind} → FirstCharacter classes text at kind p q → OneOf (1 ∷ 2 ∷ []) (tag kind) → outsideAt classes text at ≡ faultAt strayControl p
   control-next {kind} x o = moves x outside (halt [] strayControl p) (stray-control kind (getD text p 0) p (x .folded) o)

@@ -1,13 +1,14 @@
 -- Whatever a backslash in a quoted-string takes, only meanings differ by it: no class, no place and no fault. Assumes nothing.
 use mathlib.Core.Path.{_≡_, refl, ap}
-use mathlib.Core.Bool.{Bool, true}
+use mathlib.Core.Bool.{Bool, true, false}
 use mathlib.Core.List.{List, [], _∷_, _++_, append-assoc}
 use Prim.Native.Nat.{ℕ}
+use lib.Dec.{ltb}
 use Rattle.octets.specs.Believed.Octets.{returnByte, lineFeedByte}
 use Rattle.scanner.specs.Believed.Symbols.{Symbol}
 use Rattle.scanner.specs.Believed.Kinds.{characterKind}
-use Rattle.scanner.specs.Believed.Characters.{Character, character}
-use Rattle.scanner.specs.Believed.Scanning.{Scanned, ended, next, faultAt, State, outside, inAtom, inQuoted, takingInQuoted, inLiteral, takingInLiteral, inComment, takingInComment, Move, go, halt, symbol, moveInQuoted, take, takenData, move, atEnd, followedBy, then, scanFrom}
+use Rattle.scanner.specs.Believed.Characters.{Character, character, charactersAt}
+use Rattle.scanner.specs.Believed.Scanning.{Scanned, ended, next, faultAt, State, outside, inAtom, inQuoted, takingInQuoted, inLiteral, takingInLiteral, inComment, takingInComment, Move, go, halt, moveInQuoted, take, takenData, move, atEnd, followedBy, then, scanFrom, apartFrom, parted, scanBy}
 use Rattle.scanner.specs.declared.Class.{Class}
 use Rattle.scanner.specs.declared.Class.the-variants.{Quoted}
 use Rattle.scanner.specs.declared.ByteKind.{ByteKind}
@@ -37,11 +38,15 @@ scanTaking rule classes (character b p folded ∷ rest) state =
 
 -- ---- scans that are the same but for the meaning of quoted-strings
 
+-- a quoted-string, apart or not
+abbrev pub quotedAs : ℕ → ℕ → List ℕ → Bool → Symbol Class
+quotedAs start end meaning apart = record { class = Quoted; lexeme = record { start = start; end = end; meaning = meaning; apart = apart } }
+
 pub data SameButData : Scanned → Scanned → Type 0 where
   both-end : SameButData ended ended
   both-fault : (number p : ℕ) → SameButData (faultAt number p) (faultAt number p)
   both-next : (x : Symbol Class) {r s : Scanned} → SameButData r s → SameButData (next x r) (next x s)
-  both-quoted : (start end : ℕ) (t u : List ℕ) {r s : Scanned} → SameButData r s → SameButData (next (symbol Quoted start end t) r) (next (symbol Quoted start end u) s)
+  both-quoted : (start end : ℕ) (t u : List ℕ) (apart : Bool) {r s : Scanned} → SameButData r s → SameButData (next (quotedAs start end t apart) r) (next (quotedAs start end u apart) s)
 
 -- states that differ in the data so far of a quoted-string
 data SameStates : State → State → Type 0 where
@@ -79,7 +84,7 @@ module _ (f g : State → Scanned) (on : (s s′ : State) → SameStates s s′ 
   from-quoted Plain start t u b p = on _ _ (both-in start _ _)
   from-quoted Open start t u b p = on _ _ (both-in start _ _)
   from-quoted Close start t u b p = on _ _ (both-in start _ _)
-  from-quoted Quote start t u b p = both-quoted start _ t u (on _ _ (one-state outside))
+  from-quoted Quote start t u b p = both-quoted start _ t u false (on _ _ (one-state outside))
   from-quoted Backslash start t u b p = on _ _ (both-taking start t u)
   from-quoted (Mark class) start t u b p = on _ _ (both-in start _ _)
   from-quoted Above start t u b p = both-fault _ p
@@ -141,9 +146,22 @@ papers-rule classes [] s = refl
 papers-rule classes (character b p folded ∷ rest) s =
     rw (same-rule s (characterKind classes b folded) b p folded) (same-then (move s (characterKind classes b folded) b p folded) _ _ (λ s′. papers-rule classes rest s′))
 
+-- the same symbols stand apart
+same-parted : (from : ℕ) {r s : Scanned} → SameButData r s → SameButData (parted from r) (parted from s)
+unfolding parted
+same-parted from both-end = both-end
+same-parted from (both-fault number p) = both-fault number p
+same-parted from (both-next x h) = both-next (apartFrom from x) (same-parted (x .lexeme .end) h)
+same-parted from (both-quoted start end t u apart h) = both-quoted start end t u (ltb from start) (same-parted end h)
+
+-- what a text scans to from a position on with such a rule
+abbrev pub scanByTaking : Taking → List ℕ → List ℕ → ℕ → Scanned
+scanByTaking rule classes text at = parted at (scanTaking rule classes (charactersAt text at) outside)
+
 -- by any other rule, that of document 01 too, the scan is the same but for data
-pub only-meanings : (rule : Taking) (classes : List ℕ) (cs : List Character) (s : State) → SameButData (scanTaking rule classes cs s) (scanFrom classes cs s)
-only-meanings rule classes cs s = rw (← (papers-rule classes cs s)) (by-rules rule takenData classes cs (one-state s))
+pub only-meanings : (rule : Taking) (classes text : List ℕ) (at : ℕ) → SameButData (scanByTaking rule classes text at) (scanBy classes text at)
+only-meanings rule classes text at =
+    same-parted at (rw (← (papers-rule classes (charactersAt text at) outside)) (by-rules rule takenData classes (charactersAt text at) (one-state outside)))
 
 -- ---- the white space after a line end that a backslash took
 

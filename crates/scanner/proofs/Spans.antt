@@ -5,7 +5,7 @@ use Prim.Native.Nat.{ℕ, zero, suc, _+_, _≤_, _<_}
 use native.Mathlib.Omega.{arith}
 use lib.ListN.{length}
 use Rattle.scanner.specs.Believed.Symbols.{Symbol}
-use Rattle.scanner.specs.Believed.Scanning.{symbolsOf, symbol, scanBy}
+use Rattle.scanner.specs.Believed.Scanning.{symbolsOf, symbol, apartFrom, scanBy}
 use Rattle.scanner.specs.declared.Class.{Class}
 use Rattle.scanner.specs.declared.Class.the-variants.{Quoted}
 use Rattle.scanner.specs.Ties.Meanings.{meaningAt}
@@ -25,7 +25,7 @@ module _ (classes text : List ℕ) where
   by-step at (no-symbol e) f = rw e none
   by-step at (a-symbol {class} {start} {end} x) f =
       rw (x .same)
-      (one {x = symbol class start end (meaningAt classes text class start end)} (x .from) (x .starts) (x .within) (x .quotes) refl (f end (omega (arith, x .from, x .starts)) (x .within)))
+      (one {x = apartFrom at (symbol class start end (meaningAt classes text class start end))} (x .from) (x .starts) (x .within) (x .quotes) refl (f end (omega (arith, x .from, x .starts)) (x .within)))
   by-step at (a-fault e) f = rw e none
 
   run : (n at : ℕ) → length text ≤ at + n → Placed classes text (length text) at (symbolsOf (scanBy classes text at))

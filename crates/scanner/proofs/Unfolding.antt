@@ -6,7 +6,7 @@ use mathlib.Core.List.{List, [], _∷_, _++_, append-assoc, append-nil}
 use Prim.Native.Nat.{ℕ, zero, suc, _+_, _-_, _≤_, _<_}
 use native.Mathlib.Decide.{decLt}
 use native.Mathlib.Omega.{arith}
-use lib.Dec.{eqb}
+use lib.Dec.{eqb, ltb}
 use lib.ListN.{length, getD}
 use types.Run.{hit}
 use Rattle.octets.specs.Believed.Numbers.{quotedNotClosed, commentNotClosed, strayControl, byteAbove127, literalNotClosed}
@@ -16,9 +16,9 @@ use Rattle.octets.specs.Believed.Letters.{sameLetters}
 use Rattle.octets.specs.Believed.Text.{bytes, part}
 use Rattle.scanner.specs.Believed.Kinds.{kindOfClass, kindOf, characterKind}
 use Rattle.scanner.specs.Believed.Characters.{charactersAt}
-use Rattle.scanner.specs.Believed.Scanning.{ended, next, faultAt, outside, inQuoted, takingInQuoted, inLiteral, takingInLiteral, inComment, takingInComment, go, halt, symbol, atomClass, scanFrom, scanBy}
+use Rattle.scanner.specs.Believed.Scanning.{ended, next, faultAt, outside, inQuoted, takingInQuoted, inLiteral, takingInLiteral, inComment, takingInComment, go, halt, symbol, atomClass, scanFrom, apartFrom, parted, scanBy}
 use Rattle.scanner.specs.Believed.Answers.{foundAt, nextOf, unlessFault, faultOf}
-use Rattle.scanner.specs.Ties.Steps.{FirstCharacter, AtomEnds, CommentEnds, Faultless}
+use Rattle.scanner.specs.Ties.Steps.{outsideAt, FirstCharacter, AtomEnds, CommentEnds, Faultless}
 use Rattle.scanner.specs.declared.Class.{Class}
 use Rattle.scanner.specs.declared.Class.the-variants.{Atom, Quoted, At, LessThan, GreaterThan, Comma, Semicolon, Colon, Stray, Dot, Literal}
 use Rattle.scanner.specs.declared.Symbol.{Symbol as Placed}
@@ -70,7 +70,7 @@ module _ (classes text : List ℕ) where
   -- ---- a quoted-string closes, or there is a fault
 
   data Closes (start at : ℕ) : Type 0 where
-    closes : (end : ℕ) → scanFrom classes (charactersAt text at) (inQuoted start []) ≡ next (symbol Quoted start end (dataAt classes text at)) (scanBy classes text end)
+    closes : (end : ℕ) → scanFrom classes (charactersAt text at) (inQuoted start []) ≡ next (symbol Quoted start end (dataAt classes text at)) (outsideAt classes text end)
         → at < end → end ≤ length text → Closes start at
     faulty : (number p : ℕ) → scanFrom classes (charactersAt text at) (inQuoted start []) ≡ faultAt number p → Closes start at
 
@@ -209,7 +209,7 @@ module _ (classes text : List ℕ) where
   -- ---- a domain literal closes, or there is a fault
 
   data LiteralEnds (start at : ℕ) : Type 0 where
-    literal : (end : ℕ) → scanFrom classes (charactersAt text at) (inLiteral start) ≡ next (symbol Literal start end []) (scanBy classes text end) → at < end → end ≤ length text → LiteralEnds start at
+    literal : (end : ℕ) → scanFrom classes (charactersAt text at) (inLiteral start) ≡ next (symbol Literal start end []) (outsideAt classes text end) → at < end → end ≤ length text → LiteralEnds start at
     faulty : (number p : ℕ) → scanFrom classes (charactersAt text at) (inLiteral start) ≡ faultAt number p → LiteralEnds start at
 
   record Inside (start at p : ℕ) : Type 0 where
@@ -328,38 +328,38 @@ meaning-single classes text Literal p q s e h = absurd s
 
 -- ---- one step outside
 
--- the first symbol at or after a position: it lies in the text, and scanning goes on from its end
-pub record SymbolAt (classes text : List ℕ) (at : ℕ) (class : Class) (start end : ℕ) : Type 0 where
-  pub same : scanBy classes text at ≡ next (symbol class start end (meaningAt classes text class start end)) (scanBy classes text end)
+-- the first symbol at or after a position, before it is told whether it stands apart: it lies in the text, and scanning goes on from its end
+pub record RawAt (classes text : List ℕ) (at : ℕ) (class : Class) (start end : ℕ) : Type 0 where
+  pub same : outsideAt classes text at ≡ next (symbol class start end (meaningAt classes text class start end)) (outsideAt classes text end)
   pub from : at ≤ start
   pub starts : start < end
   pub within : end ≤ length text
   pub quotes : class ≡ Quoted → start + 2 ≤ end
 
-pub data Unfolded (classes text : List ℕ) (at : ℕ) : Type 0 where
-  no-symbol : scanBy classes text at ≡ ended → Unfolded classes text at
-  a-symbol : {class : Class} {start end : ℕ} → SymbolAt classes text at class start end → Unfolded classes text at
-  a-fault : {number p : ℕ} → scanBy classes text at ≡ faultAt number p → Unfolded classes text at
+pub data RawUnfolded (classes text : List ℕ) (at : ℕ) : Type 0 where
+  raw-end : outsideAt classes text at ≡ ended → RawUnfolded classes text at
+  raw-symbol : {class : Class} {start end : ℕ} → RawAt classes text at class start end → RawUnfolded classes text at
+  raw-fault : {number p : ℕ} → outsideAt classes text at ≡ faultAt number p → RawUnfolded classes text at
 
 -- what a character outside is: white space, the "(" of a comment, the first byte of a symbol, or it leads to a fault
 pub data OutsideIs (classes text : List ℕ) (at : ℕ) : ByteKind → ℕ → Type 0 where
   white-space : {p : ℕ} → OutsideIs classes text at White p
   opens-comment : {p : ℕ} → OutsideIs classes text at Open p
-  begins : {kind : ByteKind} {p : ℕ} {class : Class} {end : ℕ} → p ≡ at → SymbolAt classes text at class p end → OutsideIs classes text at kind p
-  faulty : {kind : ByteKind} {p number q : ℕ} → scanBy classes text at ≡ faultAt number q → OutsideIs classes text at kind p
+  begins : {kind : ByteKind} {p : ℕ} {class : Class} {end : ℕ} → p ≡ at → RawAt classes text at class p end → OutsideIs classes text at kind p
+  faulty : {kind : ByteKind} {p number q : ℕ} → outsideAt classes text at ≡ faultAt number q → OutsideIs classes text at kind p
 
 module _ (classes text : List ℕ) where
-  later : {at q : ℕ} → at ≤ q → scanBy classes text at ≡ scanBy classes text q → Unfolded classes text q → Unfolded classes text at
-  later h e (no-symbol f) = no-symbol (e ∙ f)
-  later h e (a-symbol s) = a-symbol record { same = e ∙ s .same; from = omega (arith, s .from); starts = s .starts; within = s .within; quotes = s .quotes }
-  later h e (a-fault f) = a-fault (e ∙ f)
+  later : {at q : ℕ} → at ≤ q → outsideAt classes text at ≡ outsideAt classes text q → RawUnfolded classes text q → RawUnfolded classes text at
+  later h e (raw-end f) = raw-end (e ∙ f)
+  later h e (raw-symbol s) = raw-symbol record { same = e ∙ s .same; from = omega (arith, s .from); starts = s .starts; within = s .within; quotes = s .quotes }
+  later h e (raw-fault f) = raw-fault (e ∙ f)
 
   one-byte : {at p q : ℕ} {kind : ByteKind} {class : Class} → FirstCharacter classes text at kind p q → (kind ≡ White → ⊥) → Single class
-      → scanBy classes text at ≡ next (symbol class p q (getD text p 0 ∷ [])) (scanBy classes text q) → OutsideIs classes text at kind p
+      → outsideAt classes text at ≡ next (symbol class p q (getD text p 0 ∷ [])) (outsideAt classes text q) → OutsideIs classes text at kind p
   one-byte {p = p} {q = q} {class = class} x n s e =
       begins (x .tight n)
       record {
-        same = e ∙ ap (λ (m : List ℕ). next (symbol class p q m) (scanBy classes text q)) (meaning-single classes text class p q s (x .behind) (x .within));
+        same = e ∙ ap (λ (m : List ℕ). next (symbol class p q m) (outsideAt classes text q)) (meaning-single classes text class p q s (x .behind) (x .within));
         from = x .from;
         starts = omega (arith, x .behind);
         within = x .within;
@@ -372,7 +372,7 @@ module _ (classes text : List ℕ) where
       record {
         same =
             atom-begins x ∙ e .is .same
-            ∙ ap (λ (m : List ℕ). next (symbol (atomClass (part text p (e .end))) p (e .end) m) (scanBy classes text (e .end)))
+            ∙ ap (λ (m : List ℕ). next (symbol (atomClass (part text p (e .end))) p (e .end) m) (outsideAt classes text (e .end)))
             (sym (meaning-atom classes text p (e .end) (sameLetters (part text p (e .end)) (bytes "at"))));
         from = x .from;
         starts = omega (arith, x .behind, e .is .from);
@@ -386,7 +386,7 @@ module _ (classes text : List ℕ) where
       record {
         same =
             moves x outside (go [] (inQuoted p [])) refl ∙ e
-            ∙ ap (λ (i : ℕ). next (symbol Quoted p end (dataAt classes text i)) (scanBy classes text end)) (x .behind);
+            ∙ ap (λ (i : ℕ). next (symbol Quoted p end (dataAt classes text i)) (outsideAt classes text end)) (x .behind);
         from = x .from;
         starts = omega (arith, x .behind);
         within = h;
@@ -409,11 +409,11 @@ module _ (classes text : List ℕ) where
       }
   in-literal {p = p} x (faulty number r e) = faulty (moves x outside (go [] (inLiteral p)) refl ∙ e)
 
-  in-comment : {at p q : ℕ} → FirstCharacter classes text at Open p q → Leaves classes text p q → ((r : ℕ) → at < r → r ≤ length text → Unfolded classes text r) → Unfolded classes text at
+  in-comment : {at p q : ℕ} → FirstCharacter classes text at Open p q → Leaves classes text p q → ((r : ℕ) → at < r → r ≤ length text → RawUnfolded classes text r) → RawUnfolded classes text at
   in-comment {p = p} x (leaves end e) f =
       later (omega (arith, x .from, x .behind, e .from)) (moves x outside (go [] (inComment 0 p)) refl ∙ e .same)
       (f end (omega (arith, x .from, x .behind, e .from)) (e .within))
-  in-comment {p = p} x (faulty number r e) f = a-fault (moves x outside (go [] (inComment 0 p)) refl ∙ e)
+  in-comment {p = p} x (faulty number r e) f = raw-fault (moves x outside (go [] (inComment 0 p)) refl ∙ e)
 
   outside-by : {at p q : ℕ} (kind : ByteKind) → SingleMark kind → FirstCharacter classes text at kind p q → OutsideIs classes text at kind p
   outside-by White s x = white-space
@@ -433,36 +433,70 @@ module _ (classes text : List ℕ) where
   pub outside-is : {at p q : ℕ} {kind : ByteKind} → FirstCharacter classes text at kind p q → OutsideIs classes text at kind p
   outside-is {p = p} {kind = kind} x = outside-by kind (rw (x .kind-is) (character-mark classes (getD text p 0) (x .folded))) x
 
-  outside-on : (at : ℕ) {p q : ℕ} {kind : ByteKind} → OutsideIs classes text at kind p → FirstCharacter classes text at kind p q → ((r : ℕ) → at < r → r ≤ length text → Unfolded classes text r) → Unfolded classes text at
+  outside-on : (at : ℕ) {p q : ℕ} {kind : ByteKind} → OutsideIs classes text at kind p → FirstCharacter classes text at kind p q → ((r : ℕ) → at < r → r ≤ length text → RawUnfolded classes text r) → RawUnfolded classes text at
   outside-on at {q = q} white-space x f = later (omega (arith, x .from, x .behind)) (moves x outside (go [] outside) refl) (f q (omega (arith, x .from, x .behind)) (x .within))
   outside-on at {p = p} {q = q} opens-comment x f =
       in-comment x (comment-run classes text (length text) p q 0 q (omega arith) record { commenting = record { same = refl }; from = omega arith }) f
-  outside-on at (begins e s) x f = a-symbol s
-  outside-on at (faulty e) x f = a-fault e
+  outside-on at (begins e s) x f = raw-symbol s
+  outside-on at (faulty e) x f = raw-fault e
 
-  outside-view : (at : ℕ) → View classes text at → ((r : ℕ) → at < r → r ≤ length text → Unfolded classes text r) → Unfolded classes text at
-  outside-view at (over e) f = no-symbol (at-end classes text at outside e)
+  outside-view : (at : ℕ) → View classes text at → ((r : ℕ) → at < r → r ≤ length text → RawUnfolded classes text r) → RawUnfolded classes text at
+  outside-view at (over e) f = raw-end (at-end classes text at outside e)
   outside-view at (one x) f = outside-on at (outside-is x) x f
 
-  outside-run : (n at : ℕ) → length text ≤ at + n → Unfolded classes text at
+  outside-run : (n at : ℕ) → length text ≤ at + n → RawUnfolded classes text at
   outside-run zero at m = outside-view at (view classes text at) (λ r a b. absurd (omega arith))
   outside-run (suc n) at m = outside-view at (view classes text at) (λ r a b. outside-run n r (omega arith))
 
+  raw : (at : ℕ) → RawUnfolded classes text at
+  raw at = outside-run (length text) at (omega arith)
+
+-- .. and told
+pub record SymbolAt (classes text : List ℕ) (at : ℕ) (class : Class) (start end : ℕ) : Type 0 where
+  pub same : scanBy classes text at ≡ next (apartFrom at (symbol class start end (meaningAt classes text class start end))) (scanBy classes text end)
+  pub from : at ≤ start
+  pub starts : start < end
+  pub within : end ≤ length text
+  pub quotes : class ≡ Quoted → start + 2 ≤ end
+
+pub data Unfolded (classes text : List ℕ) (at : ℕ) : Type 0 where
+  no-symbol : scanBy classes text at ≡ ended → Unfolded classes text at
+  a-symbol : {class : Class} {start end : ℕ} → SymbolAt classes text at class start end → Unfolded classes text at
+  a-fault : {number p : ℕ} → scanBy classes text at ≡ faultAt number p → Unfolded classes text at
+
+module _ (classes text : List ℕ) where
+  told : (at : ℕ) → RawUnfolded classes text at → Unfolded classes text at
+  unfolding parted
+  told at (raw-end e) = no-symbol (ap (parted at) e)
+  told at (raw-symbol x) = a-symbol record { same = ap (parted at) (x .same); from = x .from; starts = x .starts; within = x .within; quotes = x .quotes }
+  told at (raw-fault e) = a-fault (ap (parted at) e)
+
   -- scanning from any position unfolds
   pub unfolded : (at : ℕ) → Unfolded classes text at
-  unfolded at = outside-run (length text) at (omega arith)
+  unfolded at = told at (raw classes text at)
 
-  -- the symbol that the next-symbol step finds
-  pub found : (at : ℕ) {class : Class} {start end : ℕ} → foundAt class start end ≡ nextOf (scanBy classes text at) → SymbolAt classes text at class start end
-  found at {class} {start} {end} e = by (unfolded at)
+  found-all : (at : ℕ) {class : Class} {start end size : ℕ} {apart : Bool} → foundAt class start end size apart ≡ nextOf (scanBy classes text at)
+      → SymbolAt classes text at class start end × (size ≡ length (meaningAt classes text class start end)) × (apart ≡ ltb at start)
+  found-all at {class} {start} {end} {size} {apart} e = by (unfolded at)
     where
-      by : Unfolded classes text at → SymbolAt classes text at class start end
+      by : Unfolded classes text at → SymbolAt classes text at class start end × (size ≡ length (meaningAt classes text class start end)) × (apart ≡ ltb at start)
       by (no-symbol f) = absurd (let z : _≡_ {A = ℕ} 0 1 = cc (ap nextOf f) in omega arith)
       by (a-symbol {class = c} {start = s} {end = n} x) =
-          let f : foundAt class start end ≡ foundAt c s n = e ∙ ap nextOf (x .same) in
-          let g : _≡_ {A = Placed} record { class = class; start = start; end = end } record { class = c; start = s; end = n } = cc in
-          rw (ap (λ (y : Placed). y .class) g, ap (λ (y : Placed). y .start) g, ap (λ (y : Placed). y .end) g) x
+          let m : ℕ = length (meaningAt classes text c s n) in
+          let f : foundAt class start end size apart ≡ foundAt c s n m (ltb at s) = e ∙ ap nextOf (x .same) in
+          let g : _≡_ {A = Placed} record { class = class; start = start; end = end; length = size; apart = apart } record { class = c; start = s; end = n; length = m; apart = ltb at s } = cc in
+          rw (ap (λ (y : Placed). y .class) g, ap (λ (y : Placed). y .start) g, ap (λ (y : Placed). y .end) g) (x, ap (λ (y : Placed). y .length) g, ap (λ (y : Placed). y .apart) g)
       by (a-fault f) = absurd (let z : _≡_ {A = ℕ} 0 1 = cc (ap nextOf f) in omega arith)
+
+  -- the symbol that the next-symbol step finds, the length of its meaning, and whether it stands apart
+  pub found : (at : ℕ) {class : Class} {start end size : ℕ} {apart : Bool} → foundAt class start end size apart ≡ nextOf (scanBy classes text at) → SymbolAt classes text at class start end
+  found at e = found-all at e .0
+
+  pub found-length : (at : ℕ) {class : Class} {start end size : ℕ} {apart : Bool} → foundAt class start end size apart ≡ nextOf (scanBy classes text at) → size ≡ length (meaningAt classes text class start end)
+  found-length at e = found-all at e .1
+
+  pub found-apart : (at : ℕ) {class : Class} {start end size : ℕ} {apart : Bool} → foundAt class start end size apart ≡ nextOf (scanBy classes text at) → apart ≡ ltb at start
+  found-apart at e = found-all at e .2
 
   -- the end, and the fault
   pub found-end : (at : ℕ) → Ended ≡ nextOf (scanBy classes text at) → scanBy classes text at ≡ ended

@@ -8,7 +8,7 @@ ghost use Rattle.octets.specs.Believed.Classes.{quote};
 ghost use Rattle.scanner.specs.Believed.Scanning.{scanBy};
 ghost use Rattle.scanner.specs.Believed.Answers.{nextOf};
 ghost use Rattle.scanner.specs.Ties.Steps.{ReturnIsControl, DataPasses, quoteAt};
-ghost use Rattle.scanner.specs.Ties.Cursors.{classNumber, placed, moved, aheadOf};
+ghost use Rattle.scanner.specs.Ties.Cursors.{classNumber, placed, moved, behindSymbol, aheadOf};
 use crate::Class;
 use crate::Next;
 use crate::atom_class;
@@ -30,12 +30,17 @@ use octets::classes::SEMICOLON;
 use octets::classes::WHITE;
 use octets::classes::class_in;
 
-// What comes next: the number of its class, its start and its end. The other places are the walk's own.
+// What comes next: the number of its class, its start and its end, the length of its meaning, and the position from which it was
+// looked for: it stands apart where it starts after that. The other places are the walk's own.
 pub const CLASS: usize = 0;
 
 pub const START: usize = 1;
 
 pub const END: usize = 2;
+
+pub const LENGTH: usize = 3;
+
+pub const FROM: usize = 4;
 
 // The numbers of the end of the text, and of a fault: its place is at START and its number at END.
 pub const ENDED: usize = 19;
@@ -90,25 +95,32 @@ fn class_number(class: Class) -> usize
 }
 
 // Put what stands ahead into its places.
-pub fn put(cursor: &mut [usize; 5], number: usize, start: usize, end: usize)
-    ensures { λ _. ⌜ now (cursor .exit) ≡ placed number start end (now (cursor .entry)) ⌝ }
+pub fn put(cursor: &mut [usize; 7], number: usize, start: usize, end: usize, length: usize)
+    ensures { λ _. ⌜ now (cursor .exit) ≡ placed number start end length (now (cursor .entry)) ⌝ }
 {
     cursor[CLASS] = number;
     cursor[START] = start;
     cursor[END] = end;
+    cursor[LENGTH] = length;
 }
 
 // Move on to the first symbol at or after a position, whatever stands there.
-fn step_any(classes: &[u8; 256], text: &[u8], at: usize, cursor: &mut [usize; 5])
+fn step_any(classes: &[u8; 256], text: &[u8], at: usize, cursor: &mut [usize; 7])
     ensures { λ _. ⌜ now (cursor .exit) ≡ moved (nextOf (scanBy (now (classes .entry)) (now (text .entry)) at)) (now (cursor .entry)) ⌝ }
 {
     match next_by(classes, text, at) {
         Next::Found(symbol) => {
             let class = symbol.class;
-            put(cursor, class_number(class), symbol.start, symbol.end)
+            put(
+                cursor,
+                class_number(class),
+                symbol.start,
+                symbol.end,
+                symbol.length,
+            )
         }
-        Next::Ended => put(cursor, ENDED, 0, 0),
-        Next::Fault(number, place) => put(cursor, FAULT, place, number as usize),
+        Next::Ended => put(cursor, ENDED, 0, 0, 0),
+        Next::Fault(number, place) => put(cursor, FAULT, place, number as usize, 0),
     }
 }
 
@@ -141,8 +153,8 @@ fn quote_at(classes: &[u8; 256], text: &[u8], at: usize) -> bool
     class_in(classes, text[at]) == QUOTE
 }
 
-// Move on to the quoted-string whose opening quote stands at a position, fast where its data stand for themselves.
-fn step_quoted(classes: &[u8; 256], text: &[u8], at: usize, cursor: &mut [usize; 5])
+// Move on to the quoted-string whose opening quote stands at p, with white space alone from at on, fast where its data stand for themselves.
+fn step_quoted(classes: &[u8; 256], text: &[u8], at: usize, cursor: &mut [usize; 7])
     requires { ⌜ (at < length (now text)) × (getD (now classes) (getD (now text) at 0) 0 ≡ quote) × ReturnIsControl (now classes) ⌝ }
     ensures { λ _. ⌜ now (cursor .exit) ≡ moved (nextOf (scanBy (now (classes .entry)) (now (text .entry)) at)) (now (cursor .entry)) ⌝ }
 {
@@ -151,14 +163,15 @@ fn step_quoted(classes: &[u8; 256], text: &[u8], at: usize, cursor: &mut [usize;
         step_any(classes, text, at, cursor);
         return;
     }
-    put(cursor, QUOTE as usize, at, end + 1);
+    put(cursor, QUOTE as usize, at, end + 1, end - at - 1);
 }
 
 // Move on to the symbol that comes after the one ahead: white space, atoms and marks are told by few comparisons of classes.
-pub fn step(classes: &[u8; 256], text: &[u8], cursor: &mut [usize; 5])
-    ensures { λ _. ⌜ now (cursor .exit) ≡ moved (nextOf (scanBy (now (classes .entry)) (now (text .entry)) (getD (now (cursor .entry)) 2 0))) (now (cursor .entry)) ⌝ }
+pub fn step(classes: &[u8; 256], text: &[u8], cursor: &mut [usize; 7])
+    ensures { λ _. ⌜ now (cursor .exit) ≡ moved (nextOf (scanBy (now (classes .entry)) (now (text .entry)) (getD (now (cursor .entry)) 2 0))) (behindSymbol (now (cursor .entry))) ⌝ }
 {
     let mut p = cursor[END];
+    cursor[FROM] = p;
     if class_in(classes, b'\r') != CONTROL {
         step_any(classes, text, p, cursor);
         return;
@@ -167,11 +180,12 @@ pub fn step(classes: &[u8; 256], text: &[u8], cursor: &mut [usize; 5])
         let class = class_in(classes, text[p]);
         if LETTER <= class {
             let end = plain_end(classes, text, p + 1);
-            put(cursor, class_number(atom_class(text, p, end)), p, end);
+            let number = class_number(atom_class(text, p, end));
+            put(cursor, number, p, end, end - p);
             return;
         }
         if CLOSE_BRACKET < class {
-            put(cursor, class as usize, p, p + 1);
+            put(cursor, class as usize, p, p + 1, 1);
             return;
         }
         if class == QUOTE {
@@ -184,5 +198,5 @@ pub fn step(classes: &[u8; 256], text: &[u8], cursor: &mut [usize; 5])
         }
         p += 1;
     }
-    put(cursor, ENDED, 0, 0);
+    put(cursor, ENDED, 0, 0, 0);
 }

@@ -12,7 +12,7 @@ ghost use Rattle.octets.specs.Believed.Answers.{told};
 ghost use Rattle.octets.specs.declared.answers.Answer.the-variants.{Accepted, Refused};
 ghost use Rattle.scanner.specs.Believed.Answers.{bodyChecked, nextOf, nextTold, nextInBody, faultOf, scannedBy, bodyScanned};
 ghost use Rattle.scanner.specs.Believed.Categories.{ofSymbol, between, categoryOf, categoryAt};
-ghost use Rattle.scanner.specs.Ties.Steps.{StepIs, AtomEnds, ReturnIsControl, plainAt, PlainEnds, CommentIs, Faultless, FaultsFrom};
+ghost use Rattle.scanner.specs.Ties.Steps.{FirstIs, StepIs, AtomEnds, ReturnIsControl, plainAt, PlainEnds, CommentIs, Faultless, FaultsFrom};
 ghost use Rattle.scanner.specs.Ties.Meanings.{takenDatum, datumAt};
 ghost use Rattle.scanner.specs.Ties.Gaps.{gapDepth, GapCategoryIs, PassedIs, PassedLow};
 ghost use Rattle.scanner.specs.declared.Gap.the-variants.{Comment as commentGap};
@@ -47,11 +47,14 @@ pub enum Class {
     Literal,
 }
 
-// A symbol: its class and its place, from its first byte to the position after its last.
+// A symbol: its class; its place, from its first byte to the position after its last; the length of its meaning in bytes; and
+// whether it stands apart: white space or a comment stands right before it.
 pub struct Symbol {
     pub class: Class,
     pub start: usize,
     pub end: usize,
+    pub length: usize,
+    pub apart: bool,
 }
 
 // The next symbol, the end of the text, or a fault: its number and its place.
@@ -282,12 +285,13 @@ fn atom_class(text: &[u8], start: usize, end: usize) -> Class
     }
 }
 
-// The rest of a quoted-string whose opening quote stands at start.
-fn quoted_end(classes: &[u8; 256], text: &[u8], start: usize, at: usize) -> Next
+// The rest of a quoted-string whose opening quote stands at start. The length of its data is counted on the way.
+fn quoted_end(classes: &[u8; 256], text: &[u8], start: usize, at: usize, apart: bool) -> Next
     requires { ⌜ at ≤ length (now text) ⌝ }
-    ensures { λ r. ⌜ r ≡ nextOf (scanFrom (now (classes .entry)) (charactersAt (now (text .entry)) at) (inQuoted start [])) ⌝ }
+    ensures { λ r. ⌜ FirstIs apart start (scanFrom (now (classes .entry)) (charactersAt (now (text .entry)) at) (inQuoted start [])) r ⌝ }
 {
     let mut p = at;
+    let mut length: usize = 0;
     loop {
         let Step::Byte(kind, here, q) = character(classes, text, p) else {
             return Next::Fault(QUOTED_NOT_CLOSED, start);
@@ -297,6 +301,8 @@ fn quoted_end(classes: &[u8; 256], text: &[u8], start: usize, at: usize) -> Next
                 class: Class::Quoted,
                 start,
                 end: q,
+                length,
+                apart,
             }),
             ByteKind::Return => return Next::Fault(STRAY_CONTROL, here),
             ByteKind::Above => return Next::Fault(BYTE_ABOVE_127, here),
@@ -307,9 +313,13 @@ fn quoted_end(classes: &[u8; 256], text: &[u8], start: usize, at: usize) -> Next
                 if let ByteKind::Above = taken {
                     return Next::Fault(BYTE_ABOVE_127, place);
                 }
+                length += behind - q;
                 p = behind;
             }
-            _ => p = q,
+            _ => {
+                length += 1;
+                p = q;
+            }
         }
     }
 }
@@ -341,10 +351,10 @@ pub fn next_datum(classes: &[u8; 256], text: &[u8], at: usize) -> Datum
     }
 }
 
-// The rest of a domain literal whose "[" stands at start.
-fn literal_end(classes: &[u8; 256], text: &[u8], start: usize, at: usize) -> Next
+// The rest of a domain literal whose "[" stands at start. It has no meaning.
+fn literal_end(classes: &[u8; 256], text: &[u8], start: usize, at: usize, apart: bool) -> Next
     requires { ⌜ at ≤ length (now text) ⌝ }
-    ensures { λ r. ⌜ r ≡ nextOf (scanFrom (now (classes .entry)) (charactersAt (now (text .entry)) at) (inLiteral start)) ⌝ }
+    ensures { λ r. ⌜ FirstIs apart start (scanFrom (now (classes .entry)) (charactersAt (now (text .entry)) at) (inLiteral start)) r ⌝ }
 {
     let mut p = at;
     loop {
@@ -356,6 +366,8 @@ fn literal_end(classes: &[u8; 256], text: &[u8], start: usize, at: usize) -> Nex
                 class: Class::Literal,
                 start,
                 end: q,
+                length: 0,
+                apart,
             }),
             ByteKind::Return => return Next::Fault(STRAY_CONTROL, here),
             ByteKind::Above => return Next::Fault(BYTE_ABOVE_127, here),
@@ -418,40 +430,54 @@ pub fn next_by(classes: &[u8; 256], text: &[u8], at: usize) -> Next
     ensures { λ r. ⌜ r ≡ nextOf (scanBy (now (classes .entry)) (now (text .entry)) at) ⌝ }
 {
     let mut p = at;
+    let mut apart = false;
     loop {
         let Step::Byte(kind, here, q) = character(classes, text, p) else {
             return Next::Ended;
         };
         match kind {
-            ByteKind::White => p = q,
+            ByteKind::White => {
+                p = q;
+                apart = true;
+            }
             ByteKind::Open => match comment_end(classes, text, here, q) {
-                Comment::Past(behind) => p = behind,
+                Comment::Past(behind) => {
+                    p = behind;
+                    apart = true;
+                }
                 Comment::Open(number, place) => return Next::Fault(number, place),
             },
-            ByteKind::Quote => return quoted_end(classes, text, here, q),
+            ByteKind::Quote => return quoted_end(classes, text, here, q, apart),
             ByteKind::Plain => {
                 let end = atom_end(classes, text, here, q);
                 let class = atom_class(text, here, end);
+                let length = end - here;
                 return Next::Found(Symbol {
                     class,
                     start: here,
                     end,
+                    length,
+                    apart,
                 });
             }
             ByteKind::Mark(class) => return Next::Found(Symbol {
                 class,
                 start: here,
                 end: q,
+                length: 1,
+                apart,
             }),
             ByteKind::Close | ByteKind::Backslash | ByteKind::CloseBracket =>
                 return Next::Found(Symbol {
                     class: Class::Stray,
                     start: here,
                     end: q,
+                    length: 1,
+                    apart,
                 }),
             ByteKind::Control | ByteKind::Return => return Next::Fault(STRAY_CONTROL, here),
             ByteKind::Above => return Next::Fault(BYTE_ABOVE_127, here),
-            ByteKind::OpenBracket => return literal_end(classes, text, here, q),
+            ByteKind::OpenBracket => return literal_end(classes, text, here, q, apart),
         }
     }
 }

@@ -7,6 +7,7 @@ use native.Mathlib.Omega.{arith}
 use borrow.Author.Tests.{eq-eqb, ne-eqb, le-leb, lt-leb}
 use lib.Dec.{eqb}
 use lib.Seq.{take-all}
+use Rattle.octets.specs.Believed.Choice.{pick}
 use Rattle.octets.specs.Believed.Answers.{numberOf, positionOf}
 use Rattle.octets.specs.Believed.Text.{bytes}
 use Rattle.octets.specs.declared.answers.Answer.{Answer}
@@ -170,7 +171,7 @@ module _ (left : ℕ) (message : List ℕ) (at end : ℕ) (rest : List ℕ) wher
   unfolding symbols
   symbols-next h = by-step left (left - 1) message at end rest (omega arith)
 
-  pub symbols-found : 0 < left → {symbol : Symbol} → nextInBody message at end ≡ Found symbol → symbols left message at end rest ≡ line (markOf (symbol .class)) (symbol .start ∷ symbol .end ∷ []) (symbols (left - 1) message (symbol .end) end rest)
+  pub symbols-found : 0 < left → {symbol : Symbol} → nextInBody message at end ≡ Found symbol → symbols left message at end rest ≡ line (markOf (symbol .class)) (symbol .start ∷ symbol .end ∷ symbol .length ∷ pick (symbol .apart) 1 0 ∷ []) (symbols (left - 1) message (symbol .end) end rest)
   symbols-found h e = symbols-next h ∙ ap (λ (x : Next). symbolThen x (λ p. symbols (left - 1) message p end rest) rest) e
 
   pub symbols-ended : 0 < left → nextInBody message at end ≡ Ended → symbols left message at end rest ≡ rest

@@ -586,8 +586,13 @@ fn put_symbols(message: &[u8], start: usize, end: usize, out: &mut [u8], n: usiz
         match next_symbol(message, p, end) {
             Next::Found(symbol) => {
                 let class = symbol.class;
-                let place = [symbol.start as u64, symbol.end as u64];
-                m = put_line(mark(class), &place, out, m);
+                let told = [
+                    symbol.start as u64,
+                    symbol.end as u64,
+                    symbol.length as u64,
+                    symbol.apart as u64,
+                ];
+                m = put_line(mark(class), &told, out, m);
                 p = symbol.end;
             }
             Next::Ended => return m,

@@ -5,7 +5,7 @@ use mathlib.Core.Bool.{true, false, true≢false}
 use mathlib.Core.List.{List, [], _∷_}
 use native.Mathlib.Omega.{arith}
 use Prim.Native.Nat.{_+_, _*_, _-_}
-use lib.ListN.{length, getD}
+use lib.ListN.{length, set, getD}
 use Rattle.scanner.specs.declared.cursor.Ahead.the-variants.{Symbol}
 use Rattle.grammar.proofs.Rfc733.Readers.{endsAddress, endsList}
 use Rattle.addresses.specs.Ties.Steps.{isWord, quotedAhead, endsAhead, enclosureOf, Entered}
@@ -214,14 +214,17 @@ read-colon-element-copy-out-start t c = search needs
 read-colon-element-copy-out-end : (t : ℕ) → read-colon-lts.Need-element-copy-out-end (read-colon-calls t) (read-colon-at t) read-colon.Post
 read-colon-element-copy-out-end t c = search needs
 
+read-colon-element-copy-out-from : (t : ℕ) → read-colon-lts.Need-element-copy-out-from (read-colon-calls t) (read-colon-at t) read-colon.Post
+read-colon-element-copy-out-from t c = search needs
+
 read-colon-typed-atom-requires : (t : ℕ) → read-colon-lts.Need-typed-atom-requires (read-colon-calls t) (read-colon-at t) read-colon.Post
-read-colon-typed-atom-requires t c κs = c .before .before .before .before .before .pre .1 .sized
+read-colon-typed-atom-requires t c κs = c .before .before .before .before .before .before .pre .1 .sized
 
 read-colon-enum-known-first : (t : ℕ) → read-colon-lts.Need-enum-known-first (read-colon-calls t) (read-colon-at t) read-colon.Post
 read-colon-enum-known-first t c = search needs
 
 read-colon-read-typed-requires : (t : ℕ) → read-colon-lts.Need-read-typed-requires (read-colon-calls t) (read-colon-at t) read-colon.Post
-read-colon-read-typed-requires t c κs = let w = typed-on (c .before .before .before .before .before .before .before .before .before .before .before .args .classes .now) (c .before .before .before .before .before .before .before .before .before .before .before .args .text .now) (c .before .before .before .before .before .before .before .before .before .before .before .args .cursor .now) (c .before .before .before .before .before .typed-atom .last .1 .1 .0) (c .before .before .before .first .given .1) (c .before .before .before .before .before .typed-atom .ensures) in (omega (arith, c .before .before .before .before .before .before .before .before .before .before .before .pre .0, w .follows .from, w .follows .atom-starts, w .follows .end-before, w .follows .within), typed-ahead (c .before .before .before .before .before .before .before .before .before .before .before .args .classes .now) (c .before .before .before .before .before .before .before .before .before .before .before .args .text .now) (c .before .before .before .before .before .before .before .before .before .before .before .args .cursor .now) (c .before .before .before .before .before .typed-atom .last .1 .1 .0) (c .before .before .before .before .before .before .before .before .before .before .before .pre .1) w)
+read-colon-read-typed-requires t c κs = let w = typed-on (c .before .before .before .before .before .before .before .before .before .before .before .before .args .classes .now) (c .before .before .before .before .before .before .before .before .before .before .before .before .args .text .now) (c .before .before .before .before .before .before .before .before .before .before .before .before .args .cursor .now) (c .before .before .before .before .before .typed-atom .last .1 .1 .0) (c .before .before .before .first .given .1) (c .before .before .before .before .before .typed-atom .ensures) in (omega (arith, c .before .before .before .before .before .before .before .before .before .before .before .before .pre .0, w .follows .from, w .follows .atom-starts, w .follows .end-before, w .follows .within), typed-ahead (c .before .before .before .before .before .before .before .before .before .before .before .before .args .classes .now) (c .before .before .before .before .before .before .before .before .before .before .before .before .args .text .now) (c .before .before .before .before .before .before .before .before .before .before .before .before .args .cursor .now) (c .before .before .before .before .before .typed-atom .last .1 .1 .0) (c .before .before .before .before .before .before .before .before .before .before .before .before .pre .1) w)
 
 read-colon-enum-told : (t : ℕ) → read-colon-lts.Need-enum-told (read-colon-calls t) (read-colon-at t) read-colon.Post
 read-colon-enum-told t c = search needs
@@ -232,20 +235,23 @@ read-colon-cast-put t c = search needs
 read-colon-put-requires : (t : ℕ) → read-colon-lts.Need-put-requires (read-colon-calls t) (read-colon-at t) read-colon.Post
 read-colon-put-requires t c κs = search needs
 
+read-colon-element-write-cursor : (t : ℕ) → read-colon-lts.Need-element-write-cursor (read-colon-calls t) (read-colon-at t) read-colon.Post
+read-colon-element-write-cursor t c = search needs
+
 read-colon-read-enclosed-requires : (t : ℕ) → read-colon-lts.Need-read-enclosed-requires (read-colon-calls t) (read-colon-at t) read-colon.Post
-read-colon-read-enclosed-requires t c κs = (omega (arith, c .before .before .before .before .before .before .before .before .before .before .before .before .pre .0, nameless-end-at (c .before .before .before .before .before .before .before .before .before .before .before .before .args .classes .now) (c .before .before .before .before .before .before .before .before .before .before .before .before .args .text .now) (c .before .before .before .before .before .before .before .before .before .before .before .before .args .cursor .now) (c .before .before .before .before .before .before .typed-atom .last .1 .1 .0) (c .before .before .before .before .before .before .before .before .before .before .before .before .pre .1) (nameless-on (c .before .before .before .before .before .before .before .before .before .before .before .before .args .classes .now) (c .before .before .before .before .before .before .before .before .before .before .before .before .args .text .now) (c .before .before .before .before .before .before .before .before .before .before .before .before .args .cursor .now) (c .before .before .before .before .before .before .typed-atom .last .1 .1 .0) (c .before .before .before .before .enum-told .given .1) (c .before .before .before .before .before .before .typed-atom .ensures)) (c .before .before .put .last .0) (c .before .before .put .ensures)), nameless-ahead-at (c .before .before .before .before .before .before .before .before .before .before .before .before .args .classes .now) (c .before .before .before .before .before .before .before .before .before .before .before .before .args .text .now) (c .before .before .before .before .before .before .before .before .before .before .before .before .args .cursor .now) (c .before .before .before .before .before .before .typed-atom .last .1 .1 .0) (c .before .before .before .before .before .before .before .before .before .before .before .before .pre .1) (nameless-on (c .before .before .before .before .before .before .before .before .before .before .before .before .args .classes .now) (c .before .before .before .before .before .before .before .before .before .before .before .before .args .text .now) (c .before .before .before .before .before .before .before .before .before .before .before .before .args .cursor .now) (c .before .before .before .before .before .before .typed-atom .last .1 .1 .0) (c .before .before .before .before .enum-told .given .1) (c .before .before .before .before .before .before .typed-atom .ensures)) (c .before .before .put .last .0) (c .before .before .put .ensures))
+read-colon-read-enclosed-requires t c κs = (omega (arith, c .before .before .before .before .before .before .before .before .before .before .before .before .before .pre .0, nameless-end-at (c .before .before .before .before .before .before .before .before .before .before .before .before .before .args .classes .now) (c .before .before .before .before .before .before .before .before .before .before .before .before .before .args .text .now) (c .before .before .before .before .before .before .before .before .before .before .before .before .before .args .cursor .now) (c .before .before .before .before .before .before .typed-atom .last .1 .1 .0) (c .before .before .before .before .before .before .before .before .before .before .before .before .before .pre .1) (nameless-on (c .before .before .before .before .before .before .before .before .before .before .before .before .before .args .classes .now) (c .before .before .before .before .before .before .before .before .before .before .before .before .before .args .text .now) (c .before .before .before .before .before .before .before .before .before .before .before .before .before .args .cursor .now) (c .before .before .before .before .before .before .typed-atom .last .1 .1 .0) (c .before .before .before .before .enum-told .given .1) (c .before .before .before .before .before .before .typed-atom .ensures)) (set (c .before .before .put .last .0) 4 (getD (c .before .before .before .before .before .before .before .before .before .before .before .before .before .args .cursor .now) 4 0)) (ap (λ (x : List ℕ). set x 4 (getD (c .before .before .before .before .before .before .before .before .before .before .before .before .before .args .cursor .now) 4 0)) (c .before .before .put .ensures))), nameless-ahead-at (c .before .before .before .before .before .before .before .before .before .before .before .before .before .args .classes .now) (c .before .before .before .before .before .before .before .before .before .before .before .before .before .args .text .now) (c .before .before .before .before .before .before .before .before .before .before .before .before .before .args .cursor .now) (c .before .before .before .before .before .before .typed-atom .last .1 .1 .0) (c .before .before .before .before .before .before .before .before .before .before .before .before .before .pre .1) (nameless-on (c .before .before .before .before .before .before .before .before .before .before .before .before .before .args .classes .now) (c .before .before .before .before .before .before .before .before .before .before .before .before .before .args .text .now) (c .before .before .before .before .before .before .before .before .before .before .before .before .before .args .cursor .now) (c .before .before .before .before .before .before .typed-atom .last .1 .1 .0) (c .before .before .before .before .enum-told .given .1) (c .before .before .before .before .before .before .typed-atom .ensures)) (set (c .before .before .put .last .0) 4 (getD (c .before .before .before .before .before .before .before .before .before .before .before .before .before .args .cursor .now) 4 0)) (ap (λ (x : List ℕ). set x 4 (getD (c .before .before .before .before .before .before .before .before .before .before .before .before .before .args .cursor .now) 4 0)) (c .before .before .put .ensures)))
 
 read-colon-same-length : (t : ℕ) → read-colon-lts.Need-same-length (read-colon-calls t) (read-colon-at t) read-colon.Post
 read-colon-same-length t c = search needs
 
 read-colon-returns : (t : ℕ) → read-colon-lts.Need-returns (read-colon-calls t) (read-colon-at t) read-colon.Post
-read-colon-returns t c = from-typed (c .before .before .before .before .before .before .before .before .before .before .before .before .before .before .args .classes .now) (c .before .before .before .before .before .before .before .before .before .before .before .before .before .before .args .text .now) (c .before .before .before .before .before .before .before .before .before .before .before .before .before .before .args .cursor .now) (c .before .before .before .before .before .before .before .before .typed-atom .last .1 .1 .0) (c .before .before .before .before .before .before .before .before .before .before .before .before .before .before .pre .1) (typed-on (c .before .before .before .before .before .before .before .before .before .before .before .before .before .before .args .classes .now) (c .before .before .before .before .before .before .before .before .before .before .before .before .before .before .args .text .now) (c .before .before .before .before .before .before .before .before .before .before .before .before .before .before .args .cursor .now) (c .before .before .before .before .before .before .before .before .typed-atom .last .1 .1 .0) (c .before .before .before .before .before .before .first .given .1) (c .before .before .before .before .before .before .before .before .typed-atom .ensures)) (c .before .before .before .before .before .before .before .before .before .before .before .before .before .before .args .table .now) (c .before .before .read-typed .last .1 .1 .0) (c .before .before .read-typed .result) (c .before .before .read-typed .last .1 .1 .1 .0) (c .before .before .read-typed .ensures)
+read-colon-returns t c = from-typed (c .before .before .before .before .before .before .before .before .before .before .before .before .before .before .before .args .classes .now) (c .before .before .before .before .before .before .before .before .before .before .before .before .before .before .before .args .text .now) (c .before .before .before .before .before .before .before .before .before .before .before .before .before .before .before .args .cursor .now) (c .before .before .before .before .before .before .before .before .typed-atom .last .1 .1 .0) (c .before .before .before .before .before .before .before .before .before .before .before .before .before .before .before .pre .1) (typed-on (c .before .before .before .before .before .before .before .before .before .before .before .before .before .before .before .args .classes .now) (c .before .before .before .before .before .before .before .before .before .before .before .before .before .before .before .args .text .now) (c .before .before .before .before .before .before .before .before .before .before .before .before .before .before .before .args .cursor .now) (c .before .before .before .before .before .before .before .before .typed-atom .last .1 .1 .0) (c .before .before .before .before .before .before .first .given .1) (c .before .before .before .before .before .before .before .before .typed-atom .ensures)) (c .before .before .before .before .before .before .before .before .before .before .before .before .before .before .before .args .table .now) (c .before .before .read-typed .last .1 .1 .0) (c .before .before .read-typed .result) (c .before .before .read-typed .last .1 .1 .1 .0) (c .before .before .read-typed .ensures)
 
 read-colon-same-length-2 : (t : ℕ) → read-colon-lts.Need-same-length-2 (read-colon-calls t) (read-colon-at t) read-colon.Post
 read-colon-same-length-2 t c = search needs
 
 read-colon-returns-2 : (t : ℕ) → read-colon-lts.Need-returns-2 (read-colon-calls t) (read-colon-at t) read-colon.Post
-read-colon-returns-2 t c = from-nameless-at (c .before .before .before .before .before .before .before .before .before .before .before .before .before .before .before .args .classes .now) (c .before .before .before .before .before .before .before .before .before .before .before .before .before .before .before .args .text .now) (c .before .before .before .before .before .before .before .before .before .before .before .before .before .before .before .args .cursor .now) (c .before .before .before .before .before .before .before .before .before .typed-atom .last .1 .1 .0) (c .before .before .before .before .before .before .before .before .before .before .before .before .before .before .before .pre .1) (nameless-on (c .before .before .before .before .before .before .before .before .before .before .before .before .before .before .before .args .classes .now) (c .before .before .before .before .before .before .before .before .before .before .before .before .before .before .before .args .text .now) (c .before .before .before .before .before .before .before .before .before .before .before .before .before .before .before .args .cursor .now) (c .before .before .before .before .before .before .before .before .before .typed-atom .last .1 .1 .0) (c .before .before .before .before .before .before .before .enum-told .given .1) (c .before .before .before .before .before .before .before .before .before .typed-atom .ensures)) (c .before .before .before .before .before .put .last .0) (c .before .before .before .before .before .put .ensures) (c .before .before .before .before .before .before .before .before .before .before .before .before .before .before .before .args .table .now) (c .before .before .read-enclosed .last .1 .1 .0) (c .before .before .read-enclosed .result) (c .before .before .read-enclosed .last .1 .1 .1 .0) (c .before .before .read-enclosed .ensures)
+read-colon-returns-2 t c = from-nameless-at (c .before .before .before .before .before .before .before .before .before .before .before .before .before .before .before .before .args .classes .now) (c .before .before .before .before .before .before .before .before .before .before .before .before .before .before .before .before .args .text .now) (c .before .before .before .before .before .before .before .before .before .before .before .before .before .before .before .before .args .cursor .now) (c .before .before .before .before .before .before .before .before .before .typed-atom .last .1 .1 .0) (c .before .before .before .before .before .before .before .before .before .before .before .before .before .before .before .before .pre .1) (nameless-on (c .before .before .before .before .before .before .before .before .before .before .before .before .before .before .before .before .args .classes .now) (c .before .before .before .before .before .before .before .before .before .before .before .before .before .before .before .before .args .text .now) (c .before .before .before .before .before .before .before .before .before .before .before .before .before .before .before .before .args .cursor .now) (c .before .before .before .before .before .before .before .before .before .typed-atom .last .1 .1 .0) (c .before .before .before .before .before .before .before .enum-told .given .1) (c .before .before .before .before .before .before .before .before .before .typed-atom .ensures)) (set (c .before .before .before .before .before .put .last .0) 4 (getD (c .before .before .before .before .before .before .before .before .before .before .before .before .before .before .before .before .args .cursor .now) 4 0)) (ap (λ (x : List ℕ). set x 4 (getD (c .before .before .before .before .before .before .before .before .before .before .before .before .before .before .before .before .args .cursor .now) 4 0)) (c .before .before .before .before .before .put .ensures)) (c .before .before .before .before .before .before .before .before .before .before .before .before .before .before .before .before .args .table .now) (c .before .before .read-enclosed .last .1 .1 .0) (c .before .before .read-enclosed .result) (c .before .before .read-enclosed .last .1 .1 .1 .0) (c .before .before .read-enclosed .ensures)
 
 read-enclosed-element-copy-out-ahead-of :
     (t : ℕ) → read-enclosed-lts.Need-element-copy-out-ahead-of (read-enclosed-calls t) (read-enclosed-at t) read-enclosed.Post
@@ -418,7 +424,7 @@ read-named-same-length-3 : (t : ℕ) → read-named-lts.Need-same-length-3 (read
 read-named-same-length-3 t c = search needs
 
 read-named-returns-3 : (t : ℕ) → read-named-lts.Need-returns-3 (read-named-calls t) (read-named-at t) read-named.Post
-read-named-returns-3 t c = from-enclosed (c .before .before .before .before .before .before .before .before .before .before .before .before .before .before .before .before .before .before .before .before .args .classes .now) (c .before .before .before .before .before .before .before .before .before .before .before .before .before .before .before .before .before .before .before .before .args .text .now) (c .before .before .before .before .before .before .before .before .before .before .before .before .before .before .before .before .before .before .before .before .args .cursor .now) (c .before .before .before .before .before .before .before .before .before .before .before .before .read-words .last .1 .1 .0) (c .before .before .before .before .before .before .before .before .before .before .before .before .before .before .before .before .before .before .before .before .pre .1) (c .before .before .before .before .before .before .before .before .before .before .before .before .before .before .is-quoted .ensures ∙ ap quotedAhead (c .before .before .before .before .before .before .before .before .before .before .before .before .before .before .before .ahead-of .ensures ∙ c .before .before .before .before .before .before .before .before .before .before .before .before .before .before .before .before .before .before .before .before .pre .1 .ahead-is)) (c .before .before .before .before .before .before .before .before .before .before .before .before .read-words .ensures) (enclosureOf (Symbol (c .before .before .before .before .before .before .before .mark .given .0 .0))) ((sym (c .before .before .before .before .before .before .before .before .before .ahead-of2 .ensures) ∙ c .before .before .before .before .before .before .before .mark .given .1) ∙ opens (c .before .before .before .before .before .before .before .before .before .before .before .before .before .before .before .before .before .before .before .before .args .classes .now) (c .before .before .before .before .before .before .before .before .before .before .before .before .before .before .before .before .before .before .before .before .args .text .now) (c .before .before .before .before .before .before .before .mark .given .0 .0) (c .before .before .before .before .before .match2 .keys2)) (c .before .before .before .before .before .before .before .before .before .before .before .before .before .before .before .before .before .before .before .before .args .table .now) (c .before .before .read-enclosed .last .1 .1 .0) (c .before .before .read-enclosed .result) (c .before .before .read-enclosed .last .1 .1 .1 .0) (enclosed-as (c .before .before .before .before .before .before .before .before .before .before .before .before .before .before .before .before .before .before .before .before .args .classes .now) (c .before .before .before .before .before .before .before .before .before .before .before .before .before .before .before .before .before .before .before .before .args .text .now) (c .before .before .before .before .before .before .before .before .before .before .before .before .read-words .last .1 .1 .0) (c .before .before .before .before .before .before .before .before .before .before .before .before .before .before .before .before .before .before .before .before .args .levels) (c .before .before .before .before .before .before .before .before .before .before .before .before .before .before .before .before .before .before .before .before .args .parent) (record { start = getD (c .before .before .before .before .before .before .before .before .before .before .before .before .before .before .before .before .before .before .before .before .args .cursor .now) 1 0; end = getD (c .before .before .before .before .before .before .before .before .before .before .before .before .read-words .last .1 .1 .0) 4 0 }) (c .before .before .before .before .before .before .before .before .before .before .before .before .before .before .before .before .before .before .before .before .args .table .now) (c .before .before .read-enclosed .last .1 .1 .0) (c .before .before .read-enclosed .result) (c .before .before .read-enclosed .last .1 .1 .1 .0) (sym (c .before .before .before .before .before .before .before .before .before .ahead-of2 .ensures) ∙ c .before .before .before .before .before .before .before .mark .given .1) (c .before .before .read-enclosed .ensures))
+read-named-returns-3 t c = from-enclosed (c .before .before .before .before .before .before .before .before .before .before .before .before .before .before .before .before .before .before .before .before .args .classes .now) (c .before .before .before .before .before .before .before .before .before .before .before .before .before .before .before .before .before .before .before .before .args .text .now) (c .before .before .before .before .before .before .before .before .before .before .before .before .before .before .before .before .before .before .before .before .args .cursor .now) (c .before .before .before .before .before .before .before .before .before .before .before .before .read-words .last .1 .1 .0) (c .before .before .before .before .before .before .before .before .before .before .before .before .before .before .before .before .before .before .before .before .pre .1) (c .before .before .before .before .before .before .before .before .before .before .before .before .before .before .is-quoted .ensures ∙ ap quotedAhead (c .before .before .before .before .before .before .before .before .before .before .before .before .before .before .before .ahead-of .ensures ∙ c .before .before .before .before .before .before .before .before .before .before .before .before .before .before .before .before .before .before .before .before .pre .1 .ahead-is)) (c .before .before .before .before .before .before .before .before .before .before .before .before .read-words .ensures) (enclosureOf (Symbol (c .before .before .before .before .before .before .before .mark .given .0 .0))) ((sym (c .before .before .before .before .before .before .before .before .before .ahead-of2 .ensures) ∙ c .before .before .before .before .before .before .before .mark .given .1) ∙ opens (c .before .before .before .before .before .before .before .before .before .before .before .before .before .before .before .before .before .before .before .before .args .classes .now) (c .before .before .before .before .before .before .before .before .before .before .before .before .before .before .before .before .before .before .before .before .args .text .now) (c .before .before .before .before .before .before .before .mark .given .0 .0) (c .before .before .before .before .before .match2 .keys2)) (c .before .before .before .before .before .before .before .before .before .before .before .before .before .before .before .before .before .before .before .before .args .table .now) (c .before .before .read-enclosed .last .1 .1 .0) (c .before .before .read-enclosed .result) (c .before .before .read-enclosed .last .1 .1 .1 .0) (enclosed-as (c .before .before .before .before .before .before .before .before .before .before .before .before .before .before .before .before .before .before .before .before .args .classes .now) (c .before .before .before .before .before .before .before .before .before .before .before .before .before .before .before .before .before .before .before .before .args .text .now) (c .before .before .before .before .before .before .before .before .before .before .before .before .read-words .last .1 .1 .0) (c .before .before .before .before .before .before .before .before .before .before .before .before .before .before .before .before .before .before .before .before .args .levels) (c .before .before .before .before .before .before .before .before .before .before .before .before .before .before .before .before .before .before .before .before .args .parent) (record { start = getD (c .before .before .before .before .before .before .before .before .before .before .before .before .before .before .before .before .before .before .before .before .args .cursor .now) 1 0; end = getD (c .before .before .before .before .before .before .before .before .before .before .before .before .read-words .last .1 .1 .0) 6 0 }) (c .before .before .before .before .before .before .before .before .before .before .before .before .before .before .before .before .before .before .before .before .args .table .now) (c .before .before .read-enclosed .last .1 .1 .0) (c .before .before .read-enclosed .result) (c .before .before .read-enclosed .last .1 .1 .1 .0) (sym (c .before .before .before .before .before .before .before .before .before .ahead-of2 .ensures) ∙ c .before .before .before .before .before .before .before .mark .given .1) (c .before .before .read-enclosed .ensures))
 
 read-named-same-length-4 : (t : ℕ) → read-named-lts.Need-same-length-4 (read-named-calls t) (read-named-at t) read-named.Post
 read-named-same-length-4 t c = search needs
@@ -535,12 +541,14 @@ pub +read-address+read-colon+read-enclosed+read-list+read-named+read-typed-spec 
     read-colon.Post
     (read-colon-element-copy-out-start t)
     (read-colon-element-copy-out-end t)
+    (read-colon-element-copy-out-from t)
     (read-colon-typed-atom-requires t)
     (read-colon-enum-known-first t)
     (read-colon-read-typed-requires t)
     (read-colon-enum-told t)
     (read-colon-cast-put t)
     (read-colon-put-requires t)
+    (read-colon-element-write-cursor t)
     (read-colon-read-enclosed-requires t)
     (read-colon-same-length t)
     (read-colon-returns t)

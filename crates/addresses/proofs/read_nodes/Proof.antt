@@ -5,7 +5,7 @@ use mathlib.Core.Bool.{true, false, true≢false}
 use native.Mathlib.Omega.{arith}
 use Prim.Native.Nat.{_-_}
 use lib.ListN.{length, getD}
-use Rattle.scanner.specs.Ties.Cursors.{cursorSize, nextIn}
+use Rattle.scanner.specs.Ties.Cursors.{cursorSize, nextIn, apartIn}
 use Rattle.scanner.specs.declared.cursor.Ahead.the-variants.{Symbol}
 use Rattle.addresses.specs.Ties.Steps.{wordAhead, endsAhead, freeIn}
 use Rattle.addresses.proofs.ClassCases.{no-symbol-ahead, not-follows}
@@ -17,7 +17,7 @@ use Rattle.addresses.proofs.read_nodes.Tie as tie
 
 abbrev Inv-loop : tie.InvT-loop
 Inv-loop classes text cursor₀ cursor =
-    NodesSoFar classes text (getD cursor₀ 1 0) (getD cursor₀ 2 0) (getD cursor 2 0) × (freeIn cursor ≡ freeIn cursor₀) × (length cursor ≡ cursorSize)
+    NodesSoFar classes text (getD cursor₀ 1 0) (getD cursor₀ 2 0) (apartIn cursor₀) (getD cursor 2 0) × (freeIn cursor ≡ freeIn cursor₀) × (length cursor ≡ cursorSize)
 
 abbrev μ-loop : tie.MeasureT-loop
 μ-loop classes text cursor₀ cursor = length text - getD cursor 2 0

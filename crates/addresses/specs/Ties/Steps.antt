@@ -18,7 +18,7 @@ use Rattle.scanner.specs.declared.Next.the-variants.{Found, Ended, Fault}
 use Rattle.scanner.specs.declared.cursor.Ahead.{Ahead}
 use Rattle.scanner.specs.declared.cursor.Ahead.the-variants.{Symbol, End, Faulty}
 use Rattle.scanner.specs.Ties.Meanings.{meaningAt}
-use Rattle.scanner.specs.Ties.Cursors.{cursorSize, aheadOf, nextIn}
+use Rattle.scanner.specs.Ties.Cursors.{cursorSize, aheadOf, apartIn, nextIn}
 use Rattle.grammar.specs.Believed.Language.{Refusal, refused, number, startOf}
 use Rattle.grammar.specs.Believed.Rfc733.{sameClass}
 use Rattle.grammar.specs.Executable.Trees733.{Class, Atom, Quoted, At, LessThan, GreaterThan, Semicolon, Colon, Lexeme, Sym, of, oneOf, atomWord, quotedWord, Phrase, one, more, Nodes, empty, AddressList, idle, Address, angle, group}
@@ -54,10 +54,10 @@ pub data NodesRead : Type 0 where
 
 -- the walk's own places of a cursor
 abbrev pub freeIn : List ℕ → ℕ
-freeIn cursor = getD cursor 3 0
+freeIn cursor = getD cursor 5 0
 
 abbrev pub lastIn : List ℕ → ℕ
-lastIn cursor = getD cursor 4 0
+lastIn cursor = getD cursor 6 0
 
 -- what a cursor tells after reading, or after a refusal
 abbrev pub reading : Bool → List ℕ → Reading
@@ -164,15 +164,19 @@ module _ (classes text : List ℕ) where
   abbrev pub symbolsFrom : ℕ → List Sym
   symbolsFrom at = symbolsOf (scanBy classes text at)
 
-  abbrev pub lexemeAt : Class → ℕ → ℕ → Lexeme
-  lexemeAt class start end = record { start = start; end = end; meaning = meaningAt classes text class start end }
+  abbrev pub lexemeAt : Class → ℕ → ℕ → Bool → Lexeme
+  lexemeAt class start end apart = record { start = start; end = end; meaning = meaningAt classes text class start end; apart = apart }
 
-  abbrev pub symbolAt : Class → ℕ → ℕ → Sym
-  symbolAt class start end = of class (lexemeAt class start end)
+  abbrev pub symbolAt : Class → ℕ → ℕ → Bool → Sym
+  symbolAt class start end apart = of class (lexemeAt class start end apart)
+
+  -- a symbol, and those after it
+  abbrev pub symbolsOn : Class → ℕ → ℕ → Bool → List Sym
+  symbolsOn class start end apart = symbolAt class start end apart ∷ symbolsFrom end
 
   -- the symbols from the next one on
   abbrev pub symbolsAhead : Next → List Sym
-  symbolsAhead (Found symbol) = symbolAt (symbol .class) (symbol .start) (symbol .end) ∷ symbolsFrom (symbol .end)
+  symbolsAhead (Found symbol) = symbolsOn (symbol .class) (symbol .start) (symbol .end) (symbol .apart)
   symbolsAhead Ended = []
   symbolsAhead (Fault number p) = []
 
@@ -232,11 +236,11 @@ module _ (classes text : List ℕ) where
     pub goes-on : GoesOn (faultFrom (getD before 2 0)) after
     pub free-kept : freeIn after ≡ freeIn before
 
-  -- ---- nodes, after the "at" that stands from start to at
+  -- ---- nodes, after the "at" that stands from start to at, apart or not
 
-  pub record NodesEnd (start at : ℕ) (ahead : Next) (last : ℕ) : Type 0 where
+  pub record NodesEnd (start at : ℕ) (apart : Bool) (ahead : Next) (last : ℕ) : Type 0 where
     pub nodes : Nodes
-    pub yields : symbolAt At start at ∷ symbolsFrom at ≡ nodesThen nodes (symbolsAhead ahead)
+    pub yields : symbolAt At start at apart ∷ symbolsFrom at ≡ nodesThen nodes (symbolsAhead ahead)
     pub end-is : nodesEnd nodes ≡ last
     pub ends : AddressEnds (symbolsAhead ahead)
     pub ahead-ok : Comes last ahead
@@ -256,10 +260,10 @@ module _ (classes text : List ℕ) where
     pub here : Here
     pub phrase : Phrase
 
-  abbrev pub NodesIs : ℕ → ℕ → NodesRead → Type 0
-  NodesIs start at (Behind ahead last) = NodesEnd start at ahead last
-  NodesIs start at (Stopped number-told place) =
-      Stops (λ (c : NodesContext) why rest. judge (run (c .limit) (firstAt (c .here) (c .phrase) (lexemeAt At start at)) (symbolsFrom at)) ≡ refused why rest) number-told place
+  abbrev pub NodesIs : ℕ → ℕ → Bool → NodesRead → Type 0
+  NodesIs start at apart (Behind ahead last) = NodesEnd start at apart ahead last
+  NodesIs start at apart (Stopped number-told place) =
+      Stops (λ (c : NodesContext) why rest. judge (run (c .limit) (firstAt (c .here) (c .phrase) (lexemeAt At start at apart)) (symbolsFrom at)) ≡ refused why rest) number-told place
 
   -- .. told by a cursor: the "at" stands ahead before
   pub record NodesOn (before after : List ℕ) : Type 0 where
@@ -271,13 +275,14 @@ module _ (classes text : List ℕ) where
   NodesKeep before false after = Unit {0}
 
   abbrev pub NodesAre : List ℕ → Bool → List ℕ → Type 0
-  NodesAre before r after = NodesIs (getD before 1 0) (getD before 2 0) (nodesRead r after) × NodesKeep before r after
+  NodesAre before r after = NodesIs (getD before 1 0) (getD before 2 0) (apartIn before) (nodesRead r after) × NodesKeep before r after
 
   -- ---- an atom and ":" after a ":"
 
   pub record TypedFollows (at start end behind : ℕ) : Type 0 where
     pub colon : Lexeme
-    pub yields : symbolsFrom at ≡ symbolAt Atom start end ∷ of Colon colon ∷ symbolsFrom behind
+    pub atom-apart : Bool
+    pub yields : symbolsFrom at ≡ symbolAt Atom start end atom-apart ∷ of Colon colon ∷ symbolsFrom behind
     pub from : at ≤ start
     pub atom-starts : start < end
     pub end-before : end < behind
@@ -338,9 +343,10 @@ module _ (classes text : List ℕ) where
   -- symbols begin with a name, or none, and the mark of an enclosed list, which stands from a to b
   pub record Opening (enclosure : Enclosure) (xs : List Sym) (a b : ℕ) (span : Span) : Type 0 where
     pub name : Option Phrase
-    pub yields : xs ≡ nameThen name (symbolAt (opening enclosure) a b ∷ symbolsFrom b)
-    pub start-is : span .start ≡ nameStart name (lexemeAt (opening enclosure) a b)
-    pub end-is : span .end ≡ nameEnd name (lexemeAt (opening enclosure) a b)
+    pub apart : Bool
+    pub yields : xs ≡ nameThen name (symbolAt (opening enclosure) a b apart ∷ symbolsFrom b)
+    pub start-is : span .start ≡ nameStart name (lexemeAt (opening enclosure) a b apart)
+    pub end-is : span .end ≡ nameEnd name (lexemeAt (opening enclosure) a b apart)
     pub house : House enclosure name (symbolsFrom b)
 
   -- a mark stands from a to b, after the start of its address
@@ -405,7 +411,7 @@ module _ (classes text : List ℕ) where
 
   abbrev pub MailboxIs : List ℕ → ℕ → ℕ → Span → List ℕ → List ℕ → Bool → List ℕ → Type 0
   MailboxIs before levels parent span table after r cursor =
-      ((xs : List Sym) (phrase : Phrase) → Named xs span phrase (foundAt At (getD before 1 0) (getD before 2 0)) → AddressIs xs (frameAt levels parent before) (span .start) table after (reading r cursor))
+      ((xs : List Sym) (phrase : Phrase) → Named xs span phrase (foundAt At (getD before 1 0) (getD before 2 0) (getD before 3 0) (apartIn before)) → AddressIs xs (frameAt levels parent before) (span .start) table after (reading r cursor))
       × Onward (faultFrom (getD before 2 0)) r cursor
 
   -- what follows a phrase, and is neither a word nor a mark of an address
@@ -475,6 +481,6 @@ module _ (classes text : List ℕ) where
 
   abbrev pub TypedIs : List ℕ → ℕ → ℕ → ℕ → Span → List ℕ → List ℕ → Bool → List ℕ → Type 0
   TypedIs before levels parent start atom table after r cursor =
-      ((end : ℕ) → TypedFirst start end atom (getD before 2 0) (frameAt levels parent before)
-      → AddressIs (symbolsAhead (foundAt Colon start end)) (frameAt levels parent before) start table after (reading r cursor))
+      ((end : ℕ) (apart : Bool) → TypedFirst start end atom (getD before 2 0) (frameAt levels parent before)
+      → AddressIs (symbolsOn Colon start end apart) (frameAt levels parent before) start table after (reading r cursor))
       × Onward (faultFrom (getD before 2 0)) r cursor

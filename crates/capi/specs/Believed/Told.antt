@@ -3,8 +3,13 @@ use Prim.Native.Nat.{ℕ}
 use mathlib.Core.List.{List, [], _∷_}
 use lib.Seq.{sets}
 use Rattle.octets.specs.Believed.Choice.{pick}
+use Rattle.octets.specs.Believed.Numbers.{accepted}
 use Rattle.octets.specs.Believed.Answers.{numberOf, positionOf, countOf}
 use Rattle.octets.specs.declared.answers.Answer.{Answer}
+use Rattle.scanner.specs.declared.Class.{Class}
+use Rattle.scanner.specs.declared.Class.the-variants.{Atom, Quoted, At, LessThan, GreaterThan, Comma, Semicolon, Colon, Stray, Dot, Literal}
+use Rattle.scanner.specs.declared.Next.{Next}
+use Rattle.scanner.specs.declared.Next.the-variants.{Found, Ended, Fault}
 use Rattle.header.specs.declared.names.Known.{Known}
 use Rattle.header.specs.declared.names.Known.the-variants.{Date, From, ReplyTo, To, Cc, Bcc, Other}
 use Rattle.dates.specs.Believed.Answers as date
@@ -20,6 +25,29 @@ toldIn lent answer = sets lent 0 (numberOf answer ∷ positionOf answer ∷ coun
 -- of an expansion: the openings, too
 abbrev pub expansionToldIn : List ℕ → Answer → ℕ → List ℕ
 expansionToldIn lent answer openings = sets lent 0 (numberOf answer ∷ positionOf answer ∷ countOf answer ∷ openings ∷ [])
+
+-- the number of a symbol's class, from 1 in the order of document 01's marks; 9 for any other
+abbrev pub classNumber : Class → ℕ
+classNumber Atom = 1
+classNumber Quoted = 2
+classNumber At = 3
+classNumber LessThan = 4
+classNumber GreaterThan = 5
+classNumber Comma = 6
+classNumber Semicolon = 7
+classNumber Colon = 8
+classNumber Stray = 9
+classNumber Dot = 9
+classNumber Literal = 9
+
+-- of the next symbol: the number and position of a fault, or 0 and 0; its class, its place, the length of its meaning, and 1 where it stands apart; zeros where there is none
+abbrev pub symbolNumbers : Next → List ℕ
+symbolNumbers (Found symbol) = accepted ∷ 0 ∷ classNumber (symbol .class) ∷ symbol .start ∷ symbol .end ∷ symbol .length ∷ pick (symbol .apart) 1 0 ∷ []
+symbolNumbers Ended = accepted ∷ 0 ∷ 0 ∷ 0 ∷ 0 ∷ 0 ∷ 0 ∷ []
+symbolNumbers (Fault number position) = number ∷ position ∷ 0 ∷ 0 ∷ 0 ∷ 0 ∷ 0 ∷ []
+
+abbrev pub symbolToldIn : List ℕ → Next → List ℕ
+symbolToldIn lent next = sets lent 0 (symbolNumbers next)
 
 -- the same of a date's answer
 abbrev pub dateToldIn : List ℕ → DateAnswer → List ℕ

@@ -1,6 +1,7 @@
 -- What the functions of the loop answer.
 use Prim.Native.Nat.{ℕ, _+_, _-_, _*_, _≤_, _<_}
 use mathlib.Core.Path.{_≡_}
+use mathlib.Core.Bool.{Bool}
 use mathlib.Core.List.{List, [], _∷_}
 use mathlib.Core.Option.{none, some}
 use lib.ListN.{length, getD}
@@ -50,21 +51,25 @@ CloseIs number end then table after (On v) =
     (v ≡ then) × (number ≡ 0 → ⊥) × (after ≡ sets table ((number - 1) * addressRecordSize + endOffset) (bytesOf numberWidth end))
 CloseIs number end then table after Off = (number ≡ 0) × (after ≡ table)
 
--- a symbol with any meaning
-abbrev pub symbolOf : Class → ℕ → ℕ → List ℕ → Symbol Class
-symbolOf class start end meaning = record { class = class; lexeme = record { start = start; end = end; meaning = meaning } }
+-- what else a symbol has than its class and place, which no step looks at
+pub record Besides : Type 0 where
+  pub meaning : List ℕ
+  pub apart : Bool
+
+abbrev pub symbolOf : Class → ℕ → ℕ → Besides → Symbol Class
+symbolOf class start end m = record { class = class; lexeme = record { start = start; end = end; meaning = m .meaning; apart = m .apart } }
 
 -- a step that goes on
 pub record Goes (w : Walk) (class : Class) (start end : ℕ) (table after : List ℕ) (v : Walk) : Type 0 where
   pub fine : Fine v
   pub few : v .free ≤ w .free + 1
-  pub steps : (m : List ℕ) (rs : List AddressRecord) (lent : List ℕ) → Holds w rs lent table
+  pub steps : (m : Besides) (rs : List AddressRecord) (lent : List ℕ) → Holds w rs lent table
       → (ss : List AddressRecord) × Holds v ss lent after × (stepFrom (walkedOf w rs) (symbolOf class start end m) ≡ some (walkedOf v ss))
 
 -- a step that stops
 pub record Stops (w : Walk) (class : Class) (start end : ℕ) (table after : List ℕ) : Type 0 where
   pub kept : after ≡ table
-  pub stops : (m : List ℕ) (rs : List AddressRecord) (lent : List ℕ) → Holds w rs lent table → stepFrom (walkedOf w rs) (symbolOf class start end m) ≡ none
+  pub stops : (m : Besides) (rs : List AddressRecord) (lent : List ℕ) → Holds w rs lent table → stepFrom (walkedOf w rs) (symbolOf class start end m) ≡ none
 
 abbrev pub StepIs : Walk → Class → ℕ → ℕ → List ℕ → List ℕ → Stepped → Type 0
 StepIs w class start end table after (On v) = Goes w class start end table after v

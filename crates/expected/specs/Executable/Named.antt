@@ -29,7 +29,7 @@ isSome (some a) = true
 
 -- where a symbol stands and what it means does not matter here
 abbrev pub anywhere : Lexeme
-anywhere = record { start = 0; end = 0; meaning = [] }
+anywhere = record { start = 0; end = 0; meaning = []; apart = false }
 
 -- a state takes a symbol of a class
 abbrev pub takes : ℕ → State → Class → Bool

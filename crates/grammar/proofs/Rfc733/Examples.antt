@@ -3,6 +3,7 @@ use Prim.Native.Nat.{ℕ, zero, suc, _+_}
 use Prim.Native.String.{String, len}
 use native.Mathlib.Omega.{arith}
 use mathlib.Core.Path.{_≡_, refl}
+use mathlib.Core.Bool.{false}
 use mathlib.Core.List.{List, [], _∷_}
 use lib.ListN.{length}
 use Rattle.octets.specs.Believed.Letters.{lower, same}
@@ -21,7 +22,7 @@ use Rattle.grammar.proofs.Rfc733.Condition3.{answer-right}
 
 -- a symbol from a position to another, its meaning left out
 abbrev s : Class → ℕ → ℕ → Sym
-s c i j = of c record { start = i; end = j; meaning = [] }
+s c i j = of c record { start = i; end = j; meaning = []; apart = false }
 
 abbrev recordsOf : Verdict Class Derivation → List AddressRecord
 recordsOf (accepted k) = records k
@@ -103,7 +104,7 @@ kindsOf (r ∷ rs) = r .kind ∷ kindsOf rs
 
 abbrev typedKinds : String → List ℕ
 typedKinds text =
-    kindsOf (recordsOf (answer levelLimit (s Colon 0 1 ∷ of Atom record { start = 1; end = 1 + len text; meaning = bytes text } ∷ s Colon 20 21 ∷ s Quoted 22 24 ∷ [])))
+    kindsOf (recordsOf (answer levelLimit (s Colon 0 1 ∷ of Atom record { start = 1; end = 1 + len text; meaning = bytes text; apart = false } ∷ s Colon 20 21 ∷ s Quoted 22 24 ∷ [])))
 
 -- Include is 5, Postal 6, any other atom 7; case ignored
 typed-kinds : (typedKinds "Include" ≡ 5 ∷ 4 ∷ []) × (typedKinds "iNCLUDE" ≡ 5 ∷ 4 ∷ []) × (typedKinds "PoStAl" ≡ 6 ∷ 4 ∷ []) × (typedKinds "Includes" ≡ 7 ∷ 4 ∷ [])

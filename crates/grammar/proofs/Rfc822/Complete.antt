@@ -11,7 +11,7 @@ use Rattle.grammar.specs.Executable.Machines.{go, verdictBy, atEnd, Arro
 use Rattle.grammar.proofs.Any.Machine.{Machine}
 use Rattle.grammar.proofs.Any.Pieces.{seen}
 use Rattle.grammar.proofs.Any.Arrows as any
-use Rattle.grammar.proofs.Symbols.{same-class}
+use Rattle.grammar.proofs.Symbols.{same-class, nowhere}
 use Rattle.grammar.specs.Executable.Trees822.{Class, Atom, At, LessThan, GreaterThan, Comma, Semicolon, Colon, Dot, Lexeme, Sym, of, Word, atomWord, quotedWord, Phrase, one, more, Sub, atomSub, literalSub, Domain, oneSub, moreSub, Local, oneWord, moreWord, Spec, spec, Empties, noEmpty, oneEmpty, Hops, firstHop, nextHop, Route, direct, trailing, Mailbox, bare, angle, routed, Slot, empty, comma, Listed, idle, full, Address, box, group, wordPiece, phrasePiece, subPiece, domainPiece, localPiece, specPiece, emptiesPiece, hopsPiece, routePiece, mailboxPiece, boxSlotPiece, boxesPiece, addressPiece, slotPiece, listPiece, asForest}
 use Rattle.grammar.proofs.Rfc822.Derivations.{DerivedList, tree-derived}
 use Rattle.grammar.specs.Executable.Machine822.{Here, inList, inGroup, Open, less, In, bareIn, angleIn, routeIn, firstAt, nextAt, Behind, ofSpec, ofHop, State, place, word, phrase, local, localDot, at, domain, domainDot, opened, hop, route, boxed, closed, words, subs, arrows, step, run, finish, start, read}
@@ -245,9 +245,6 @@ complete-read n k xs d =
     rw e (rw y at a)
 
 -- ---- every state can be brought to an end
-
-abbrev nowhere : Lexeme
-nowhere = record { start = 0; end = 0; meaning = [] }
 
 abbrev Ending : ℕ → State → Type 0
 Ending n s = (ws : List Sym) × (k : Forest Class Nonterminal) × (verdictBy finish (run n s ws) ≡ accepted k)

@@ -6,20 +6,19 @@ use native.Mathlib.Omega.{arith}
 use Prim.Native.Nat.{_-_, _≤_}
 use lib.ListN.{length}
 use Rattle.octets.specs.Believed.Numbers.{byteAbove127, strayControl, literalNotClosed}
-use Rattle.scanner.specs.Believed.Scanning.{takingInLiteral, go, halt}
-use Rattle.scanner.specs.Believed.Answers.{foundAt, nextOf}
+use Rattle.scanner.specs.Believed.Scanning.{Scanned, takingInLiteral, go, halt, parted}
+use Rattle.scanner.specs.Believed.Answers.{nextOf}
 use Rattle.scanner.specs.Ties.Steps.{FirstCharacter}
-use Rattle.scanner.specs.declared.Class.the-variants.{Literal}
 use Rattle.scanner.proofs.MoveLaws.{at-end, InLiteral, literal-moves, literal-on, literal-taking, literal-taken}
 use Rattle.scanner.proofs.literal_end.Statement.{statement}
 use Rattle.scanner.proofs.literal_end.Tie as tie
 
 abbrev Inv-loop : tie.InvT-loop
-Inv-loop classes text start at p₀ p =
+Inv-loop classes text start at apart p₀ p =
     (p ≤ length text) × InLiteral classes text start at p
 
 abbrev μ-loop : tie.MeasureT-loop
-μ-loop classes text start at p₀ p = length text - p
+μ-loop classes text start at apart p₀ p = length text - p
 
 -- the character that was read
 first : (c : tie.After-kind Inv-loop μ-loop) → (let f = c .kind .given .0 in let a = c .before .before .before .before .before .args in FirstCharacter (a .classes .now) (a .text .now) (c .before .before .before .loop .p) (f .0) (f .1 .0) (f .1 .1 .0))
@@ -42,33 +41,37 @@ enum-told : tie.Need-enum-told Inv-loop μ-loop
 enum-told c = search needs
 
 returns : tie.Need-returns Inv-loop μ-loop
+unfolding parted
 returns c =
     let a = c .before .before .before .before .before .args in
     let l = c .before .before .before .loop in
-    sym (ap nextOf (l .inv .1 .same ∙ at-end (a .classes .now) (a .text .now) (l .p) _ (rw (c .enum-told .given .1) at (c .before .before .character .ensures))))
+    λ from e. sym (ap (λ (s : Scanned). nextOf (parted from s)) (l .inv .1 .same ∙ at-end (a .classes .now) (a .text .now) (l .p) _ (rw (c .enum-told .given .1) at (c .before .before .character .ensures))))
 
 enum-told-2 : tie.Need-enum-told-2 Inv-loop μ-loop
 enum-told-2 c = search needs
 
 returns-2 : tie.Need-returns-2 Inv-loop μ-loop
+unfolding parted
 returns-2 c =
     let x = rw (c .enum-told2 .given .1) at (first (c .before .before .before)) in
     let l = c .before .before .before .before .before .before .loop in
-    sym (ap nextOf (literal-moves (l .inv .1) x _ refl) ∙ ap (foundAt Literal (c .before .before .before .before .before .before .before .before .args .start)) (sym (x .behind)))
+    λ from e. rw (x .behind, e) (sym (ap (λ (s : Scanned). nextOf (parted from s)) (literal-moves (l .inv .1) x _ refl)))
 
 enum-told-3 : tie.Need-enum-told-3 Inv-loop μ-loop
 enum-told-3 c = search needs
 
 returns-3 : tie.Need-returns-3 Inv-loop μ-loop
+unfolding parted
 returns-3 c =
-    sym (ap nextOf (literal-moves (c .before .before .before .before .before .before .loop .inv .1) (rw (c .enum-told3 .given .1) at (first (c .before .before .before))) (halt [] strayControl _) refl))
+    λ from e. sym (ap (λ (s : Scanned). nextOf (parted from s)) (literal-moves (c .before .before .before .before .before .before .loop .inv .1) (rw (c .enum-told3 .given .1) at (first (c .before .before .before))) (halt [] strayControl _) refl))
 
 enum-told-4 : tie.Need-enum-told-4 Inv-loop μ-loop
 enum-told-4 c = search needs
 
 returns-4 : tie.Need-returns-4 Inv-loop μ-loop
+unfolding parted
 returns-4 c =
-    sym (ap nextOf (literal-moves (c .before .before .before .before .before .before .loop .inv .1) (rw (c .enum-told4 .given .1) at (first (c .before .before .before))) (halt [] byteAbove127 _) refl))
+    λ from e. sym (ap (λ (s : Scanned). nextOf (parted from s)) (literal-moves (c .before .before .before .before .before .before .loop .inv .1) (rw (c .enum-told4 .given .1) at (first (c .before .before .before))) (halt [] byteAbove127 _) refl))
 
 enum-told-5 : tie.Need-enum-told-5 Inv-loop μ-loop
 enum-told-5 c = search needs
@@ -83,12 +86,13 @@ enum-told-6 : tie.Need-enum-told-6 Inv-loop μ-loop
 enum-told-6 c = search needs
 
 returns-5 : tie.Need-returns-5 Inv-loop μ-loop
+unfolding parted
 returns-5 c =
     let a = c .before .before .before .before .before .before .before .before .before .before .before .args in
     let l = c .before .before .before .before .before .before .before .before .before .loop in
     let x = rw (c .before .before .before .enum-told5 .given .1) at (first (c .before .before .before .before .before .before)) in
-    sym
-    (ap nextOf
+    λ from e. sym
+    (ap (λ (s : Scanned). nextOf (parted from s))
     (literal-moves (l .inv .1) x (go [] (takingInLiteral (a .start))) refl
     ∙ at-end (a .classes .now) (a .text .now) (c .before .before .before .before .before .before .kind .given .0 .1 .1 .0) _ (rw (c .enum-told6 .given .1) at (c .before .before .character2 .ensures))))
 
@@ -96,10 +100,11 @@ enum-told-7 : tie.Need-enum-told-7 Inv-loop μ-loop
 enum-told-7 c = search needs
 
 returns-6 : tie.Need-returns-6 Inv-loop μ-loop
+unfolding parted
 returns-6 c =
     let x = rw (c .before .before .before .before .before .before .enum-told5 .given .1) at (first (c .before .before .before .before .before .before .before .before .before)) in
     let y = rw (c .enum-told7 .given .1) at (second (c .before .before .before)) in
-    sym (ap nextOf (literal-taking (c .before .before .before .before .before .before .before .before .before .before .before .before .loop .inv .1) x y (halt [] byteAbove127 _) refl))
+    λ from e. sym (ap (λ (s : Scanned). nextOf (parted from s)) (literal-taking (c .before .before .before .before .before .before .before .before .before .before .before .before .loop .inv .1) x y (halt [] byteAbove127 _) refl))
 
 loop-less : tie.Need-loop-less Inv-loop μ-loop
 loop-less c = let x = first (c .before .before .before .before .before .before .before .before) in let y = second (c .before .before) in omega (arith, x .from, x .behind, x .within, y .from, y .behind, y .within)
@@ -114,8 +119,9 @@ enum-told-8 : tie.Need-enum-told-8 Inv-loop μ-loop
 enum-told-8 c = search needs
 
 returns-7 : tie.Need-returns-7 Inv-loop μ-loop
+unfolding parted
 returns-7 c =
-    sym (ap nextOf (literal-moves (c .before .before .before .before .before .before .loop .inv .1) (rw (c .enum-told8 .given .1) at (first (c .before .before .before))) (halt [] literalNotClosed _) refl))
+    λ from e. sym (ap (λ (s : Scanned). nextOf (parted from s)) (literal-moves (c .before .before .before .before .before .before .loop .inv .1) (rw (c .enum-told8 .given .1) at (first (c .before .before .before))) (halt [] literalNotClosed _) refl))
 
 loop-less-2 : tie.Need-loop-less-2 Inv-loop μ-loop
 loop-less-2 c = let x = first (c .before .before) in omega (arith, x .from, x .behind, x .within)

@@ -1,5 +1,6 @@
 -- What the entry points answer, in document 01's order of checks: 1, 13, then the first fault of scanning; and what the next symbol tells.
 use Prim.Native.Nat.{ℕ}
+use mathlib.Core.Bool.{Bool}
 use mathlib.Core.List.{List}
 use mathlib.Core.Option.{Option, none, some}
 use lib.Dec.{ltb}
@@ -38,14 +39,14 @@ scannedBy classes message start end = bodyChecked Refused message start end (fau
 abbrev pub bodyScanned : List ℕ → ℕ → ℕ → Answer
 bodyScanned message start end = scannedBy classTable message start end
 
--- a symbol that was found, by its class and its place
-abbrev pub foundAt : Class → ℕ → ℕ → Next
-foundAt class start end = Found (record { class = class; start = start; end = end })
+-- a symbol that was found, by its class and its place, the length of its meaning, and whether it stands apart
+abbrev pub foundAt : Class → ℕ → ℕ → ℕ → Bool → Next
+foundAt class start end size apart = Found (record { class = class; start = start; end = end; length = size; apart = apart })
 
 -- the first symbol, the end or the fault
 abbrev pub nextOf : Scanned → Next
 nextOf ended = Ended
-nextOf (next x rest) = foundAt (x .class) (x .lexeme .start) (x .lexeme .end)
+nextOf (next x rest) = foundAt (x .class) (x .lexeme .start) (x .lexeme .end) (length (x .lexeme .meaning)) (x .lexeme .apart)
 nextOf (faultAt number p) = Fault number p
 
 -- what is told of the next symbol: the number and position of a fault, 0 and 0 without one; and the symbol, if there is one

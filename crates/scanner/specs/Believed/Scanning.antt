@@ -1,7 +1,8 @@
 -- Scanning goes left to right over the characters, gives symbols, and stops at its first fault.
 use Prim.Native.Nat.{ℕ, zero, suc, _+_}
-use mathlib.Core.Bool.{Bool}
+use mathlib.Core.Bool.{Bool, false}
 use mathlib.Core.List.{List, [], _∷_, _++_}
+use lib.Dec.{ltb}
 use Rattle.octets.specs.Believed.Choice.{pick}
 use Rattle.octets.specs.Believed.Classes.{classTable}
 use Rattle.octets.specs.Believed.Letters.{sameLetters}
@@ -40,9 +41,9 @@ pub data Move : Type 0 where
   go : List (Symbol Class) → State → Move
   halt : List (Symbol Class) → ℕ → ℕ → Move
 
--- a symbol of a class, with its place and meaning
+-- a symbol of a class, with its place and meaning; that it stands apart is told by what comes before it (`parted`)
 abbrev pub symbol : Class → ℕ → ℕ → List ℕ → Symbol Class
-symbol class start end meaning = record { class = class; lexeme = record { start = start; end = end; meaning = meaning } }
+symbol class start end meaning = record { class = class; lexeme = record { start = start; end = end; meaning = meaning; apart = false } }
 
 -- the class of an atom: "at", in any case of letters, is no word
 abbrev pub atomClass : List ℕ → Class
@@ -198,9 +199,20 @@ scanFrom classes [] state = atEnd state
 scanFrom classes (character b p folded ∷ rest) state =
     then (move state (characterKind classes b folded) b p folded) (λ state′. scanFrom classes rest state′)
 
+-- a symbol, told whether it stands apart from a position: whether anything lies between
+abbrev pub apartFrom : ℕ → Symbol Class → Symbol Class
+apartFrom from x =
+    record { class = x .class; lexeme = record { start = x .lexeme .start; end = x .lexeme .end; meaning = x .lexeme .meaning; apart = ltb from (x .lexeme .start) } }
+
+-- each symbol stands apart from the end of the one before it, the first from where scanning began; only white space and comments can lie between
+unfoldable pub parted : ℕ → Scanned → Scanned
+parted from ended = ended
+parted from (next x rest) = next (apartFrom from x) (parted (x .lexeme .end) rest)
+parted from (faultAt number p) = faultAt number p
+
 -- what a text scans to from a position on, by a table of classes
 abbrev pub scanBy : List ℕ → List ℕ → ℕ → Scanned
-scanBy classes text at = scanFrom classes (charactersAt text at) outside
+scanBy classes text at = parted at (scanFrom classes (charactersAt text at) outside)
 
 -- what a text scans to from a position on
 abbrev pub scan : List ℕ → ℕ → Scanned

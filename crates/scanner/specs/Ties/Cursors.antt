@@ -1,7 +1,8 @@
 -- What the places of a cursor hold.
 use Prim.Native.Nat.{ℕ}
+use mathlib.Core.Bool.{Bool}
 use mathlib.Core.List.{List}
-use lib.Dec.{eqb}
+use lib.Dec.{eqb, ltb}
 use lib.ListN.{set, getD}
 use Rattle.octets.specs.Believed.Choice.{pick}
 use Rattle.octets.specs.Believed.Classes.{quote, openBracket, lessThan, greaterThan, atSign, comma, semicolon, colon, dot, backslash, letter}
@@ -15,7 +16,7 @@ use Rattle.scanner.specs.declared.cursor.Ahead.the-variants.{Symbol, End
 
 -- the places of a cursor
 abbrev pub cursorSize : ℕ
-cursorSize = 5
+cursorSize = 7
 
 -- the number of a symbol's class: the class number of the byte that it is, or that it may begin with
 abbrev pub classNumber : Class → ℕ
@@ -38,15 +39,19 @@ endNumber = 19
 abbrev pub faultNumber : ℕ
 faultNumber = 20
 
--- a cursor with other numbers in its first three places
-abbrev pub placed : ℕ → ℕ → ℕ → List ℕ → List ℕ
-placed number start end cursor = set (set (set cursor 0 number) 1 start) 2 end
+-- a cursor with other numbers in its first four places
+abbrev pub placed : ℕ → ℕ → ℕ → ℕ → List ℕ → List ℕ
+placed number start end size cursor = set (set (set (set cursor 0 number) 1 start) 2 end) 3 size
 
--- a cursor that has moved on to what comes next
+-- a cursor that has moved on to what comes next, looked for from the same position
 abbrev pub moved : Next → List ℕ → List ℕ
-moved (Found symbol) cursor = placed (classNumber (symbol .class)) (symbol .start) (symbol .end) cursor
-moved Ended cursor = placed endNumber 0 0 cursor
-moved (Fault number p) cursor = placed faultNumber p number cursor
+moved (Found symbol) cursor = placed (classNumber (symbol .class)) (symbol .start) (symbol .end) (symbol .length) cursor
+moved Ended cursor = placed endNumber 0 0 0 cursor
+moved (Fault number p) cursor = placed faultNumber p number 0 cursor
+
+-- a cursor that looks for what comes next from the end of its symbol
+abbrev pub behindSymbol : List ℕ → List ℕ
+behindSymbol cursor = set cursor 4 (getD cursor 2 0)
 
 -- what a number tells
 unfoldable pub aheadOf : ℕ → Ahead
@@ -58,11 +63,15 @@ aheadOf n =
     (pick (eqb n dot) (Symbol Dot) (pick (eqb n openBracket) (Symbol Literal)
     (pick (eqb n endNumber) End (pick (eqb n faultNumber) Faulty (Symbol Stray))))))))))))
 
-abbrev pub nextFrom : Ahead → ℕ → ℕ → Next
-nextFrom (Symbol class) start end = foundAt class start end
-nextFrom End start end = Ended
-nextFrom Faulty start end = Fault end start
+abbrev pub nextFrom : Ahead → ℕ → ℕ → ℕ → Bool → Next
+nextFrom (Symbol class) start end size apart = foundAt class start end size apart
+nextFrom End start end size apart = Ended
+nextFrom Faulty start end size apart = Fault end start
+
+-- the symbol ahead of a cursor stands apart where it starts after the position from which it was looked for
+abbrev pub apartIn : List ℕ → Bool
+apartIn cursor = ltb (getD cursor 4 0) (getD cursor 1 0)
 
 -- what a cursor tells of the symbol ahead
 unfoldable pub nextIn : List ℕ → Next
-nextIn cursor = nextFrom (aheadOf (getD cursor 0 0)) (getD cursor 1 0) (getD cursor 2 0)
+nextIn cursor = nextFrom (aheadOf (getD cursor 0 0)) (getD cursor 1 0) (getD cursor 2 0) (getD cursor 3 0) (apartIn cursor)

@@ -3,6 +3,7 @@ use mathlib.Core.Path.{_≡_, refl, sym, _∙_}
 use Prim.Native.Nat.{_-_}
 use native.Mathlib.Omega.{arith}
 use lib.ListN.{length}
+use Rattle.octets.proofs.ChoiceLaws.{cast-bool}
 use Rattle.vectors.specs.Believed.Answers.{symbols}
 use Rattle.vectors.proofs.PutLaws.{Left, left-all, left-after, left-last, left-none}
 use Rattle.vectors.proofs.AnswerLaws.{symbols-found, symbols-ended, symbols-fault, symbols-none}
@@ -24,6 +25,9 @@ next-symbol-requires c κs = search needs
 
 enum-known-symbol : tie.Need-enum-known-symbol Inv-loop μ-loop
 enum-known-symbol c = search needs
+
+cast-t20 : tie.Need-cast-t20 Inv-loop μ-loop
+cast-t20 c = search needs
 
 mark-requires : tie.Need-mark-requires Inv-loop μ-loop
 mark-requires c κs = search needs
@@ -49,8 +53,8 @@ returns c =
 enum-known-number : tie.Need-enum-known-number Inv-loop μ-loop
 enum-known-number c = search needs
 
-cast-t24 : tie.Need-cast-t24 Inv-loop μ-loop
-cast-t24 c = search needs
+cast-t26 : tie.Need-cast-t26 Inv-loop μ-loop
+cast-t26 c = search needs
 
 slice-aggregate-put-line-2 : tie.Need-slice-aggregate-put-line-2 Inv-loop μ-loop
 slice-aggregate-put-line-2 c = search needs
@@ -76,9 +80,9 @@ loop-less c = search needs
 loop-again : tie.Need-loop-again Inv-loop μ-loop
 loop-again c =
     let put-line = c .before .before .put-line in
-    let loop = c .before .before .before .before .before .before .before .before .before .before .before .loop in
-    let args = c .before .before .before .before .before .before .before .before .before .before .before .before .before .before .args in
-    (put-line .kept .1 .1 .0 ∙ loop .inv .0, left-after (loop .inv .1) (λ rest. symbols-found (loop .left) (args .message .now) (loop .p) (args .end) rest (omega arith) (sym (c .before .before .before .before .before .before .before .before .before .next-symbol .ensures .1) ∙ c .before .before .before .before .before .before .before .symbol .given .1)) (rw (c .before .before .before .before .before .mark .ensures) at (put-line .ensures)))
+    let loop = c .before .before .before .before .before .before .before .before .before .before .before .before .loop in
+    let args = c .before .before .before .before .before .before .before .before .before .before .before .before .before .before .before .args in
+    (put-line .kept .1 .1 .0 ∙ loop .inv .0, left-after (loop .inv .1) (λ rest. symbols-found (loop .left) (args .message .now) (loop .p) (args .end) rest (omega arith) (sym (c .before .before .before .before .before .before .before .before .before .before .next-symbol .ensures .1) ∙ c .before .before .before .before .before .before .before .before .symbol .given .1)) (rw (c .before .before .before .before .before .mark .ensures, cast-bool (c .before .before .before .before .before .before .before .before .symbol .given .0 .0 .apart)) at (put-line .ensures)))
 
 same-length-3 : tie.Need-same-length-3 Inv-loop μ-loop
 same-length-3 c = c .before .loop .inv .0
@@ -98,6 +102,7 @@ put-symbols-spec =
     loop-holds
     next-symbol-requires
     enum-known-symbol
+    cast-t20
     mark-requires
     slice-aggregate-put-line
     put-line-requires
@@ -105,7 +110,7 @@ put-symbols-spec =
     same-length
     returns
     enum-known-number
-    cast-t24
+    cast-t26
     slice-aggregate-put-line-2
     put-line-requires-2
     same-length-2

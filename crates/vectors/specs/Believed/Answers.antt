@@ -134,9 +134,9 @@ markOf Stray = 41
 markOf Dot = 46
 markOf Literal = 91
 
--- a symbol by its mark and its place, and then what follows; or "!" and the fault
+-- a symbol by its mark and its place, the length of its meaning, and 1 where it stands apart, and then what follows; or "!" and the fault
 abbrev pub symbolThen : Next → (ℕ → List ℕ) → List ℕ → List ℕ
-symbolThen (Found symbol) more rest = line (markOf (symbol .class)) (symbol .start ∷ symbol .end ∷ []) (more (symbol .end))
+symbolThen (Found symbol) more rest = line (markOf (symbol .class)) (symbol .start ∷ symbol .end ∷ symbol .length ∷ pick (symbol .apart) 1 0 ∷ []) (more (symbol .end))
 symbolThen Ended more rest = rest
 symbolThen (Fault number position) more rest = line 33 (number ∷ position ∷ []) rest
 

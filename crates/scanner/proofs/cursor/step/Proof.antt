@@ -10,7 +10,7 @@ use Rattle.scanner.proofs.cursor.step.Statement.{statement}
 use Rattle.scanner.proofs.cursor.step.Tie as tie
 
 abbrev Inv-loop : tie.InvT-loop
-Inv-loop classes text cursor₀ p₀ cursor p = Passing classes text cursor₀ cursor p
+Inv-loop classes text cursor₀ p₀ cursor p = Passing classes text cursor₀ cursor p₀ p
 
 abbrev μ-loop : tie.MeasureT-loop
 μ-loop classes text cursor₀ p₀ cursor p = length text - p
@@ -21,6 +21,9 @@ cr c = record { is-control = sym (c .before .class-in .ensures) ∙ c .if1 .left
 
 element-copy-out-p : tie.Need-element-copy-out-p Inv-loop μ-loop
 element-copy-out-p c = search needs
+
+element-write-cursor : tie.Need-element-write-cursor Inv-loop μ-loop
+element-write-cursor c = search needs
 
 class-in-requires : tie.Need-class-in-requires Inv-loop μ-loop
 class-in-requires c κs = search needs
@@ -52,6 +55,9 @@ atom-class-requires c κs = search needs
 class-number-requires : tie.Need-class-number-requires Inv-loop μ-loop
 class-number-requires c κs = search needs
 
+sub-put : tie.Need-sub-put Inv-loop μ-loop
+sub-put c = search needs
+
 put-requires : tie.Need-put-requires Inv-loop μ-loop
 put-requires c κs = search needs
 
@@ -62,7 +68,7 @@ returns-2 c =
     moves-on (l .inv)
     (c .put .ensures
     ∙ atom-moves (cr (c .before .before .before .before .before .before .before .before .before .before)) (a .text .now) (l .p) (c .before .before .before .before .before .before .before .before .loop-test .taken) (l .cursor)
-    (rw (c .before .before .before .before .before .before .class-in2 .ensures) at (c .before .before .before .before .before .if2 .taken)) (c .before .before .before .before .plain-end .ensures) (c .before .before .atom-class .ensures) (c .before .class-number .ensures))
+    (rw (c .before .before .before .before .before .before .class-in2 .ensures) at (c .before .before .before .before .before .if2 .taken)) (c .before .before .before .before .plain-end .ensures) (c .before .before .before .atom-class .ensures) (c .before .before .class-number .ensures))
 
 cast-put : tie.Need-cast-put Inv-loop μ-loop
 cast-put c = search needs
@@ -126,6 +132,7 @@ step-spec =
     Inv-loop
     μ-loop
     element-copy-out-p
+    element-write-cursor
     class-in-requires
     step-any-requires
     returns
@@ -136,6 +143,7 @@ step-spec =
     plain-end-requires
     atom-class-requires
     class-number-requires
+    sub-put
     put-requires
     returns-2
     cast-put

@@ -37,7 +37,7 @@ returns : tie.Need-returns
 returns c =
     let l = c .before .before .before .before .before .before .before .before .args .cursor .now in
     let x = c .before .before .before .before .symbol .given .0 .0 in
-    c .put .ensures ∙ ap (λ number. placed number (x .start) (x .end) l) (c .before .class-number .ensures) ∙ ap (λ (n : Next). moved n l) (sym (c .before .before .before .before .symbol .given .1) ∙ c .before .before .before .before .before .before .next-by .ensures)
+    c .put .ensures ∙ ap (λ number. placed number (x .start) (x .end) (x .length) l) (c .before .class-number .ensures) ∙ ap (λ (n : Next). moved n l) (sym (c .before .before .before .before .symbol .given .1) ∙ c .before .before .before .before .before .before .next-by .ensures)
 
 returns-2 : tie.Need-returns-2
 returns-2 c = c .put2 .ensures ∙ ap (λ (n : Next). moved n (c .before .before .before .before .before .before .args .cursor .now)) (sym (c .before .before .enum-told .given .1) ∙ c .before .before .before .before .next-by .ensures)

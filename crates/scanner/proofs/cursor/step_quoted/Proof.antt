@@ -27,6 +27,12 @@ cast-put c = search needs
 add-put : tie.Need-add-put
 add-put c = search needs
 
+sub-put : tie.Need-sub-put
+sub-put c = search needs
+
+sub-put-2 : tie.Need-sub-put-2
+sub-put-2 c = search needs
+
 put-requires : tie.Need-put-requires
 put-requires c κs = search needs
 
@@ -48,5 +54,7 @@ step-quoted-spec =
     returns
     cast-put
     add-put
+    sub-put
+    sub-put-2
     put-requires
     returns-2)
