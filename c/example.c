@@ -1,7 +1,9 @@
-/* Prints the records of an address list, and the list written plainly; or what one of its bytes is; or the list with its
- * Includes replaced by stored lists.
+/* Prints the records of an address list, and the list written plainly; or its symbols; or what one of its bytes is; or the
+ * list with its Includes replaced by stored lists.
  * usage: example [--by-table] [LIST]     --by-table: by the second reader, for a board with a small stack
  *        example --edition NUMBER LIST   the records of a list by RFC 733 or RFC 822: NUMBER is 733 or 822
+ *        example --symbols LIST          the symbols: kind, start, end, length of the meaning, and "apart" if white space
+ *                                        or a comment stands right before
  *        example --touch PLACE LIST      what the byte at PLACE is and the records around it, from the last one to the
  *                                        outermost; for a refused list what could have stood at the refused place
  *        example --expand STORE LIST     the list written plainly with each Include replaced by a list of STORE, a file,
@@ -17,6 +19,21 @@ static unsigned two(const uint8_t *table, size_t at) { return table[at] * 256u +
 static int refused(const uint64_t *told) {
     printf("refused %u %u\n", (unsigned)told[0], (unsigned)told[1]);
     return 1;
+}
+
+/* Begins at the start, and goes on from the end of each symbol. */
+static int symbols(const char *list) {
+    static const char *const kinds[] = {"end", "atom", "quoted", "at", "<", ">", ",", ";", ":", "other"};
+    size_t length = strlen(list), at = 0;
+    uint64_t told[7];
+    for (;;) {
+        rfc733_next_symbol((const uint8_t *)list, length, at, length, told, 7);
+        if (told[0] != 0) return refused(told);
+        if (told[2] == 0) return 0;
+        printf("%s %u %u %u%s\n", kinds[told[2]], (unsigned)told[3], (unsigned)told[4], (unsigned)told[5],
+               told[6] == 1 ? " apart" : "");
+        at = told[4];
+    }
 }
 
 static int touch(const char *list, size_t place) {
@@ -132,6 +149,13 @@ int main(int argc, char **argv) {
             return 2;
         }
         return expand(argv[2], argv[3]);
+    }
+    if (argc > 1 && strcmp(argv[1], "--symbols") == 0) {
+        if (argc != 3) {
+            fprintf(stderr, "usage: example --symbols LIST\n");
+            return 2;
+        }
+        return symbols(argv[2]);
     }
     if (argc > 1 && (strcmp(argv[1], "--touch") == 0 || strcmp(argv[1], "--edition") == 0)) {
         int touched = strcmp(argv[1], "--touch") == 0;

@@ -2,8 +2,8 @@
  *
  * Memory is lent as a pointer and a length; nothing is kept. A pointer may not be null, not even with the length 0.
  * The lent parts of one call may not overlap. `told` is an array of three: the answer's number, position and count, and
- * where said more numbers after them; of a shorter one the front is filled. A refusal changes no byte of a table, text
- * or path.
+ * where said more numbers after them, of a symbol others after the position; of a shorter one the front is filled. A
+ * refusal changes no byte of a table, text or path.
  *
  * Numbers: 0 accepted; 1 message over 32,768 bytes; 2 fault in a field name; 3 byte above 127; 4 header ends without CRLF;
  * 5 quoted-string not closed; 6 comment not closed; 7 stray control byte; 8 no list goes on with this symbol;
@@ -33,6 +33,18 @@ uint32_t rfc733_known_name(const uint8_t *name, size_t name_length);
 /* Scans the body of a message from start up to end: accepted, or its first fault. The count is 0. */
 void rfc733_scan(const uint8_t *message, size_t message_length, size_t start, size_t end,
                  uint64_t *told, size_t told_length);
+
+/* The next symbol of the body of a message up to end, at or after the position `at`. Told, seven numbers: number and
+ * position of a fault, or 0 0; class: 1 atom, 2 quoted-string, 3 "@" or the atom "at" in any case of letters, 4 "<",
+ * 5 ">", 6 ",", 7 ";", 8 ":", 9 any other, that is a lone ")" or backslash, 0 at the end of the body or with a fault;
+ * start; end; length of the meaning in bytes, 1 for a special; 1 if white space, a fold too, or a comment stands right
+ * before it, else 0. At the end of the body and with a fault the last five are 0.
+ * Scanning begins at `at` as if the body began there: nothing before is looked at. To step through a body, begin at its
+ * start and go on from the end of each symbol: what is told so is what the scan of the whole body tells, as is proved.
+ * 1 comes first, then 13 (`at` after end, or end after the message), then a fault of scanning that is met before a
+ * symbol is complete. */
+void rfc733_next_symbol(const uint8_t *message, size_t message_length, size_t at, size_t end,
+                        uint64_t *told, size_t told_length);
 
 /* The address list in the body of a message from start up to end, by an edition, 733 or 822: records of 12 bytes in the
  * table: kind, depth, then two bytes each, high byte first: parent's record number plus 1 or 0, start, end, name start,

@@ -9,6 +9,7 @@ from collections import namedtuple
 
 Field = namedtuple("Field", "name_start name_end body_start body_end")
 Address = namedtuple("Address", "kind depth parent start end name_start name_end")
+Symbol = namedtuple("Symbol", "kind start end length apart")
 Touched = namedtuple("Touched", "what path")
 Expanded = namedtuple("Expanded", "text openings")
 
@@ -88,6 +89,34 @@ def known_name(name):
     return function(*_lent(name))
 
 
+_KINDS = (None, "atom", "quoted", "at", "<", ">", ",", ";", ":", "other")
+
+
+def symbols(body):
+    """The symbols of a body, in order, as `Symbol`s, each found when it is asked for. Raises `Refused`.
+
+    kind: "atom", "quoted", "at" for "@" and the atom "at" in any case of letters, "<", ">", ",", ";", ":", or "other" for
+    a lone ")" or backslash.
+    length: that of its meaning in bytes: of a quoted-string without quotes, taking backslashes and dropped line ends.
+    apart: whether white space or a comment stands right before it.
+
+        list(symbols(b'<"a" b'))  # lengths 1, 1, 1; only the last is apart
+
+    A fault of scanning is raised after the symbols before it; a body over the limit is refused by 1 before any symbol.
+    """
+    lent, length = _lent(body)
+    told = (ctypes.c_uint64 * 7)()
+    at = 0
+    while True:
+        _load().rfc733_next_symbol(lent, length, ctypes.c_size_t(at), length, told, ctypes.c_size_t(7))
+        number, place, kind, start, at, meaning, apart = told
+        if number != 0:
+            raise Refused(number, place)
+        if kind == 0:
+            return
+        yield Symbol(_KINDS[kind], start, at, meaning, apart == 1)
+
+
 def _read_addresses(name, body, *edition):
     """What an address reader of the library gives for a body."""
     table = _written(name, body, (0, len(body), *edition), 12)
@@ -126,6 +155,17 @@ def plain(body):
         plain(b'"a\r\n b"')  # b'"a b"'
     """
     return _written("rfc733_plain", body, (0, len(body)), 1)
+
+
+def plain_length(body):
+    """How many bytes `plain` gives for an address list, told without writing them: its width in print. Raises `Refused`.
+
+        plain_length(b"a@(home) b,")  # 6, for a at b
+    """
+    told, _ = _call("rfc733_plain", body, (0, len(body)), 0)
+    if told[0] not in (0, 11):
+        raise Refused(told[0], told[1])
+    return told[2]
 
 
 def same_addresses(body, other):
