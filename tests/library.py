@@ -101,6 +101,17 @@ refused("neither is a list", lambda: equal(b"x", b"x"), 9, 1)
 refused("the first is no list", lambda: equal(b"a at b c", b"a@b"), 8, 7)
 refused("the second is no list", lambda: equal(b"a@b", b"<a at b"), 9, 7)
 refused("the first is asked first", lambda: equal(b"(", b"a at b c"), 6, 0)
+for body, length in (
+    (b"", 0), (b",,(c)", 0), (b"a@b", 6), (b"a AT (home) b,", 6), (b"a@b,,x<c @ d>", 18), (b":,A:;,B:;;", 12), (b'""', 2),
+    (b'"a\r\n b"', 5), (b'"a\\\r\n b"', 9), (b"<" * 64 + b">" * 64, 128), (b'"",' * 10922, 43686),
+):
+    same(f"plain_length({body[:40]!r})", rfc733.plain_length(body), length)
+    same(f"length of plain({body[:40]!r})", len(rfc733.plain(body)), length)
+for body, number, place in (
+    (b"x", 9, 1), (b"a at b c", 8, 7), (b"<" * 65, 10, 64), (b'a@b,"', 5, 4), (b"(", 6, 0), (b"a\n", 7, 1), (b"\x80", 3, 0),
+    (b"," * 32769, 1, 32768),
+):
+    refused(f"plain_length({body[:40]!r})", lambda: rfc733.plain_length(body), number, place)
 UNTOUCHED = 777
 THINGS = {"word": 1, "at": 2, "<": 4, ">": 8, "@": 16, ",": 32, ";": 64, ":": 128, "end": 256}
 
@@ -190,6 +201,141 @@ for length in range(7):
     told = all_told(*[8, 5, 0, 0, 1][:length])
     same(f"{length} numbers told, refused", c_touch(b"a at at", 3, told_length=length), (told, nothing))
 same("longest path", rfc733.touch(b"<" * 64 + b'"q"' + b">" * 64, 65), ("word", list(range(64, -1, -1))))
+SYMBOLS = (None, "atom", "quoted", "at", "<", ">", ",", ";", ":", "other")
+
+
+def c_next(message, at, end=None, told_length=7):
+    """All numbers told by the C function, and whether the message stayed; beforehand each number is UNTOUCHED."""
+    end = len(message) if end is None else end
+    told = (ctypes.c_uint64 * 9)(*[UNTOUCHED] * 9)
+    lent = ctypes.create_string_buffer(message, len(message) + 1)
+    sizes = [ctypes.c_size_t(size) for size in (len(message), at, end)]
+    rfc733._load().rfc733_next_symbol(lent, *sizes, told, ctypes.c_size_t(told_length))
+    return list(told), lent.raw == message + b"\0"
+
+
+def told_next(*numbers):
+    return list(numbers) + [UNTOUCHED] * (9 - len(numbers)), True
+
+
+def steps(body):
+    """The symbols in Python, and the fault after them."""
+    got = []
+    try:
+        for symbol in rfc733.symbols(body):
+            got.append(symbol)
+    except rfc733.Refused as fault:
+        return got, (fault.number, fault.place)
+    return got, (0, 0)
+
+
+def scanned(message, *lines, fault=(0, 0), start=0, end=None):
+    """The symbols of a body, each as the C example prints it, and the fault after them: by C from the end of the one before,
+    and from its own start, before which nothing is looked at; of a whole message in Python and by the example too."""
+    name, at, wanted = repr(message[:40]), start, []
+    for line in lines:
+        kind, first, last, length, *apart = line.split()
+        symbol = kind, int(first), int(last), int(length), apart == ["apart"]
+        numbers = SYMBOLS.index(kind), *symbol[1:4]
+        same(f"symbol of {name} from {at} on", c_next(message, at, end), told_next(0, 0, *numbers, int(symbol[4])))
+        same(f"symbol of {name} at {first}", c_next(message, symbol[1], end), told_next(0, 0, *numbers, 0))
+        wanted.append(symbol)
+        at = symbol[2]
+    same(f"behind the symbols of {name}", c_next(message, at, end), told_next(*fault, 0, 0, 0, 0, 0))
+    if start != 0 or end is not None:
+        return
+    same(f"symbols({name})", steps(message), (wanted, fault))
+    if b"\0" in message:
+        return
+    out = [*lines, "refused {} {}".format(*fault)] if fault != (0, 0) else lines
+    example = subprocess.run([root / "target/lib/example", "--symbols", message], capture_output=True, text=True)
+    status = 0 if fault == (0, 0) else 1
+    same(f"C example --symbols {name}", (example.returncode, example.stdout), (status, "".join(line + "\n" for line in out)))
+
+
+next_to = "atom 0 1 1", "quoted 1 4 1", "at 4 5 1", "< 5 6 1", "> 6 7 1", ", 7 8 1", "; 8 9 1", ": 9 10 1"
+scanned(b'a"b"@<>,;:)\\', *next_to, "other 10 11 1", "other 11 12 1")
+behind = "atom 1 2 1 apart", "quoted 3 6 1 apart", "at 7 8 1 apart", "< 9 10 1 apart", "> 11 12 1 apart"
+marks = ", 13 14 1 apart", "; 15 16 1 apart", ": 17 18 1 apart", "other 19 20 1 apart", "other 21 22 1 apart"
+scanned(b' a\t"b" @\t< > , ; : ) \\', *behind, *marks)
+ats = "at 0 2 2", "at 3 5 2 apart", "at 6 8 2 apart", "at 9 11 2 apart", "atom 12 15 3 apart", "atom 16 17 1 apart"
+scanned(b"at At aT AT ate a", *ats)
+scanned(b'"at"At"@"', "quoted 0 4 2", "at 4 6 2", "quoted 6 9 1")
+names_of_733 = "atom 0 8 8", "atom 29 32 3 apart", "at 33 35 2 apart", "atom 40 43 3 apart"
+scanned(b"Muhammed(I am (the) greatest)Ali at(the)WBA", *names_of_733)
+scanned(b"")
+scanned(b" \t\r\n (c)")
+# length of the meaning
+scanned(b'""', "quoted 0 2 0")
+scanned(b'"a\\"b\\\\"', "quoted 0 8 4")
+scanned(b'"a\r\n b"', "quoted 0 7 3")
+scanned(b'"a\\\r\n b"', "quoted 0 8 5")
+scanned(b'"\\\\\r\n\t"', "quoted 0 7 2")
+scanned(b'"\\\r\\\n "', "quoted 0 7 3")
+scanned(b'"\\\r\n"', "quoted 0 5 2")
+scanned(b'"\0\n\\\x7f"', "quoted 0 6 3")
+scanned(b'"(c)<>"', "quoted 0 7 5")
+scanned(b"a" * 32768, "atom 0 32768 32768")
+scanned(b'"' + b"\\b" * 16383 + b'"', "quoted 0 32768 16383")
+scanned(b'"' + b"\\\r\n b" * 6553 + b'"', "quoted 0 32767 26212")
+# whether white space or a comment stands right before
+scanned(b"a(c)b", "atom 0 1 1", "atom 4 5 1 apart")
+scanned(b"<x", "< 0 1 1", "atom 1 2 1")
+scanned(b"a,(b) c (d)e", "atom 0 1 1", ", 1 2 1", "atom 6 7 1 apart", "atom 11 12 1 apart")
+scanned(b"\r\n a\r\n\tb", "atom 3 4 1 apart", "atom 7 8 1 apart")
+scanned(b"(\\))a((b)(c))\\", "atom 4 5 1 apart", "other 13 14 1 apart")
+scanned(b"(a\\\r\n )b", "atom 7 8 1 apart")
+scanned(b"(a))\\ (b)", "other 3 4 1 apart", "other 4 5 1")
+scanned(b'"a""b" "c "d', "quoted 0 3 1", "quoted 3 6 1", "quoted 7 11 2 apart", "atom 11 12 1")
+scanned(b" " * 32767 + b",", ", 32767 32768 1 apart")
+# faults, behind the symbols before them
+scanned(b'a "', "atom 0 1 1", fault=(5, 2))
+scanned(b"a, ((b)", "atom 0 1 1", ", 1 2 1", fault=(6, 3))
+scanned(b"a(b) \x7f", "atom 0 1 1", fault=(7, 5))
+scanned(b"a\r\nb", "atom 0 1 1", fault=(7, 1))
+scanned(b"at\x80", "at 0 2 2", fault=(3, 2))
+scanned(b'"a" "\r"', "quoted 0 3 1", fault=(7, 5))
+scanned(b"(\xff)", fault=(3, 1))
+scanned(b"a" * 32769, fault=(1, 32768))
+# parts of a message: nothing outside of them is looked at
+scanned(b" a", "atom 1 2 1", start=1)
+scanned(b"(c)b", "atom 3 4 1", start=3)
+scanned(b"(c)b", "other 2 3 1", "atom 3 4 1", start=2)
+scanned(b"\r\n a", "atom 3 4 1 apart", start=2)
+scanned(b"\r\n a", "atom 3 4 1", start=3)
+scanned(b"\r\n a", fault=(7, 1), start=1)
+scanned(b'"\\"a"', "quoted 2 5 1", start=2)
+scanned(b"abc", "atom 1 2 1", start=1, end=2)
+scanned(b'x "a" y\x80', "quoted 2 5 1 apart", "atom 6 7 1 apart", start=1, end=7)
+scanned(b"a (b)", "atom 0 1 1", fault=(6, 2), end=4)
+scanned(b"a\r\n b", "atom 0 1 1", fault=(7, 1), end=3)
+scanned(b"a\r\n b", "atom 0 1 1", end=4)
+scanned(b"a\x80", start=1, end=1)
+scanned(b"ab", start=2, end=2)
+for message, at, end in (
+    (b"ab", 2, 1), (b"ab", 0, 3), (b"ab", 3, 3), (b"", 0, 1), (b"ab", 2**64 - 1, 2), (b"ab", 0, 2**64 - 1), (b"\x80", 0, 2),
+):
+    same(f"next symbol, positions {at} {end}", c_next(message, at, end), told_next(13, 0, 0, 0, 0, 0, 0))
+for at, end in ((0, 0), (0, 32769), (2, 1), (0, 32770)):
+    same(f"next symbol, too long, {at} {end}", c_next(b"\x80" * 32769, at, end), told_next(1, 32768, 0, 0, 0, 0, 0))
+for length in range(9):
+    for name, message, at, end, numbers in (
+        ("found", b'a "b\\"" c', 1, None, (0, 0, 2, 2, 7, 2, 1)),
+        ("at the end", b"a ", 1, None, (0, 0, 0, 0, 0, 0, 0)),
+        ("fault", b"a (", 1, None, (6, 2, 0, 0, 0, 0, 0)),
+        ("positions", b"a", 1, 0, (13, 0, 0, 0, 0, 0, 0)),
+        ("too long", b"a" * 32769, 0, None, (1, 32768, 0, 0, 0, 0, 0)),
+    ):
+        got = c_next(message, at, end, told_length=length)
+        same(f"next symbol, {name}, {length} numbers told", got, told_next(*numbers[:length]))
+found = rfc733.symbols(b"a (b)c \x80")
+same("the first symbol before a fault", next(found), ("atom", 0, 1, 1, False))
+same("fields of a symbol", next(found)._asdict(), {"kind": "atom", "start": 5, "end": 6, "length": 1, "apart": True})
+refused("the fault after two symbols", lambda: next(found), 3, 7)
+same("apart is true or false", repr([symbol.apart for symbol in rfc733.symbols(b"a b")]), "[False, True]")
+for arguments in ([], ["a", "b"]):
+    example = subprocess.run([root / "target/lib/example", "--symbols", *arguments], capture_output=True, text=True)
+    same(f"C example --symbols {arguments}", (example.returncode, example.stdout), (2, ""))
 
 
 def record(name, text=b""):

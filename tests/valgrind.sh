@@ -1,6 +1,6 @@
 #!/usr/bin/env bash
-# The C example under valgrind, with either address reader and either edition, touching a byte and expanding: no fault of
-# memory on lists that are accepted, refused, empty, deep and long.
+# The C example under valgrind, with either address reader and either edition, stepping through symbols, touching a byte and
+# expanding: no fault of memory on lists that are accepted, refused, empty, deep and long.
 set -u
 cd "$(dirname "$0")/.." || exit 2
 if ! command -v valgrind >/dev/null 2>&1; then
@@ -61,6 +61,20 @@ run "edition 822, more addresses than the table holds" 1 --edition 822 "$(times 
 run "edition 822, over 32,768 bytes" 1 --edition 822 "$(times ',' 32769)"
 run "edition 733" 0 --edition 733 'a.b at [c]'
 run "other edition" 1 --edition 66269 'a@b'
+run "symbols" 0 --symbols 'Cooks: Childs at WGBH;, "A\"l" (away (far)) <x>@)\'
+run "symbols, empty" 0 --symbols ''
+run "symbols, none" 0 --symbols ' (c) '
+run "symbols, folds" 0 --symbols $'\r\n a "b\\\r\n c\r\n\t"(\\\r\n )\r\n '
+run "symbols, open quote" 1 --symbols 'a "b'
+run "symbols, backslash at the end of an open quote" 1 --symbols 'a "\'
+run "symbols, fold cut off in an open quote" 1 --symbols $'"\\\r\n'
+run "symbols, open comment" 1 --symbols 'a (b(c)'
+run "symbols, backslash at the end of an open comment" 1 --symbols 'a (\'
+run "symbols, fold cut off" 1 --symbols $'at\r\n'
+run "symbols, CR at the end" 1 --symbols $'at\r'
+run "symbols, many" 0 --symbols "$(times 'a,' 16384)"
+run "symbols, long" 0 --symbols "\"$(times '\"' 16383)\""
+run "symbols, over 32,768 bytes" 1 --symbols "$(times ',' 32769)"
 run "touched" 0 --touch 4 'g:<a@b>,;'
 run "touched, no record" 0 --touch 0 '(x) "q"'
 run "touched at 64 levels" 0 --touch 65 "$(times '<' 64)\"q\"$(times '>' 64)"
