@@ -185,6 +185,279 @@ fn scanning(tally: &mut Tally) {
     }
 }
 
+/// All that is told by going from each symbol's end to the next symbol.
+fn walk(message: &[u8], start: usize, end: usize) -> Vec<reader::Step> {
+    let mut told = Vec::new();
+    let mut at = start;
+    loop {
+        let step = reader::next_symbol(message, at, end);
+        told.push(step);
+        if step[2] == 0 {
+            return told;
+        }
+        at = step[4] as usize;
+    }
+}
+
+/// Checks what is told of a body, by one scan and symbol by symbol, alone and
+/// within a message: class, start, end, length of the meaning and apart of
+/// each symbol, and last the fault or 0 0.
+fn told_of(tally: &mut Tally, body: &[u8], symbols: &[[u64; 5]], fault: [u64; 2]) {
+    let message = [b"(\" ", body, b")\""].concat();
+    let (start, end) = (3, 3 + body.len());
+    for shift in [0, 3] {
+        let told = |s: &[u64; 5]| [0, 0, s[0], s[1] + shift, s[2] + shift, s[3], s[4]];
+        let place = if fault[0] > 0 { fault[1] + shift } else { 0 };
+        let last = [fault[0], place, 0, 0, 0, 0, 0];
+        let wanted: Vec<_> = symbols.iter().map(told).chain([last]).collect();
+        let (once, by_symbol) = if shift == 0 {
+            (reader::steps(body, 0, body.len()), walk(body, 0, body.len()))
+        } else {
+            (reader::steps(&message, start, end), walk(&message, start, end))
+        };
+        let shown = String::from_utf8_lossy(body);
+        tally.same(&format!("symbols of {shown:?}"), once, wanted.clone());
+        tally.same(&format!("symbol by symbol {shown:?}"), by_symbol, wanted);
+    }
+}
+
+/// Classes, and what stands apart.
+fn told_apart(tally: &mut Tally) {
+    let cases: [(&[u8], &[[u64; 5]]); 43] = [
+        (b"", &[]),
+        (b"  \t", &[]),
+        (b"(c)", &[]),
+        (b" \r\n (\\))\r\n\t", &[]),
+        (b" a", &[[1, 1, 2, 1, 1]]),
+        (b"a ", &[[1, 0, 1, 1, 0]]),
+        (b"a(c)b", &[[1, 0, 1, 1, 0], [1, 4, 5, 1, 1]]),
+        (b"<x", &[[4, 0, 1, 1, 0], [1, 1, 2, 1, 0]]),
+        (b"< x", &[[4, 0, 1, 1, 0], [1, 2, 3, 1, 1]]),
+        (b"a\r\n b", &[[1, 0, 1, 1, 0], [1, 4, 5, 1, 1]]),
+        (b"a\r\n\tb", &[[1, 0, 1, 1, 0], [1, 4, 5, 1, 1]]),
+        (b"\r\n\tx", &[[1, 3, 4, 1, 1]]),
+        (b"a\r\n ", &[[1, 0, 1, 1, 0]]),
+        (b"a at B", &[[1, 0, 1, 1, 0], [3, 2, 4, 2, 1], [1, 5, 6, 1, 1]]),
+        (b"a@b", &[[1, 0, 1, 1, 0], [3, 1, 2, 1, 0], [1, 2, 3, 1, 0]]),
+        (b"a @b", &[[1, 0, 1, 1, 0], [3, 2, 3, 1, 1], [1, 3, 4, 1, 0]]),
+        (b"aT", &[[3, 0, 2, 2, 0]]),
+        (b"AT(c)", &[[3, 0, 2, 2, 0]]),
+        (b"att", &[[1, 0, 3, 3, 0]]),
+        (b"a.b[1]", &[[1, 0, 6, 6, 0]]),
+        (
+            b"<>,;:",
+            &[[4, 0, 1, 1, 0], [5, 1, 2, 1, 0], [6, 2, 3, 1, 0], [7, 3, 4, 1, 0], [8, 4, 5, 1, 0]],
+        ),
+        (
+            b"< > , ; :",
+            &[[4, 0, 1, 1, 0], [5, 2, 3, 1, 1], [6, 4, 5, 1, 1], [7, 6, 7, 1, 1], [8, 8, 9, 1, 1]],
+        ),
+        (b", ,,", &[[6, 0, 1, 1, 0], [6, 2, 3, 1, 1], [6, 3, 4, 1, 0]]),
+        (b":A:", &[[8, 0, 1, 1, 0], [1, 1, 2, 1, 0], [8, 2, 3, 1, 0]]),
+        (b")", &[[9, 0, 1, 1, 0]]),
+        (b"\\", &[[9, 0, 1, 1, 0]]),
+        (b")\\", &[[9, 0, 1, 1, 0], [9, 1, 2, 1, 0]]),
+        (b") (c) )", &[[9, 0, 1, 1, 0], [9, 6, 7, 1, 1]]),
+        (b"\\a", &[[9, 0, 1, 1, 0], [1, 1, 2, 1, 0]]),
+        (b"\\(c)a", &[[9, 0, 1, 1, 0], [1, 4, 5, 1, 1]]),
+        (b"\\\r\n a", &[[9, 0, 1, 1, 0], [1, 4, 5, 1, 1]]),
+        (b"\\\"a\"", &[[9, 0, 1, 1, 0], [2, 1, 4, 1, 0]]),
+        (b"a((b)c)d", &[[1, 0, 1, 1, 0], [1, 7, 8, 1, 1]]),
+        (b"a(b)c)d", &[[1, 0, 1, 1, 0], [1, 4, 5, 1, 1], [9, 5, 6, 1, 0], [1, 6, 7, 1, 0]]),
+        (b"a (b)c", &[[1, 0, 1, 1, 0], [1, 5, 6, 1, 1]]),
+        (b"a(b) c", &[[1, 0, 1, 1, 0], [1, 5, 6, 1, 1]]),
+        (b"(a)(b)c", &[[1, 6, 7, 1, 1]]),
+        (b"(\\)a)b", &[[1, 5, 6, 1, 1]]),
+        (b"(\")b", &[[1, 3, 4, 1, 1]]),
+        (b"(\\\r\n )a", &[[1, 6, 7, 1, 1]]),
+        (b"a\t(x)\r\n \tb", &[[1, 0, 1, 1, 0], [1, 9, 10, 1, 1]]),
+        (b"a()@()b", &[[1, 0, 1, 1, 0], [3, 3, 4, 1, 1], [1, 6, 7, 1, 1]]),
+        (
+            b"Pompous Person <W at C>",
+            &[
+                [1, 0, 7, 7, 0], [1, 8, 14, 6, 1], [4, 15, 16, 1, 1], [1, 16, 17, 1, 0],
+                [3, 18, 20, 2, 1], [1, 21, 22, 1, 1], [5, 22, 23, 1, 0],
+            ],
+        ),
+    ];
+    for (body, symbols) in cases {
+        told_of(tally, body, symbols, [0, 0]);
+    }
+}
+
+/// The length of a quoted-string's meaning.
+fn told_lengths(tally: &mut Tally) {
+    let cases: [(&[u8], u64); 26] = [
+        (b"\"\"", 0),
+        (b"\"at\"", 2),
+        (b"\"(a)\"", 3),
+        (b"\" \t \"", 3),
+        (b"\"\x00\t\x7F\n\"", 4),
+        (b"\"a\\\"b\\\\\"", 4),
+        (b"\"\\a\\b\"", 2),
+        (b"\"\\\\\"", 1),
+        (b"\"\\\\\\\\\"", 2),
+        (b"\"\\ \"", 1),
+        (b"\"a\r\n b\"", 3),
+        (b"\"\r\n \"", 1),
+        (b"\"\r\n \r\n\t\"", 2),
+        (b"\"a\\\r\n b\"", 5),
+        (b"\"\\\r\n \"", 3),
+        (b"\"\\\r\n\t\"", 3),
+        (b"\"\\\r\n \\\r\n \"", 6),
+        (b"\"\\\r\n \r\n \"", 4),
+        (b"\"\\\\\r\n \"", 2),
+        (b"\"\\\\\\\r\n\t\"", 4),
+        (b"\"\\\r\"", 1),
+        (b"\"\\\r\n\"", 2),
+        (b"\"\\\r\\\n\"", 2),
+        (b"\"\\\r\r\n \"", 2),
+        (b"\"\\\r\n\r\n \"", 3),
+        (b"\"\\\r\n \\\"\"", 4),
+    ];
+    for (body, length) in cases {
+        let end = body.len() as u64;
+        told_of(tally, body, &[[2, 0, end, length, 0]], [0, 0]);
+        let between = [b"\r\n\t", body, b"x"].concat();
+        let wanted = [[2, 3, 3 + end, length, 1], [1, 3 + end, 4 + end, 1, 0]];
+        told_of(tally, &between, &wanted, [0, 0]);
+    }
+    told_of(tally, b"\"a\"\"bc\"", &[[2, 0, 3, 1, 0], [2, 3, 7, 2, 0]], [0, 0]);
+    told_of(tally, b"\"\" \"\"", &[[2, 0, 2, 0, 0], [2, 3, 5, 0, 1]], [0, 0]);
+    let mixed = [[2, 0, 3, 1, 0], [1, 3, 5, 2, 0], [2, 5, 8, 1, 0]];
+    told_of(tally, b"\"a\"bc\"d\"", &mixed, [0, 0]);
+}
+
+/// Symbols before a fault, and the fault.
+fn told_faults(tally: &mut Tally) {
+    let a = [1, 0, 1, 1, 0];
+    let cases: [(&[u8], &[[u64; 5]], [u64; 2]); 27] = [
+        (b"\x00a", &[], [7, 0]),
+        (b"\x80", &[], [3, 0]),
+        (b"(\x80)", &[], [3, 1]),
+        (b"(\r)", &[], [7, 1]),
+        (b"(\")\"", &[], [5, 3]),
+        (b"\"\\\"", &[], [5, 0]),
+        (b"\"\\\r\n ", &[], [5, 0]),
+        (b"\"\\\r\n", &[], [5, 0]),
+        (b" (a(b)", &[], [6, 1]),
+        (b"a\x80", &[a], [3, 1]),
+        (b"a \xFF", &[a], [3, 2]),
+        (b"a\r", &[a], [7, 1]),
+        (b"a\r\n", &[a], [7, 1]),
+        (b"a\r\nb", &[a], [7, 1]),
+        (b"a\r\r\n b", &[a], [7, 1]),
+        (b"a\n b", &[a], [7, 1]),
+        (b"a\x7F", &[a], [7, 1]),
+        (b"a\"b", &[a], [5, 1]),
+        (b"a \"b", &[a], [5, 2]),
+        (b"a(b", &[a], [6, 1]),
+        (b"a ((b)", &[a], [6, 2]),
+        (b"a \"b\r\"", &[a], [7, 4]),
+        (b"a \"b\\\x80\"", &[a], [3, 5]),
+        (b"a\"\\\\\r\n\"", &[a], [7, 4]),
+        (b"\"a\"\x7F", &[[2, 0, 3, 1, 0]], [7, 3]),
+        (b"\\\ra", &[[9, 0, 1, 1, 0]], [7, 1]),
+        (b"a b,\t)\x80", &[a, [1, 2, 3, 1, 1], [6, 3, 4, 1, 0], [9, 5, 6, 1, 1]], [3, 6]),
+    ];
+    for (body, symbols, fault) in cases {
+        told_of(tally, body, symbols, fault);
+    }
+}
+
+/// The next symbol from any place up to any end.
+fn told_from(tally: &mut Tally) {
+    let end = [0; 7];
+    let quoted: &[u8] = b"\"\\\r\n \"x";
+    let cases: [(&[u8], usize, usize, reader::Step); 57] = [
+        (b" a", 0, 2, [0, 0, 1, 1, 2, 1, 1]),
+        (b" a", 1, 2, [0, 0, 1, 1, 2, 1, 0]),
+        (b" a", 0, 1, end),
+        (b" a", 0, 0, end),
+        (b" a", 2, 2, end),
+        (b"(c)a", 0, 4, [0, 0, 1, 3, 4, 1, 1]),
+        (b"(c)a", 1, 4, [0, 0, 1, 1, 2, 1, 0]),
+        (b"(c)a", 2, 4, [0, 0, 9, 2, 3, 1, 0]),
+        (b"(c)a", 3, 4, [0, 0, 1, 3, 4, 1, 0]),
+        (b"(c)a", 0, 3, end),
+        (b"(c)a", 0, 2, [6, 0, 0, 0, 0, 0, 0]),
+        (b"a(c)b", 0, 3, [0, 0, 1, 0, 1, 1, 0]),
+        (b"a(c)b", 1, 3, [6, 1, 0, 0, 0, 0, 0]),
+        (b"a(c)b", 1, 5, [0, 0, 1, 4, 5, 1, 1]),
+        (b"a((c)b)", 2, 7, [0, 0, 1, 5, 6, 1, 1]),
+        (b"a\r\n b", 1, 5, [0, 0, 1, 4, 5, 1, 1]),
+        (b"a\r\n b", 2, 5, [7, 2, 0, 0, 0, 0, 0]),
+        (b"a\r\n b", 3, 5, [0, 0, 1, 4, 5, 1, 1]),
+        (b"a\r\n b", 4, 5, [0, 0, 1, 4, 5, 1, 0]),
+        (b"a\r\n b", 1, 4, end),
+        (b"a\r\n b", 1, 3, [7, 1, 0, 0, 0, 0, 0]),
+        (b"a\r\n b", 1, 2, [7, 1, 0, 0, 0, 0, 0]),
+        (b"a\r\n b", 0, 3, [0, 0, 1, 0, 1, 1, 0]),
+        (b"\"a b\"", 1, 5, [0, 0, 1, 1, 2, 1, 0]),
+        (b"\"a b\"", 2, 5, [0, 0, 1, 3, 4, 1, 1]),
+        (b"\"a b\"", 4, 5, [5, 4, 0, 0, 0, 0, 0]),
+        (b"\"a b\"", 0, 4, [5, 0, 0, 0, 0, 0, 0]),
+        (b"cat", 0, 3, [0, 0, 1, 0, 3, 3, 0]),
+        (b"cat", 1, 3, [0, 0, 3, 1, 3, 2, 0]),
+        (b"cat", 0, 2, [0, 0, 1, 0, 2, 2, 0]),
+        (b"att", 0, 2, [0, 0, 3, 0, 2, 2, 0]),
+        (b"\\\"", 0, 2, [0, 0, 9, 0, 1, 1, 0]),
+        (b"\\\"", 1, 2, [5, 1, 0, 0, 0, 0, 0]),
+        (quoted, 0, 7, [0, 0, 2, 0, 6, 3, 0]),
+        (quoted, 0, 6, [0, 0, 2, 0, 6, 3, 0]),
+        (quoted, 0, 5, [5, 0, 0, 0, 0, 0, 0]),
+        (quoted, 0, 4, [5, 0, 0, 0, 0, 0, 0]),
+        (quoted, 1, 7, [0, 0, 9, 1, 2, 1, 0]),
+        (quoted, 2, 7, [5, 5, 0, 0, 0, 0, 0]),
+        (quoted, 2, 5, end),
+        (quoted, 2, 4, [7, 2, 0, 0, 0, 0, 0]),
+        (quoted, 3, 7, [7, 3, 0, 0, 0, 0, 0]),
+        (quoted, 4, 7, [5, 5, 0, 0, 0, 0, 0]),
+        (quoted, 6, 7, [0, 0, 1, 6, 7, 1, 0]),
+        (b"a\x80", 0, 2, [0, 0, 1, 0, 1, 1, 0]),
+        (b"a\x80", 1, 2, [3, 1, 0, 0, 0, 0, 0]),
+        (b"a\x80", 0, 1, [0, 0, 1, 0, 1, 1, 0]),
+        (b"a\x80", 2, 2, end),
+        (b"\x80b", 1, 2, [0, 0, 1, 1, 2, 1, 0]),
+        (b"abc", 3, 3, end),
+        (b"abc", 2, 1, [13, 0, 0, 0, 0, 0, 0]),
+        (b"abc", 0, 4, [13, 0, 0, 0, 0, 0, 0]),
+        (b"abc", 4, 4, [13, 0, 0, 0, 0, 0, 0]),
+        (b"abc", usize::MAX, 3, [13, 0, 0, 0, 0, 0, 0]),
+        (b"abc", 0, usize::MAX, [13, 0, 0, 0, 0, 0, 0]),
+        (b"", 0, 0, end),
+        (b"", 0, 1, [13, 0, 0, 0, 0, 0, 0]),
+    ];
+    for (message, at, end, wanted) in cases {
+        let what = format!("{:?} from {at} to {end}", String::from_utf8_lossy(message));
+        tally.same(&what, reader::next_symbol(message, at, end), wanted);
+    }
+}
+
+/// Messages as long as they may be, and longer ones.
+fn told_long(tally: &mut Tally) {
+    let from = |message: &[u8], at| reader::next_symbol(message, at, message.len());
+    let repeated = |text: &str| text.repeat(16_383);
+    let full = "a".repeat(32_768);
+    tally.same("long atom", from(full.as_bytes(), 0), [0, 0, 1, 0, 32_768, 32_768, 0]);
+    tally.same("its last byte", from(full.as_bytes(), 32_767), [0, 0, 1, 32_767, 32_768, 1, 0]);
+    let taken = ["\"", &repeated("\\a"), "\""].concat();
+    tally.same("all taken", from(taken.as_bytes(), 0), [0, 0, 2, 0, 32_768, 16_383, 0]);
+    let plain = ["\"", &repeated("ab"), "\""].concat();
+    tally.same("none taken", from(plain.as_bytes(), 0), [0, 0, 2, 0, 32_768, 32_766, 0]);
+    let deep = [&repeated("("), &repeated(")"), "a,"].concat();
+    tally.same("deep comment", from(deep.as_bytes(), 0), [0, 0, 1, 32_766, 32_767, 1, 1]);
+    tally.same("within it", from(deep.as_bytes(), 1), [0, 0, 9, 32_765, 32_766, 1, 1]);
+    let white = [&repeated(" \t"), "@ "].concat();
+    tally.same("white space", from(white.as_bytes(), 0), [0, 0, 3, 32_766, 32_767, 1, 1]);
+    let long = "a".repeat(32_769);
+    for (at, end) in [(0, 1), (0, 0), (2, 1), (0, 32_769), (0, 32_770), (usize::MAX, 0)] {
+        let told = reader::next_symbol(long.as_bytes(), at, end);
+        tally.same("too long", told, [1, 32_768, 0, 0, 0, 0, 0]);
+        tally.same("too long", reader::steps(long.as_bytes(), at, end), vec![told]);
+    }
+}
+
 fn writing(tally: &mut Tally) {
     let cases: [(&[u8], &[u8]); 9] = [
         (b"a@b,,c  AT\td", b"a at b, c at d"),
@@ -1156,6 +1429,11 @@ fn main() {
     levels(&mut tally);
     records(&mut tally);
     scanning(&mut tally);
+    told_apart(&mut tally);
+    told_lengths(&mut tally);
+    told_faults(&mut tally);
+    told_from(&mut tally);
+    told_long(&mut tally);
     writing(&mut tally);
     kept_line_ends(&mut tally);
     folds(&mut tally);

@@ -36,6 +36,7 @@ pub enum Kind {
     Bytes,
     Tokens,
     Symbols,
+    Spaced,
     List,
     Mutant,
     Deep,
@@ -54,16 +55,16 @@ pub enum Kind {
     Soup822,
 }
 
-pub const KINDS: [Kind; 19] = [
-    Kind::Bytes, Kind::Tokens, Kind::Symbols, Kind::List, Kind::Mutant, Kind::Deep,
+pub const KINDS: [Kind; 20] = [
+    Kind::Bytes, Kind::Tokens, Kind::Symbols, Kind::Spaced, Kind::List, Kind::Mutant, Kind::Deep,
     Kind::Waves, Kind::Long, Kind::Header, Kind::Date, Kind::DateMutant, Kind::Reply,
     Kind::Name, Kind::Exchange, Kind::Pair, Kind::Expansion, Kind::List822, Kind::Mutant822,
     Kind::Soup822,
 ];
 
 /// How often each kind is made, of 1,000.
-const WEIGHTS: [usize; 19] =
-    [30, 70, 80, 65, 88, 70, 60, 4, 46, 35, 35, 14, 5, 62, 50, 76, 85, 75, 50];
+const WEIGHTS: [usize; 20] =
+    [30, 60, 70, 60, 60, 78, 70, 60, 4, 41, 30, 30, 14, 5, 62, 50, 76, 80, 70, 50];
 
 /// Chooses the place of a kind in `KINDS`.
 pub fn choose(rng: &mut Rng) -> usize {
@@ -83,6 +84,7 @@ pub fn body(rng: &mut Rng, kind: Kind) -> Vec<u8> {
         Kind::Bytes => bytes(rng, 40),
         Kind::Tokens => tokens(rng),
         Kind::Symbols => symbols(rng),
+        Kind::Spaced => spaced(rng).0,
         Kind::List => list(rng),
         Kind::Mutant => {
             let valid = list(rng);
@@ -142,7 +144,13 @@ fn quoted(rng: &mut Rng) -> Vec<u8> {
     if !rng.once_in(3) {
         return rng.pick(&QUOTED).to_vec();
     }
-    let inner: Vec<u8> = (0..1 + rng.below(4)).flat_map(|_| rng.pick(&PIECES).to_vec()).collect();
+    let pieces = 1 + rng.below(4);
+    quoted_of(rng, pieces)
+}
+
+/// A quoted-string of so many pieces.
+fn quoted_of(rng: &mut Rng, pieces: usize) -> Vec<u8> {
+    let inner: Vec<u8> = (0..pieces).flat_map(|_| rng.pick(&PIECES).to_vec()).collect();
     [b"\"", &inner[..], b"\""].concat()
 }
 
@@ -191,6 +199,102 @@ fn symbols(rng: &mut Rng) -> Vec<u8> {
         }
     }
     parts.join(&b' ')
+}
+
+// -------------------------------------------------------- spaced symbols
+
+/// Symbols that are no word, with their classes.
+const SINGLES: [(&[u8], u64); 11] = [
+    (b"at", 3), (b"AT", 3), (b"aT", 3), (b"@", 3), (b"<", 4), (b">", 5), (b",", 6), (b";", 7),
+    (b":", 8), (b")", 9), (b"\\", 9),
+];
+
+/// Faults whatever follows, with number and place.
+const BROKEN: [(&[u8], u64, u64); 14] = [
+    (b"\x80", 3, 0), (b"\xFF", 3, 0), (b"\x00", 7, 0), (b"\n", 7, 0), (b"\x7F", 7, 0),
+    (b"\rx", 7, 0), (b"\r\nx", 7, 0), (b"\r\r\n ", 7, 0), (b"\"a\rx", 7, 2), (b"\"\\\x80", 3, 2),
+    (b"\"\\\\\rx", 7, 3), (b"\"\\\r\n \xFF", 3, 5), (b"(\rx", 7, 1), (b"(a\\\xFF", 3, 3),
+];
+
+/// Quoted-strings and comments that are not closed, with their numbers.
+const UNCLOSED: [(&[u8], u64); 12] = [
+    (b"\"", 5), (b"\"a b", 5), (b"\"\\\"", 5), (b"\"\\", 5), (b"\"\\\r\n ", 5), (b"\"\\\r\n", 5),
+    (b"\"(a)", 5), (b"(", 6), (b"(a(b)", 6), (b"(\\)", 6), (b"(\"\"", 6), (b"(\\\r\n \\)", 6),
+];
+
+/// White space, folds and comments; now and then nothing.
+fn gap(rng: &mut Rng) -> Vec<u8> {
+    let mut out = Vec::new();
+    for _ in 0..rng.below(4) {
+        if rng.once_in(4) {
+            out.extend(comment(rng));
+        } else {
+            out.extend_from_slice(rng.pick(&SPACES));
+        }
+    }
+    out
+}
+
+/// A symbol, its class, and the length of its meaning.
+fn single(rng: &mut Rng) -> (Vec<u8>, u64, usize) {
+    let (token, class) = match rng.below(8) {
+        0 if rng.once_in(20) => {
+            let least = if rng.once_in(6) { 16_384 } else { 3 };
+            (vec![b'a'; least + rng.below(600)], 1)
+        }
+        0..=1 => (rng.pick(&WORDS).to_vec(), 1),
+        2 if rng.once_in(20) => {
+            let pieces = rng.below(400);
+            (quoted_of(rng, pieces), 2)
+        }
+        2..=4 => (quoted(rng), 2),
+        _ => {
+            let (token, class) = SINGLES[rng.below(SINGLES.len())];
+            (token.to_vec(), class)
+        }
+    };
+    let length = data(&token).len();
+    (token, class, length)
+}
+
+/// Symbols with gaps between them, now and then a fault behind them: the body,
+/// and what is told of each symbol, and last of the fault or the end.
+pub fn spaced(rng: &mut Rng) -> (Vec<u8>, Vec<[u64; 7]>) {
+    let (mut out, mut told) = (Vec::new(), Vec::new());
+    let tight = rng.once_in(2);
+    for _ in 0..rng.below(12) {
+        let before = out.len();
+        if !tight || rng.once_in(4) {
+            out.extend(gap(rng));
+        }
+        let (token, class, length) = single(rng);
+        if touches(out.last()) && touches(token.first()) {
+            out.extend_from_slice(rng.pick(&SPACES));
+        }
+        let (start, apart) = (out.len() as u64, u64::from(out.len() > before));
+        out.extend(token);
+        told.push([0, 0, class, start, out.len() as u64, length as u64, apart]);
+    }
+    if rng.once_in(2) {
+        out.extend(gap(rng));
+    }
+    let place = out.len() as u64;
+    let (number, position) = match rng.below(6) {
+        0 => {
+            let (fault, number, within) = BROKEN[rng.below(BROKEN.len())];
+            out.extend_from_slice(fault);
+            out.extend(tokens(rng));
+            (number, place + within)
+        }
+        1 => {
+            let (fault, number) = UNCLOSED[rng.below(UNCLOSED.len())];
+            out.extend_from_slice(fault);
+            (number, place)
+        }
+        _ => (0, 0),
+    };
+    told.push([number, position, 0, 0, 0, 0, 0]);
+    (out, told)
 }
 
 // ---------------------------------------------------------------- lists
@@ -373,7 +477,8 @@ fn deep(rng: &mut Rng) -> Vec<u8> {
     add(&mut out, rng.pick(&deepest));
     closers.reverse();
     if rng.once_in(5) {
-        closers.truncate(rng.below(closers.len() + 1));
+        let kept = if rng.once_in(2) { 0 } else { rng.below(closers.len() + 1) };
+        closers.truncate(kept);
     }
     out.append(&mut closers);
     let compact = !rng.once_in(4);
@@ -530,10 +635,29 @@ fn many(rng: &mut Rng) -> Vec<u8> {
     if rng.once_in(4) { mutate(rng, out) } else { out }
 }
 
+/// A quoted-string, or a comment and one, as long as a message or nearly so.
+fn long_symbol(rng: &mut Rng) -> Vec<u8> {
+    let target = 32_758 + rng.below(14);
+    let mut out = Vec::new();
+    if rng.once_in(3) {
+        let length = 2 + rng.below(target - 100);
+        out = filling_comment(rng, length);
+    }
+    out.push(b'"');
+    while out.len() + 5 < target {
+        out.extend_from_slice(rng.pick(&PIECES));
+    }
+    out.resize(target - 1, b'a');
+    out.push(b'"');
+    out
+}
+
 /// Bodies up to and just past the longest message, or of many addresses.
 fn long(rng: &mut Rng) -> Vec<u8> {
-    if rng.once_in(3) {
-        return many(rng);
+    match rng.below(6) {
+        0 | 1 => return many(rng),
+        2 => return long_symbol(rng),
+        _ => {}
     }
     let units: [&[u8]; 20] = [
         b"\"\",", b"a@b,", b"<>,", b"x ", b"(", b",", b" ", b"\r\n ", b":A:", b"@b", b"a:;,", b"\\",
@@ -1784,6 +1908,27 @@ pub fn touched(rng: &mut Rng, message: &[u8], start: usize, end: usize) -> usize
         (6..=11, Some(i)) => start + i,
         _ => start.wrapping_add(rng.below(body.len())),
     }
+}
+
+/// From where, and up to where, to look for a symbol: most often within the
+/// body, also within what it holds, and out of order or past the message.
+pub fn stretch(rng: &mut Rng, message: &[u8], start: usize, end: usize) -> (usize, usize) {
+    let at = touched(rng, message, start, end).wrapping_add(rng.below(2));
+    let any = message.len() + 3;
+    let up_to = match rng.below(8) {
+        0 => touched(rng, message, start, end),
+        1 => at.wrapping_add(rng.below(12)),
+        2 => rng.below(any),
+        3 if rng.once_in(4) => rng.next() as usize,
+        3 => message.len(),
+        _ => end,
+    };
+    (at, up_to)
+}
+
+/// The length of an array lent for what is told in a step, seven numbers.
+pub fn told_length(rng: &mut Rng) -> usize {
+    if rng.once_in(3) { rng.below(10) } else { 7 }
 }
 
 /// The length of an array lent for a path; most paths are short.

@@ -4,11 +4,13 @@
 mod inputs;
 mod reader;
 mod reader822;
+mod steps;
 
 use inputs::{Kind, Rng};
 use reader::Told;
 use std::fmt::Debug;
 use std::time::{Duration, Instant};
+use steps::Steps;
 
 extern "C" {
     fn rfc733_split(
@@ -49,6 +51,10 @@ extern "C" {
     fn rfc733_touch(
         message: *const u8, message_len: usize, start: usize, end: usize, place: usize,
         path: *mut u64, path_len: usize,
+        told: *mut u64, told_len: usize,
+    );
+    fn rfc733_next_symbol(
+        message: *const u8, message_len: usize, at: usize, end: usize,
         told: *mut u64, told_len: usize,
     );
     fn rfc733_reply(
@@ -145,6 +151,12 @@ mod proved {
         let (m, s) = ((message.as_ptr(), message.len()), (store.as_ptr(), store.len()));
         let (out, t) = ((text.as_mut_ptr(), text.len()), (told.as_mut_ptr(), told.len()));
         unsafe { rfc733_expand(m.0, m.1, start, end, s.0, s.1, out.0, out.1, t.0, t.1) }
+    }
+
+    /// Fills the lent array of numbers told.
+    pub fn next_symbol(message: &[u8], at: usize, end: usize, told: &mut [u64]) {
+        let (m, t) = ((message.as_ptr(), message.len()), (told.as_mut_ptr(), told.len()));
+        unsafe { rfc733_next_symbol(m.0, m.1, at, end, t.0, t.1) }
     }
 
     pub fn reply(reply: &[u8], from: &[u8]) -> u32 {
@@ -424,6 +436,7 @@ fn compare_body(rng: &mut Rng, case: &Case, seen: &mut Seen) -> u64 {
         round_trip(case);
     }
     seen.count_folds(case, told.number);
+    steps::compare_steps(rng, case, &mut seen.steps);
     compare_touch(rng, case, told.number, &mut seen.touches);
     let edition = inputs::edition(rng);
     compare_edition(rng, case, edition, &mut seen.editions);
@@ -699,6 +712,7 @@ fn is_refused(store: &[u8], record: usize, number: u64) -> bool {
 /// and on what.
 #[derive(Default)]
 struct Seen {
+    steps: Steps,
     touches: Touches,
     expansions: Expansions,
     editions: Editions,
@@ -756,6 +770,7 @@ impl Seen {
         all.push(("fold behind a backslash, cut off".to_string(), self.cut_folds));
         all.push(("line end kept in one, other pairs".to_string(), self.kept_in_one[0]));
         all.push(("line end kept in one, same pairs".to_string(), self.kept_in_one[1]));
+        all.extend(self.steps.tallies());
         all.extend(self.touches.tallies());
         all.extend(self.expansions.tallies());
         all.extend(self.editions.tallies());
@@ -813,7 +828,7 @@ fn compare_exchange(rng: &mut Rng, case: &Case, seen: &mut Seen) -> u64 {
     }
     let (from, behind) = spans[rng.below(spans.len())];
     let room = LONGEST - case.message.len() + behind - from;
-    let fill = rng.once_in(200);
+    let fill = rng.once_in(100);
     let comment = if fill { inputs::filling_comment(rng, room) } else { inputs::comment(rng) };
     check_comment(case, &case.message[from..behind]);
     check_comment(case, &comment);
@@ -827,6 +842,10 @@ fn compare_exchange(rng: &mut Rng, case: &Case, seen: &mut Seen) -> u64 {
     let (before, after) = (proved_kept(case), proved_kept(&other));
     if before != after {
         break_law(case, &other, "exchange of a comment, after and before", &after, &before);
+    }
+    let (before, after) = (steps::proved_symbols(case), steps::proved_symbols(&other));
+    if before != after {
+        break_law(case, &other, "symbols after an exchange, and before", &after, &before);
     }
     seen.exchanged[number as usize] += 1;
     seen.nested += u64::from(spans.iter().any(|s| s.0 < from && behind < s.1));
@@ -891,6 +910,9 @@ fn one_input(rng: &mut Rng, seed: u64, kind: Kind, seen: &mut Seen) -> u64 {
     if kind == Kind::List822 {
         return compare_derived(rng, seed, seen);
     }
+    if kind == Kind::Spaced {
+        return steps::compare_spaced(rng, seed, seen);
+    }
     let body = inputs::body(rng, kind);
     let whole = Case { seed, kind, message: &body, start: 0, end: body.len() };
     match kind {
@@ -898,6 +920,7 @@ fn one_input(rng: &mut Rng, seed: u64, kind: Kind, seen: &mut Seen) -> u64 {
         Kind::Name => compare_name(&whole, &body),
         Kind::Reply => {
             let from = inputs::body(rng, Kind::Tokens);
+            steps::compare_steps(rng, &whole, &mut seen.steps);
             compare_reply(&whole, &from)
         }
         _ => {

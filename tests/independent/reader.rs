@@ -144,6 +144,8 @@ pub struct Symbol {
     end: usize,
     /// The bytes of an atom or mark, the data of a quoted-string.
     meaning: Vec<u8>,
+    /// Whether white space or a comment is right before it.
+    apart: bool,
 }
 
 /// A byte together with its place in the message.
@@ -172,40 +174,64 @@ fn is_atom_byte(byte: u8) -> bool {
     (33..=126).contains(&byte) && !is_special(byte)
 }
 
-/// Checks length and positions, then cuts the body into symbols.
-fn symbols(message: &[u8], start: usize, end: usize) -> Result<Vec<Symbol>, Fault> {
+/// Checks length and positions, then unfolds the body.
+fn placed(message: &[u8], start: usize, end: usize) -> Result<Vec<Placed>, Fault> {
     if message.len() > LONGEST {
         return Err((1, LONGEST));
     }
     if start > end || end > message.len() {
         return Err((13, 0));
     }
-    cut(&unfold(message, start, end))
+    Ok(unfold(message, start, end))
 }
 
-fn cut(bytes: &[Placed]) -> Result<Vec<Symbol>, Fault> {
+/// The symbols of a body, or its first fault.
+fn symbols(message: &[u8], start: usize, end: usize) -> Result<Vec<Symbol>, Fault> {
+    let (found, fault) = cut(&placed(message, start, end)?);
+    fault.map_or(Ok(found), Err)
+}
+
+/// The symbols up to the end or the first fault, and that fault.
+fn cut(bytes: &[Placed]) -> (Vec<Symbol>, Option<Fault>) {
     let mut found = Vec::new();
+    let mut apart = false;
     let mut i = 0;
     while i < bytes.len() {
-        let (place, byte) = bytes[i];
-        match byte {
-            128..=255 => return Err((3, place)),
-            b' ' | b'\t' => i += 1,
-            0..=31 | 127 => return Err((7, place)),
-            b'(' => i = comment_end(bytes, i)?,
-            b'"' => {
-                let (symbol, after) = quoted(bytes, i)?;
-                found.push(symbol);
-                i = after;
-            }
-            _ => {
-                let run = bytes[i..].iter().take_while(|b| is_atom_byte(b.1)).count();
-                found.push(unquoted(&bytes[i..i + run.max(1)]));
-                i += run.max(1);
+        let (symbol, next) = match piece(bytes, i) {
+            Err(fault) => return (found, Some(fault)),
+            Ok(piece) => piece,
+        };
+        match symbol {
+            None => apart = true,
+            Some(symbol) => {
+                found.push(Symbol { apart, ..symbol });
+                apart = false;
             }
         }
+        i = next;
     }
-    Ok(found)
+    (found, None)
+}
+
+/// What stands at `i`, outside quotes and comments: a symbol, or `None` for
+/// white space and comments; and the index behind it.
+fn piece(bytes: &[Placed], i: usize) -> Result<(Option<Symbol>, usize), Fault> {
+    let (place, byte) = bytes[i];
+    match byte {
+        128..=255 => Err((3, place)),
+        b' ' | b'\t' => Ok((None, i + 1)),
+        0..=31 | 127 => Err((7, place)),
+        b'(' => Ok((None, comment_end(bytes, i)?)),
+        b'"' => {
+            let (symbol, after) = quoted(bytes, i)?;
+            Ok((Some(symbol), after))
+        }
+        _ => {
+            let run = bytes[i..].iter().take_while(|b| is_atom_byte(b.1)).count();
+            let after = i + run.max(1);
+            Ok((Some(unquoted(&bytes[i..after])), after))
+        }
+    }
 }
 
 /// An atom or a single special.
@@ -218,7 +244,8 @@ fn unquoted(bytes: &[Placed]) -> Symbol {
     } else {
         Sort::Atom
     };
-    Symbol { sort, start: bytes[0].0, end: bytes[bytes.len() - 1].0 + 1, meaning }
+    let (start, end) = (bytes[0].0, bytes[bytes.len() - 1].0 + 1);
+    Symbol { sort, start, end, meaning, apart: false }
 }
 
 /// One step inside quotes or a comment: the byte, whether a backslash took
@@ -261,7 +288,8 @@ pub fn quoted(bytes: &[Placed], open: usize) -> Result<(Symbol, usize), Fault> {
     while let Some((byte, taken, next)) = inner_step(bytes, i)? {
         if byte == b'"' && !taken {
             let end = bytes[i].0 + 1;
-            return Ok((Symbol { sort: Sort::Quoted, start, end, meaning }, next));
+            let symbol = Symbol { sort: Sort::Quoted, start, end, meaning, apart: false };
+            return Ok((symbol, next));
         }
         if taken && bytes[i + 1].0 > bytes[i].0 + 1 {
             meaning.extend([CR, LF]);
@@ -283,6 +311,67 @@ pub fn scan(message: &[u8], start: usize, end: usize) -> Told {
 /// The meaning of the first symbol of a body that scans without fault.
 pub fn meaning(message: &[u8], start: usize, end: usize) -> Option<Vec<u8>> {
     Some(symbols(message, start, end).ok()?.first()?.meaning.clone())
+}
+
+/// The classes of symbols by their numbers; 0 where there is no symbol.
+pub const CLASSES: [&str; 10] =
+    ["the end", "atom", "quoted-string", "at", "<", ">", ",", ";", ":", "another"];
+
+/// What is told in a step: number and position of a fault; class, start, end,
+/// length of the meaning, and whether it stands apart, of a symbol.
+pub type Step = [u64; 7];
+
+/// Tells a symbol.
+fn told_symbol(symbol: &Symbol) -> Step {
+    let class = match symbol.sort {
+        Sort::Atom => 1,
+        Sort::Quoted => 2,
+        Sort::At => 3,
+        Sort::Mark(b'<') => 4,
+        Sort::Mark(b'>') => 5,
+        Sort::Mark(b',') => 6,
+        Sort::Mark(b';') => 7,
+        Sort::Mark(b':') => 8,
+        Sort::Mark(_) => 9,
+    };
+    let (start, end, length) = (symbol.start, symbol.end, symbol.meaning.len());
+    [0, 0, class, start as u64, end as u64, length as u64, u64::from(symbol.apart)]
+}
+
+/// Tells a fault, or the end.
+fn told_last(fault: Option<Fault>) -> Step {
+    let (number, position) = fault.unwrap_or((0, 0));
+    [number, position as u64, 0, 0, 0, 0, 0]
+}
+
+/// All that is told of a body by scanning it once: its symbols, and last the
+/// fault or the end.
+pub fn steps(message: &[u8], start: usize, end: usize) -> Vec<Step> {
+    let (found, fault) = match placed(message, start, end) {
+        Err(fault) => (vec![], Some(fault)),
+        Ok(bytes) => cut(&bytes),
+    };
+    found.iter().map(told_symbol).chain([told_last(fault)]).collect()
+}
+
+/// The next symbol from `at` on. It stands apart exactly if something was
+/// passed over on the way to it.
+pub fn next_symbol(message: &[u8], at: usize, end: usize) -> Step {
+    let first = |bytes: Vec<Placed>| {
+        let mut i = 0;
+        while i < bytes.len() {
+            match piece(&bytes, i)? {
+                (None, next) => i = next,
+                (Some(symbol), _) => return Ok(Some(Symbol { apart: i > 0, ..symbol })),
+            }
+        }
+        Ok(None)
+    };
+    match placed(message, at, end).and_then(first) {
+        Err(fault) => told_last(Some(fault)),
+        Ok(None) => told_last(None),
+        Ok(Some(symbol)) => told_symbol(&symbol),
+    }
 }
 
 /// The comments of a body, nested ones too, that are closed before the first
@@ -754,7 +843,7 @@ fn names(before: &[Symbol]) -> u64 {
     let mut tried = before.to_vec();
     let mut goes_on = |text: &str| {
         let placed: Vec<Placed> = text.bytes().map(|byte| (0, byte)).collect();
-        tried.extend(cut(&placed).unwrap_or_default());
+        tried.extend(cut(&placed).0);
         let taken = run(&tried).is_ok();
         tried.truncate(before.len());
         taken
