@@ -1,12 +1,9 @@
 // The targets, each by its worst figure, as text.
-use crate::inputs::{Work, LARGEST, MIDDLE, ONCE, SHORT_MAILBOXES, SHORT_SIZE, TWICE};
+use crate::inputs::{Work, LARGEST, MIDDLE, ONCE, SHORT_MAILBOXES, TWICE};
 use crate::readers::{ETPAN, EXPERT, GMIME, NO_ALARMS, PROVED};
 use crate::report::{beside, cells, Cost, Row};
 
 const INSTRUCTIONS: f64 = 45.0;
-const TO_BEFORE: f64 = 0.6;
-const SHORT_TO_BEFORE: f64 = 0.5;
-const PLAIN_AND_SPLIT_TO_BEFORE: f64 = 0.7;
 const TO_EXPERT: f64 = 1.5;
 const FASTER_THAN_CCLIENT: f64 = 4.0;
 const FASTER_THAN_OTHERS: f64 = 8.0;
@@ -134,14 +131,9 @@ fn first(rows: &[Row], of: impl Fn(Work) -> bool) -> Vec<&Row> {
 
 fn address_targets(rows: &[Row]) {
     let lists = first(rows, |work| matches!(work, Work::Common(_) | Work::List733));
-    let of_size = |size| lists.iter().filter(move |row| row.size == size);
-    let counted = of_size(MIDDLE).filter(|row| row.name() != SHORT_MAILBOXES);
+    let counted = lists.iter().filter(|row| row.size == MIDDLE && row.name() != SHORT_MAILBOXES);
     let counted = counted.filter_map(|row| Figure::of(row, COUNT(&row.cost)));
     by_name(&format!("at most {INSTRUCTIONS} instructions a byte at 8 kB"), Limit::AtMost(INSTRUCTIONS), counted);
-    for (size, name, times) in [(MIDDLE, "8 kB", TO_BEFORE), (SHORT_SIZE, "300 bytes", SHORT_TO_BEFORE)] {
-        let figures = of_size(size).filter_map(|row| Figure::of(row, to_before(row, TIME)));
-        by_name(&format!("at {name} at most {times} times the time before"), Limit::AtMost(times), figures);
-    }
     for (name, measure) in [("instructions", COUNT), ("time", TIME)] {
         let what = format!("at most {TO_EXPERT} times the {name} of the expert's two passes");
         let figures = lists.iter().filter_map(|row| Figure::of(row, to_expert(rows, row, measure)));
@@ -156,13 +148,6 @@ fn address_targets(rows: &[Row]) {
 fn faster_target(rows: &[Row], lists: &[&Row], name: &str, library: &str, times: f64) {
     let figures = lists.iter().filter_map(|row| Figure::of(row, times_less(rows, row, library, TIME)));
     by_name(&format!("at least {times} times faster than {name}"), Limit::AtLeast(times), figures);
-}
-
-fn plain_and_split_target(rows: &[Row]) {
-    let what = format!("plain writing and split take at most {PLAIN_AND_SPLIT_TO_BEFORE} times the time before");
-    let works = first(rows, |work| matches!(work, Work::Plain | Work::Split));
-    let figures = works.iter().filter_map(|row| Figure::of(row, to_before(row, TIME)));
-    by_name(&what, Limit::AtMost(PLAIN_AND_SPLIT_TO_BEFORE), figures);
 }
 
 // The most stack of each function, from the table that bench/stack.c prints.
@@ -236,7 +221,6 @@ fn meeting(rows: &[Row]) {
 pub fn targets(rows: &[Row], stack: &str) {
     println!("| target | covers | worst | verdict |\n|---|---|---|---|");
     address_targets(rows);
-    plain_and_split_target(rows);
     stack_targets(stack);
     growth_targets(rows);
     before_target(rows);

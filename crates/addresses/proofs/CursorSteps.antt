@@ -10,7 +10,7 @@ use lib.ListN.{length, getD}
 use Rattle.octets.specs.Believed.Numbers.{noListGoesOn, endsTooSoon}
 use Rattle.scanner.specs.Believed.Scanning.{scanBy}
 use Rattle.scanner.specs.Believed.Answers.{foundAt, nextOf}
-use Rattle.scanner.specs.Ties.Cursors.{cursorSize, faultNumber, placed, moved, behindSymbol, aheadOf, nextFrom, apartIn, nextIn}
+use Rattle.scanner.specs.Ties.Cursors.{cursorSize, faultNumber, placed, moved, fromEnd, aheadOf, nextFrom, apartIn, nextIn}
 use Rattle.scanner.specs.Ties.Steps.{outsideAt}
 use Rattle.scanner.specs.declared.Next.{Next}
 use Rattle.scanner.specs.declared.cursor.Ahead.{Ahead}
@@ -102,7 +102,7 @@ module _ (classes text : List ℕ) where
     pub last-kept : lastIn after ≡ lastIn before
     pub sized : length after ≡ cursorSize
 
-  pub stepped : (before : List ℕ) {after : List ℕ} → length before ≡ cursorSize → after ≡ moved (nextOf (scanBy classes text (getD before 2 0))) (behindSymbol before) → Stepped before after
+  pub stepped : (before : List ℕ) {after : List ℕ} → length before ≡ cursorSize → after ≡ moved (nextOf (scanBy classes text (getD before 2 0))) (fromEnd before) → Stepped before after
   stepped before {after} l e =
       let x = leads-on before l (outsideAt classes text (getD before 2 0)) e in
       record { next = next-is classes text (getD before 2 0) (nextIn after) (x .ahead); free-kept = x .sixth; last-kept = x .seventh; sized = x .sized }

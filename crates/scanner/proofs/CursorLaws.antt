@@ -7,7 +7,7 @@ use lib.Dec.{ltb}
 use lib.ListN.{length, set, getD}
 use Rattle.scanner.specs.Believed.Scanning.{Scanned, ended, next, faultAt, parted}
 use Rattle.scanner.specs.Believed.Answers.{nextOf}
-use Rattle.scanner.specs.Ties.Cursors.{cursorSize, classNumber, endNumber, faultNumber, placed, moved, behindSymbol, aheadOf, nextFrom, nextIn}
+use Rattle.scanner.specs.Ties.Cursors.{cursorSize, classNumber, endNumber, faultNumber, placed, moved, fromEnd, aheadOf, nextFrom, nextIn}
 use Rattle.scanner.specs.declared.Class.{Class}
 use Rattle.scanner.specs.declared.Class.the-variants.{Atom, Quoted, At, LessThan, GreaterThan, Comma, Semicolon, Colon, Stray, Dot, Literal}
 use Rattle.scanner.specs.declared.Next.{Next}
@@ -49,13 +49,13 @@ pub record Leads (before after : List ℕ) (next : Next) : Type 0 where
 
 -- .. looked for from the end of its symbol
 leads-placed : (cursor : List ℕ) → length cursor ≡ cursorSize → (number start end size : ℕ)
-    → Leads cursor (placed number start end size (behindSymbol cursor)) (nextFrom (aheadOf number) start end size (ltb (getD cursor 2 0) start))
+    → Leads cursor (placed number start end size (fromEnd cursor)) (nextFrom (aheadOf number) start end size (ltb (getD cursor 2 0) start))
 unfolding nextIn
 leads-placed cursor l number start end size =
-    each-cursor (λ x. Leads x (placed number start end size (behindSymbol x)) (nextFrom (aheadOf number) start end size (ltb (getD x 2 0) start))) (λ a b c d e f g. record { ahead = refl; sixth = refl; seventh = refl; sized = refl }) cursor l
+    each-cursor (λ x. Leads x (placed number start end size (fromEnd x)) (nextFrom (aheadOf number) start end size (ltb (getD x 2 0) start))) (λ a b c d e f g. record { ahead = refl; sixth = refl; seventh = refl; sized = refl }) cursor l
 
 -- .. after it has moved on
-pub leads-on : (cursor : List ℕ) → length cursor ≡ cursorSize → {after : List ℕ} (s : Scanned) → after ≡ moved (nextOf (parted (getD cursor 2 0) s)) (behindSymbol cursor) → Leads cursor after (nextOf (parted (getD cursor 2 0) s))
+pub leads-on : (cursor : List ℕ) → length cursor ≡ cursorSize → {after : List ℕ} (s : Scanned) → after ≡ moved (nextOf (parted (getD cursor 2 0) s)) (fromEnd cursor) → Leads cursor after (nextOf (parted (getD cursor 2 0) s))
 unfolding aheadOf parted
 leads-on cursor l ended e = rw e (leads-placed cursor l endNumber 0 0 0)
 leads-on cursor l (next x rest) e =

@@ -153,28 +153,28 @@ module _ (classes text : List ℕ) (place : ℕ) where
   none-parted from (faultAt number p) n = n
 
   -- a byte before the first symbol
-  between-told : (at : ℕ) → at ≤ place → place < length text → NoneUpTo place (scanBy classes text at) → ToldFrom at outside
+  pub between-told : (at : ℕ) → at ≤ place → place < length text → NoneUpTo place (scanBy classes text at) → ToldFrom at outside
   between-told at h k n = walk place at Outside 0 (omega arith) h k (none-parted at _ n)
 
   -- ---- in a text
 
   -- the place lies in no symbol that fits no rule
-  abbrev Apart : ℕ → Type 0
-  Apart at = InStray place (symbolsOf (scanBy classes text at)) → ⊥
+  abbrev OffStray : ℕ → Type 0
+  OffStray at = InStray place (symbolsOf (scanBy classes text at)) → ⊥
 
   abbrev ToldIn : ℕ → Type 0
   ToldIn at = Told (categoryOf classes text place at (scanBy classes text at))
 
-  in-symbol : {at : ℕ} {class : Class} {start end : ℕ} → SymbolAt classes text at class start end → Apart at → start ≤ place → place < end → class ≡ Stray → ⊥
+  in-symbol : {at : ℕ} {class : Class} {start end : ℕ} → SymbolAt classes text at class start end → OffStray at → start ≤ place → place < end → class ≡ Stray → ⊥
   unfolding symbolsOf
   in-symbol x n h k e = n (rw (x .same) (here e h k))
 
-  behind-symbol : {at : ℕ} {class : Class} {start end : ℕ} → SymbolAt classes text at class start end → Apart at → Apart end
+  behind-symbol : {at : ℕ} {class : Class} {start end : ℕ} → SymbolAt classes text at class start end → OffStray at → OffStray end
   unfolding symbolsOf
   behind-symbol x n i = n (rw (x .same) (further i))
 
-  by-symbol : (at : ℕ) → Unfolded classes text at → at ≤ place → place < length text → Faultless classes text at → Apart at
-      → ((q : ℕ) → at < q → q ≤ place → Faultless classes text q → Apart q → ToldIn q) → ToldIn at
+  by-symbol : (at : ℕ) → Unfolded classes text at → at ≤ place → place < length text → Faultless classes text at → OffStray at
+      → ((q : ℕ) → at < q → q ≤ place → Faultless classes text q → OffStray q → ToldIn q) → ToldIn at
   by-symbol at (no-symbol e) h k c n f = rw (category-over classes text at place e) (between-told at h k (rw e tt))
   by-symbol at (a-symbol {class} {start} {end} x) h k c n f =
       elim (decLt place start) [
@@ -187,7 +187,7 @@ module _ (classes text : List ℕ) (place : ℕ) where
       ]
   by-symbol at (a-fault e) h k c n f = absurd (no-fault _ (c .none) e)
 
-  run : (n at : ℕ) → place ≤ at + n → at ≤ place → place < length text → Faultless classes text at → Apart at → ToldIn at
+  run : (n at : ℕ) → place ≤ at + n → at ≤ place → place < length text → Faultless classes text at → OffStray at → ToldIn at
   run zero at m h k c o = by-symbol at (unfolded classes text at) h k c o (λ q a b. absurd (omega arith))
   run (suc n) at m h k c o = by-symbol at (unfolded classes text at) h k c o (λ q a b. run n q (omega arith) b k)
 

@@ -11,9 +11,11 @@ pub mod Unfolding
 pub mod Spans
 pub mod BodyChecks
 pub mod Examples
+pub mod SymbolExamples
 pub mod FaultLaws
 pub mod FaultNumbers
 pub mod CategoryLaws
 pub mod EveryCategory
+pub mod ApartLaws
 pub mod CategoryExamples
 pub mod CursorLaws

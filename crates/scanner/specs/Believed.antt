@@ -5,3 +5,4 @@ pub mod Characters
 pub mod Scanning
 pub mod Answers
 pub mod Categories
+pub mod Apart

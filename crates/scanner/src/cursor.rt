@@ -8,7 +8,7 @@ ghost use Rattle.octets.specs.Believed.Classes.{quote};
 ghost use Rattle.scanner.specs.Believed.Scanning.{scanBy};
 ghost use Rattle.scanner.specs.Believed.Answers.{nextOf};
 ghost use Rattle.scanner.specs.Ties.Steps.{ReturnIsControl, DataPasses, quoteAt};
-ghost use Rattle.scanner.specs.Ties.Cursors.{classNumber, placed, moved, behindSymbol, aheadOf};
+ghost use Rattle.scanner.specs.Ties.Cursors.{classNumber, placed, moved, fromEnd, aheadOf};
 use crate::Class;
 use crate::Next;
 use crate::atom_class;
@@ -153,7 +153,7 @@ fn quote_at(classes: &[u8; 256], text: &[u8], at: usize) -> bool
     class_in(classes, text[at]) == QUOTE
 }
 
-// Move on to the quoted-string whose opening quote stands at p, with white space alone from at on, fast where its data stand for themselves.
+// Move on to the quoted-string whose opening quote stands at a position, fast where its data stand for themselves.
 fn step_quoted(classes: &[u8; 256], text: &[u8], at: usize, cursor: &mut [usize; 7])
     requires { ⌜ (at < length (now text)) × (getD (now classes) (getD (now text) at 0) 0 ≡ quote) × ReturnIsControl (now classes) ⌝ }
     ensures { λ _. ⌜ now (cursor .exit) ≡ moved (nextOf (scanBy (now (classes .entry)) (now (text .entry)) at)) (now (cursor .entry)) ⌝ }
@@ -168,7 +168,7 @@ fn step_quoted(classes: &[u8; 256], text: &[u8], at: usize, cursor: &mut [usize;
 
 // Move on to the symbol that comes after the one ahead: white space, atoms and marks are told by few comparisons of classes.
 pub fn step(classes: &[u8; 256], text: &[u8], cursor: &mut [usize; 7])
-    ensures { λ _. ⌜ now (cursor .exit) ≡ moved (nextOf (scanBy (now (classes .entry)) (now (text .entry)) (getD (now (cursor .entry)) 2 0))) (behindSymbol (now (cursor .entry))) ⌝ }
+    ensures { λ _. ⌜ now (cursor .exit) ≡ moved (nextOf (scanBy (now (classes .entry)) (now (text .entry)) (getD (now (cursor .entry)) 2 0))) (fromEnd (now (cursor .entry))) ⌝ }
 {
     let mut p = cursor[END];
     cursor[FROM] = p;

@@ -7,10 +7,10 @@ ghost use mathlib.Core.List.{[]};
 ghost use lib.ListN.{length};
 ghost use Rattle.scanner.specs.Believed.Kinds.{kindOf};
 ghost use Rattle.scanner.specs.Believed.Characters.{foldAt, charactersAt};
-ghost use Rattle.scanner.specs.Believed.Scanning.{outside, inQuoted, inLiteral, atomClass, scanFrom, scanBy};
+ghost use Rattle.scanner.specs.Believed.Scanning.{outside, inAtom, inQuoted, inLiteral, atomClass, scanFrom, scanBy};
 ghost use Rattle.octets.specs.Believed.Answers.{told};
 ghost use Rattle.octets.specs.declared.answers.Answer.the-variants.{Accepted, Refused};
-ghost use Rattle.scanner.specs.Believed.Answers.{bodyChecked, nextOf, nextTold, nextInBody, faultOf, scannedBy, bodyScanned};
+ghost use Rattle.scanner.specs.Believed.Answers.{bodyChecked, foundAt, nextOf, nextTold, nextInBody, faultOf, scannedBy, bodyScanned};
 ghost use Rattle.scanner.specs.Believed.Categories.{ofSymbol, between, categoryOf, categoryAt};
 ghost use Rattle.scanner.specs.Ties.Steps.{FirstIs, StepIs, AtomEnds, ReturnIsControl, plainAt, PlainEnds, CommentIs, Faultless, FaultsFrom};
 ghost use Rattle.scanner.specs.Ties.Meanings.{takenDatum, datumAt};
@@ -285,6 +285,36 @@ fn atom_class(text: &[u8], start: usize, end: usize) -> Class
     }
 }
 
+// The atom that has run from start up to a position.
+fn atom_from(classes: &[u8; 256], text: &[u8], start: usize, at: usize, apart: bool) -> Next
+    requires { ⌜ (start ≤ at) × (at ≤ length (now text)) ⌝ }
+    ensures { λ r. ⌜ FirstIs apart start (scanFrom (now (classes .entry)) (charactersAt (now (text .entry)) at) (inAtom start at (part (now (text .entry)) start at))) r ⌝ }
+{
+    let end = atom_end(classes, text, start, at);
+    let class = atom_class(text, start, end);
+    let length = end - start;
+    Next::Found(Symbol {
+        class,
+        start,
+        end,
+        length,
+        apart,
+    })
+}
+
+// The symbol of one byte.
+fn one_byte(class: Class, start: usize, end: usize, apart: bool) -> Next
+    ensures { λ r. ⌜ r ≡ foundAt class start end 1 apart ⌝ }
+{
+    Next::Found(Symbol {
+        class,
+        start,
+        end,
+        length: 1,
+        apart,
+    })
+}
+
 // The rest of a quoted-string whose opening quote stands at start. The length of its data is counted on the way.
 fn quoted_end(classes: &[u8; 256], text: &[u8], start: usize, at: usize, apart: bool) -> Next
     requires { ⌜ at ≤ length (now text) ⌝ }
@@ -438,43 +468,24 @@ pub fn next_by(classes: &[u8; 256], text: &[u8], at: usize) -> Next
         match kind {
             ByteKind::White => {
                 p = q;
-                apart = true;
+                apart = true; // by white space
             }
             ByteKind::Open => match comment_end(classes, text, here, q) {
                 Comment::Past(behind) => {
                     p = behind;
-                    apart = true;
+                    apart = true; // by a comment
                 }
                 Comment::Open(number, place) => return Next::Fault(number, place),
             },
             ByteKind::Quote => return quoted_end(classes, text, here, q, apart),
-            ByteKind::Plain => {
-                let end = atom_end(classes, text, here, q);
-                let class = atom_class(text, here, end);
-                let length = end - here;
-                return Next::Found(Symbol {
-                    class,
-                    start: here,
-                    end,
-                    length,
-                    apart,
-                });
-            }
-            ByteKind::Mark(class) => return Next::Found(Symbol {
-                class,
-                start: here,
-                end: q,
-                length: 1,
+            ByteKind::Plain => return atom_from(classes, text, here, q, apart),
+            ByteKind::Mark(class) => return one_byte(class, here, q, apart),
+            ByteKind::Close | ByteKind::Backslash | ByteKind::CloseBracket => return one_byte(
+                Class::Stray,
+                here,
+                q,
                 apart,
-            }),
-            ByteKind::Close | ByteKind::Backslash | ByteKind::CloseBracket =>
-                return Next::Found(Symbol {
-                    class: Class::Stray,
-                    start: here,
-                    end: q,
-                    length: 1,
-                    apart,
-                }),
+            ),
             ByteKind::Control | ByteKind::Return => return Next::Fault(STRAY_CONTROL, here),
             ByteKind::Above => return Next::Fault(BYTE_ABOVE_127, here),
             ByteKind::OpenBracket => return literal_end(classes, text, here, q, apart),

@@ -10,9 +10,8 @@ use lib.Dec.{ltb}
 use lib.ListN.{length}
 use types.Run.{miss}
 use Rattle.octets.specs.Believed.Numbers.{byteAbove127}
-use Rattle.octets.proofs.Parts.{part-length}
 use Rattle.scanner.specs.Believed.Scanning.{Scanned, outside, inQuoted, inLiteral, inComment, go, halt, parted}
-use Rattle.scanner.specs.Believed.Answers.{foundAt, nextOf}
+use Rattle.scanner.specs.Believed.Answers.{nextOf}
 use Rattle.scanner.specs.Ties.Steps.{outsideAt, FirstCharacter, CommentEnds}
 use Rattle.scanner.specs.declared.Next.{Next}
 use Rattle.scanner.specs.declared.ByteKind.{ByteKind}
@@ -124,41 +123,38 @@ returns-3 c =
 enum-told-5 : tie.Need-enum-told-5 Inv-loop μ-loop
 enum-told-5 c = search needs
 
-atom-end-requires : tie.Need-atom-end-requires Inv-loop μ-loop
-atom-end-requires c κs = let x = first (c .before .before .before) in (omega (arith, x .behind), x .within)
-
-atom-class-requires : tie.Need-atom-class-requires Inv-loop μ-loop
-atom-class-requires c κs = let x = first (c .before .before .before .before) in let y = c .atom-end .ensures in (omega (arith, x .behind, y .from), y .within)
-
-sub-length : tie.Need-sub-length Inv-loop μ-loop
-sub-length c = let x = first (c .before .before .before .before .before) in let y = c .before .atom-end .ensures in omega (arith, x .behind, y .from)
+atom-from-requires : tie.Need-atom-from-requires Inv-loop μ-loop
+atom-from-requires c κs = let x = first (c .before .before .before) in (omega (arith, x .behind), x .within)
 
 returns-4 : tie.Need-returns-4 Inv-loop μ-loop
-unfolding parted
 returns-4 c =
-    let a = c .before .before .before .before .before .before .before .before .before .before .args in
-    let l = c .before .before .before .before .before .before .before .before .loop in
-    let x = rw (c .before .before .enum-told5 .given .1) at (first (c .before .before .before .before .before)) in
-    let y = c .before .atom-end .ensures in
-    ap (λ (size : ℕ). foundAt (c .atom-class .result) (c .before .before .before .before .before .kind .given .0 .1 .0) (c .before .atom-end .result) size (l .apart)) (sym (part-length (a .text .now) _ _ (y .within)))
-    ∙ rw (c .atom-class .ensures, starts (a .at) (l .inv .2) x (λ k. omega (arith, ap tag k))) (sym (ap (from-asked (a .at)) (l .inv .0 ∙ atom-begins x ∙ y .same)))
+    let a = c .before .before .before .before .before .before .before .before .before .args in
+    let l = c .before .before .before .before .before .before .before .loop in
+    let x = rw (c .before .enum-told5 .given .1) at (first (c .before .before .before .before)) in
+    c .atom-from .ensures (a .at) (starts (a .at) (l .inv .2) x (λ k. omega (arith, ap tag k))) ∙ sym (ap (from-asked (a .at)) (l .inv .0 ∙ atom-begins x))
 
 enum-known-kind-2 : tie.Need-enum-known-kind-2 Inv-loop μ-loop
 enum-known-kind-2 c = search needs
 
+one-byte-requires : tie.Need-one-byte-requires Inv-loop μ-loop
+one-byte-requires c κs = search needs
+
 returns-5 : tie.Need-returns-5 Inv-loop μ-loop
 unfolding parted
 returns-5 c =
-    let l = c .before .before .before .before .before .before .before .loop in
-    let x = rw (c .before .kind2 .given .1) at (first (c .before .before .before .before)) in
-    rw (starts (c .before .before .before .before .before .before .before .before .before .args .at) (l .inv .2) x (λ k. omega (arith, ap tag k))) (sym (ap (from-asked (c .before .before .before .before .before .before .before .before .before .args .at)) (l .inv .0 ∙ mark-next x)))
+    let l = c .before .before .before .before .before .before .before .before .loop in
+    let x = rw (c .before .before .kind2 .given .1) at (first (c .before .before .before .before .before)) in
+    c .one-byte .ensures ∙ rw (starts (c .before .before .before .before .before .before .before .before .before .before .args .at) (l .inv .2) x (λ k. omega (arith, ap tag k))) (sym (ap (from-asked (c .before .before .before .before .before .before .before .before .before .before .args .at)) (l .inv .0 ∙ mark-next x)))
+
+one-byte-requires-2 : tie.Need-one-byte-requires-2 Inv-loop μ-loop
+one-byte-requires-2 c κs = search needs
 
 returns-6 : tie.Need-returns-6 Inv-loop μ-loop
 unfolding parted
 returns-6 c =
-    let l = c .before .before .before .before .before .loop in
-    let x = first (c .before .before) in
-    rw (starts (c .before .before .before .before .before .before .before .args .at) (l .inv .2) x (λ k. miss (5 ∷ 7 ∷ 11 ∷ []) 0 tt (rw k at (c .match2 .keys6)))) (sym (ap (from-asked (c .before .before .before .before .before .before .before .args .at)) (l .inv .0 ∙ stray-next x (c .match2 .keys6))))
+    let l = c .before .before .before .before .before .before .loop in
+    let x = first (c .before .before .before) in
+    c .one-byte2 .ensures ∙ rw (starts (c .before .before .before .before .before .before .before .before .args .at) (l .inv .2) x (λ k. miss (5 ∷ 7 ∷ 11 ∷ []) 0 tt (rw k at (c .before .match2 .keys6)))) (sym (ap (from-asked (c .before .before .before .before .before .before .before .before .args .at)) (l .inv .0 ∙ stray-next x (c .before .match2 .keys6))))
 
 returns-7 : tie.Need-returns-7 Inv-loop μ-loop
 unfolding parted
@@ -210,12 +206,12 @@ next-by-spec =
     quoted-end-requires
     returns-3
     enum-told-5
-    atom-end-requires
-    atom-class-requires
-    sub-length
+    atom-from-requires
     returns-4
     enum-known-kind-2
+    one-byte-requires
     returns-5
+    one-byte-requires-2
     returns-6
     returns-7
     enum-told-6

@@ -107,7 +107,7 @@ returns-6 c =
     λ from e. sym (ap (λ (s : Scanned). nextOf (parted from s)) (quoted-taking (c .before .before .before .before .before .before .before .before .before .before .before .before .loop .inv .1 .quoting) x y (halt [] byteAbove127 _) refl))
 
 sub-length : tie.Need-sub-length Inv-loop μ-loop
-sub-length c = let y = second (c .before .before) in omega (arith, y .from, y .behind)
+sub-length c = let x = first (c .before .before .before .before .before .before .before .before) in let y = second (c .before .before) in omega (arith, x .from, x .behind, y .from, y .behind)
 
 add-length : tie.Need-add-length Inv-loop μ-loop
 add-length c =

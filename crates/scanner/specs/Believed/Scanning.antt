@@ -41,7 +41,7 @@ pub data Move : Type 0 where
   go : List (Symbol Class) → State → Move
   halt : List (Symbol Class) → ℕ → ℕ → Move
 
--- a symbol of a class, with its place and meaning; that it stands apart is told by what comes before it (`parted`)
+-- a symbol of a class, with its place and meaning; whether it stands apart is told by where the one before it ends (`parted`)
 abbrev pub symbol : Class → ℕ → ℕ → List ℕ → Symbol Class
 symbol class start end meaning = record { class = class; lexeme = record { start = start; end = end; meaning = meaning; apart = false } }
 
@@ -199,7 +199,7 @@ scanFrom classes [] state = atEnd state
 scanFrom classes (character b p folded ∷ rest) state =
     then (move state (characterKind classes b folded) b p folded) (λ state′. scanFrom classes rest state′)
 
--- a symbol, told whether it stands apart from a position: whether anything lies between
+-- a symbol, told whether it stands apart from a position: whether it starts after it
 abbrev pub apartFrom : ℕ → Symbol Class → Symbol Class
 apartFrom from x =
     record { class = x .class; lexeme = record { start = x .lexeme .start; end = x .lexeme .end; meaning = x .lexeme .meaning; apart = ltb from (x .lexeme .start) } }

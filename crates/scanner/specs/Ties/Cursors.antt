@@ -50,8 +50,8 @@ moved Ended cursor = placed endNumber 0 0 0 cursor
 moved (Fault number p) cursor = placed faultNumber p number 0 cursor
 
 -- a cursor that looks for what comes next from the end of its symbol
-abbrev pub behindSymbol : List ℕ → List ℕ
-behindSymbol cursor = set cursor 4 (getD cursor 2 0)
+abbrev pub fromEnd : List ℕ → List ℕ
+fromEnd cursor = set cursor 4 (getD cursor 2 0)
 
 -- what a number tells
 unfoldable pub aheadOf : ℕ → Ahead
