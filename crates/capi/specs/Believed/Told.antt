@@ -26,7 +26,7 @@ toldIn lent answer = sets lent 0 (numberOf answer ∷ positionOf answer ∷ coun
 abbrev pub expansionToldIn : List ℕ → Answer → ℕ → List ℕ
 expansionToldIn lent answer openings = sets lent 0 (numberOf answer ∷ positionOf answer ∷ countOf answer ∷ openings ∷ [])
 
--- the number of a symbol's class, from 1 in the order of document 01's marks; 9 for any other
+-- the number by which C tells a symbol's class: atom, quoted-string, "at" or "@", each mark; 9 for any other
 abbrev pub classNumber : Class → ℕ
 classNumber Atom = 1
 classNumber Quoted = 2
@@ -46,6 +46,7 @@ symbolNumbers (Found symbol) = accepted ∷ 0 ∷ classNumber (symbol .class) �
 symbolNumbers Ended = accepted ∷ 0 ∷ 0 ∷ 0 ∷ 0 ∷ 0 ∷ 0 ∷ []
 symbolNumbers (Fault number position) = number ∷ position ∷ 0 ∷ 0 ∷ 0 ∷ 0 ∷ 0 ∷ []
 
+-- a lent array afterwards, with these numbers at its front, as far as it reaches
 abbrev pub symbolToldIn : List ℕ → Next → List ℕ
 symbolToldIn lent next = sets lent 0 (symbolNumbers next)
 
