@@ -1,5 +1,5 @@
 /* Prints the records of an address list, and the list written plainly; or its symbols; or what one of its bytes is; or the
- * list with its Includes replaced by stored lists.
+ * list with its Includes replaced by stored lists; or which known field name a name is.
  * usage: example [--by-table] [LIST]     --by-table: by the second reader, for a board with a small stack
  *        example --edition NUMBER LIST   the records of a list by RFC 733 or RFC 822: NUMBER is 733 or 822
  *        example --symbols LIST          the symbols: kind, start, end, length of the meaning, and "apart" if white space
@@ -7,7 +7,9 @@
  *        example --touch PLACE LIST      what the byte at PLACE is and the records around it, from the last one to the
  *                                        outermost; for a refused list what could have stood at the refused place
  *        example --expand STORE LIST     the list written plainly with each Include replaced by a list of STORE, a file,
- *                                        and how many stored lists were opened */
+ *                                        and how many stored lists were opened
+ *        example --name NAME             the known field name that NAME is, or "other", and how many known names were
+ *                                        compared with it letter by letter */
 #include <stdio.h>
 #include <stdlib.h>
 #include <string.h>
@@ -140,32 +142,32 @@ static int records_and_plain(const char *list, int by_table) {
     return 0;
 }
 
+static int known_name(const char *name) {
+    static const char *const names[] = {"other", "Date", "From", "Reply-To", "To", "cc", "Bcc"};
+    uint64_t compared;
+    uint32_t number = rfc733_known_name((const uint8_t *)name, strlen(name), &compared);
+    printf("%s compared %u\n", names[number], (unsigned)compared);
+    return 0;
+}
+
 static int is_number(const char *text) { return text[0] != 0 && text[strspn(text, "0123456789")] == 0; }
 
+static int misused(const char *words) {
+    fprintf(stderr, "usage: example %s\n", words);
+    return 2;
+}
+
 int main(int argc, char **argv) {
-    if (argc > 1 && strcmp(argv[1], "--expand") == 0) {
-        if (argc != 4) {
-            fprintf(stderr, "usage: example --expand STORE LIST\n");
-            return 2;
-        }
-        return expand(argv[2], argv[3]);
-    }
-    if (argc > 1 && strcmp(argv[1], "--symbols") == 0) {
-        if (argc != 3) {
-            fprintf(stderr, "usage: example --symbols LIST\n");
-            return 2;
-        }
-        return symbols(argv[2]);
-    }
-    if (argc > 1 && (strcmp(argv[1], "--touch") == 0 || strcmp(argv[1], "--edition") == 0)) {
-        int touched = strcmp(argv[1], "--touch") == 0;
-        if (argc != 4 || !is_number(argv[2])) {
-            fprintf(stderr, "usage: example %s LIST\n", touched ? "--touch PLACE" : "--edition NUMBER");
-            return 2;
-        }
+    const char *mode = argc > 1 ? argv[1] : "";
+    if (strcmp(mode, "--expand") == 0) return argc == 4 ? expand(argv[2], argv[3]) : misused("--expand STORE LIST");
+    if (strcmp(mode, "--symbols") == 0) return argc == 3 ? symbols(argv[2]) : misused("--symbols LIST");
+    if (strcmp(mode, "--name") == 0) return argc == 3 ? known_name(argv[2]) : misused("--name NAME");
+    int touched = strcmp(mode, "--touch") == 0;
+    if (touched || strcmp(mode, "--edition") == 0) {
+        if (argc != 4 || !is_number(argv[2])) return misused(touched ? "--touch PLACE LIST" : "--edition NUMBER LIST");
         size_t number = strtoull(argv[2], NULL, 10);
         return touched ? touch(argv[3], number) : by_edition(argv[3], number);
     }
-    int by_table = argc > 1 && strcmp(argv[1], "--by-table") == 0;
+    int by_table = strcmp(mode, "--by-table") == 0;
     return records_and_plain(argc > 1 + by_table ? argv[1 + by_table] : "Cooks: Childs at WGBH;, \"Al\"", by_table);
 }

@@ -27,8 +27,10 @@ extern "C" {
 void rfc733_split(const uint8_t *message, size_t message_length, uint8_t *table, size_t table_length,
                   uint64_t *told, size_t told_length);
 
-/* Which known field name a name is, case ignored: 1 Date, 2 From, 3 Reply-To, 4 To, 5 cc, 6 Bcc; 0 any other. */
-uint32_t rfc733_known_name(const uint8_t *name, size_t name_length);
+/* Which known field name a name is, case ignored: 1 Date, 2 From, 3 Reply-To, 4 To, 5 cc, 6 Bcc; 0 any other. Stored in
+ * `*compared`: how many known names were compared with it letter by letter, 1 if one has that length and, case ignored,
+ * first letter, else 0. */
+uint32_t rfc733_known_name(const uint8_t *name, size_t name_length, uint64_t *compared);
 
 /* Scans the body of a message from start up to end: accepted, or its first fault. The count is 0. */
 void rfc733_scan(const uint8_t *message, size_t message_length, size_t start, size_t end,

@@ -8,6 +8,7 @@ import pathlib
 from collections import namedtuple
 
 Field = namedtuple("Field", "name_start name_end body_start body_end")
+LookedUp = namedtuple("LookedUp", "number compared")
 Address = namedtuple("Address", "kind depth parent start end name_start name_end")
 Symbol = namedtuple("Symbol", "kind start end length apart")
 Touched = namedtuple("Touched", "what path")
@@ -82,11 +83,26 @@ def fields(message):
     return [Field(*(_two(table, at + i) for i in (0, 2, 4, 6))) for at in range(0, len(table), 8)]
 
 
-def known_name(name):
-    """The number of a known field name: 1 Date, 2 From, 3 Reply-To, 4 To, 5 cc, 6 Bcc; 0 for any other. Case is ignored."""
+def looked_up(name):
+    """Which known field name a name is, and how many it was compared with, as `LookedUp`. Case is ignored.
+
+    number: 1 Date, 2 From, 3 Reply-To, 4 To, 5 cc, 6 Bcc; 0 for any other.
+    compared: how many known names were compared letter by letter: 1 if one has that length and first letter, else 0.
+
+        looked_up(b"rEPLY-tO")  # LookedUp(number=3, compared=1)
+        looked_up(b"tx")  # LookedUp(number=0, compared=1)
+        looked_up(b"xo")  # LookedUp(number=0, compared=0)
+    """
     function = _load().rfc733_known_name
     function.restype = ctypes.c_uint32
-    return function(*_lent(name))
+    compared = ctypes.c_uint64()
+    number = function(*_lent(name), ctypes.byref(compared))
+    return LookedUp(number, compared.value)
+
+
+def known_name(name):
+    """The number of a known field name: 1 Date, 2 From, 3 Reply-To, 4 To, 5 cc, 6 Bcc; 0 for any other. Case is ignored."""
+    return looked_up(name).number
 
 
 _KINDS = (None, "atom", "quoted", "at", "<", ">", ",", ";", ":", "other")

@@ -2,6 +2,7 @@
 """The libraries for other languages: built, called from C and from Python. Expectations are the examples of document 01
 and those of the change requests."""
 import ctypes
+import mmap
 import pathlib
 import re
 import subprocess
@@ -591,6 +592,103 @@ for arguments, status, out in (
 ):
     example = subprocess.run([root / "target/lib/example", "--edition", *arguments], capture_output=True, text=True)
     same(f"C example --edition {arguments}", (example.returncode, example.stdout), (status, out))
+KNOWN = "other", "Date", "From", "Reply-To", "To", "cc", "Bcc"
+PATTERN = 0xA5A5A5A5A5A5A5A5
+# a name is lent at the end of these bytes; the page after them may not be read, so that a look behind a name ends the test
+LENT = 2**17
+pages = mmap.mmap(-1, LENT + mmap.PAGESIZE)
+fence = ctypes.addressof(ctypes.c_char.from_buffer(pages)) + LENT
+fenced = ctypes.CDLL(None).mprotect(ctypes.c_void_p(fence), ctypes.c_size_t(mmap.PAGESIZE), 0)
+same("the page after a name is closed", fenced, 0)
+
+
+def c_known(name):
+    """What the C function returns and stores, and whether the name and the numbers beside the stored one stayed; beforehand
+    each number is PATTERN."""
+    pages[LENT - len(name) : LENT] = name
+    stored = (ctypes.c_uint64 * 3)(*[PATTERN] * 3)
+    function = rfc733._load().rfc733_known_name
+    function.restype = ctypes.c_uint32
+    number = function(ctypes.c_void_p(fence - len(name)), ctypes.c_size_t(len(name)), ctypes.byref(stored, 8))
+    stayed = pages[LENT - len(name) : LENT] == name and stored[0] == stored[2] == PATTERN
+    return number, stored[1], stayed
+
+
+def named(name, answer, compared):
+    """Which of KNOWN a name is, and how many were compared with it: by C, in Python, and by the example."""
+    number = KNOWN.index(answer)
+    same(f"C known_name of {name[:40]!r}", c_known(name), (number, compared, True))
+    same(f"looked_up({name[:40]!r})", rfc733.looked_up(name), (number, compared))
+    same(f"known_name({name[:40]!r})", rfc733.known_name(name), number)
+    if b"\0" in name:
+        return
+    example = subprocess.run([root / "target/lib/example", "--name", name], capture_output=True, text=True)
+    wanted = 0, f"{answer} compared {compared}\n"
+    same(f"C example --name {name[:40]!r}", (example.returncode, example.stdout), wanted)
+
+
+# examples of the request
+for name, answer, compared in (
+    (b"To", "To", 1), (b"tx", "other", 1), (b"xo", "other", 0), (b"", "other", 0), (b"T", "other", 0), (b"cc ", "other", 0),
+    (b"rEPLY-tO", "Reply-To", 1), (b"Reply\rTo", "other", 1), (b"\xe3\xe3", "other", 0), (b"\x14o", "other", 0),
+):
+    named(name, answer, compared)
+for known in KNOWN[1:]:
+    for name in (known, known.upper(), known.lower(), known.swapcase()):
+        named(name.encode(), known, 1)
+# length and first letter of a known name, and a later letter wrong, or a byte for it that a mask takes for that letter
+two_to_four = b"Tp tn Tc Cd cb co Bcd bcb Bdc Datf dAtd Dage Dbte Drom Fron frol Fram Flom Fate".split()
+eight = b"Reply-Tp reply-tn Reply-So Reply_To Repl--To Repky-To Retly-To Raply-To Received RECEIVED Returned".split()
+masked = b"T/ T\x0f T\xef T\xcf T\0 c# c\x03 c\xc3 Bc\xe3 Dat% Fro\xed Reply\xadTo ReplyMTo ReplymTo Reply-T\x0f".split()
+for name in (*two_to_four, *eight, b"Reply To", *masked):
+    named(name, "other", 1)
+# length of a known name, and another first letter, or a byte for it that a mask or a range takes for that letter
+first = b"So Uo oT bc dc Acc ccc Cate Eate Erom Grom Qeply-To Seply-To X-Mailer".split()
+masked = b"\0o 4o \xd4o \xf4o #c \x03c \xc3c \"cc \x02cc \xc2cc \xe2cc $ate \x04ate \xc4ate \xe4ate".split()
+masked += b"&rom \x06rom \xc6rom \xe6rom 2eply-To \x12eply-To \xd2eply-To \xf2eply-To".split()
+beside = [mark + rest for mark in (b"@", b"[", b"`", b"{") for rest in b"o c cc ate rom eply-To".split()]
+for name in (*first, *masked, *beside):
+    named(name, "other", 0)
+# a length that no known name has, or none with that first letter
+shorter = b"c B D F R Bc Da Fr Re Dat Fro Rep Tom To\0 To: Bccc ToTo Repl Dates Sender Subject Reply-T ReplyTo".split()
+longer = b"Reply-ToX Message-ID To-Be-Sure cc-members Bcc-members From-Sender Reply-To-All Date-Received".split()
+spaces = b"To ", b" To", b"bcc ", b"From ", b"Reply-To ", b"Reply-To\t"
+wide = [text.encode() + b"e" * more for text in KNOWN[1:] for more in (256, 65536)]
+for name in (*shorter, *longer, *spaces, *wide):
+    named(name, "other", 0)
+
+
+def by_the_papers(name):
+    """The number of the known name that agrees, and how many have that length and first letter, case ignored."""
+    known = [text.lower().encode() for text in KNOWN[1:]]
+    number = known.index(name.lower()) + 1 if name.lower() in known else 0
+    return number, sum((len(name), name[:1].lower()) == (len(text), text[:1]) for text in known)
+
+
+# each name of up to two bytes; each known name with each byte at each place, for its own or before it, and cut there
+every = [b""] + [bytes([a]) for a in range(256)] + [bytes([a, b]) for a in range(256) for b in range(256)]
+for text in (text.encode() for text in KNOWN[1:]):
+    for i in range(len(text) + 1):
+        every += [text[:i] + bytes([b]) + rest for b in range(256) for rest in (text[i:], text[i + 1 :])] + [text[:i]]
+got = {name: c_known(name) for name in every}
+same("what is stored, over all names", {compared for _, compared, _ in got.values()}, {0, 1})
+same("all names, by the papers", [name for name in got if got[name] != (*by_the_papers(name), True)][:9], [])
+same("fields of what is looked up", rfc733.looked_up(b"bcc")._asdict(), {"number": 6, "compared": 1})
+same("known_name is a number", repr([rfc733.known_name(name) for name in (b"Reply-To", b"tx", b"")]), "[3, 0, 0]")
+for kind in (bytes, bytearray, memoryview, list):
+    same(f"looked_up of a {kind.__name__}", rfc733.looked_up(kind(b"fROM")), (2, 1))
+    same(f"known_name of a {kind.__name__}", rfc733.known_name(kind(b"fROM")), 2)
+for argument in ("To", None, 2, 2.0):
+    for function in (rfc733.looked_up, rfc733.known_name, rfc733.fields, rfc733.plain, rfc733.date):
+        try:
+            got = function(argument)
+        except TypeError:
+            got = TypeError
+        same(f"{function.__name__}({argument!r})", got, TypeError)
+for arguments in ([], ["To", "cc"]):
+    example = subprocess.run([root / "target/lib/example", "--name", *arguments], capture_output=True, text=True)
+    wanted = 2, "", "usage: example --name NAME\n"
+    same(f"C example --name {arguments}", (example.returncode, example.stdout, example.stderr), wanted)
 
 for fault in faults:
     print(fault)

@@ -1,6 +1,6 @@
 #!/usr/bin/env bash
-# The C example under valgrind, with either address reader and either edition, stepping through symbols, touching a byte and
-# expanding: no fault of memory on lists that are accepted, refused, empty, deep and long.
+# The C example under valgrind, with either address reader and either edition, stepping through symbols, touching a byte,
+# expanding and looking up names: no fault of memory on lists that are accepted, refused, empty, deep and long, or on names.
 set -u
 cd "$(dirname "$0")/.." || exit 2
 if ! command -v valgrind >/dev/null 2>&1; then
@@ -85,6 +85,14 @@ run "touched, empty" 1 --touch 0 ''
 run "touched, far outside" 1 --touch 18446744073709551615 'a@b'
 run "touched, last of 2,048" 0 --touch 6142 "$(times '"",' 2048)"
 run "touched, more addresses than the table holds" 1 --touch 0 "$(times '"",' 2049)"
+run "known name" 0 --name Bcc
+run "name, other case" 0 --name 'rEPLY-tO'
+run "name, empty" 0 --name ''
+run "name, one letter" 0 --name 'T'
+run "name, last letter wrong" 0 --name 'Reply-Tx'
+run "name, bytes above 127" 0 --name $'\343\343'
+run "name, long" 0 --name "$(times 'To' 50000)"
+run "name, not given" 2 --name
 
 # A record of a store: the name padded with zeros, the list with spaces.
 record() {

@@ -101,6 +101,74 @@ fn program_example(tally: &mut Tally) {
     tally.same("reply", reader::reply(b" , ", b"x"), 0);
 }
 
+/// Names looked up: their number, and how many names are compared.
+fn known_names(tally: &mut Tally) {
+    let cases: [(&[u8], (u32, u64)); 55] = [
+        (b"To", (4, 1)),
+        (b"tx", (0, 1)),
+        (b"xo", (0, 0)),
+        (b"", (0, 0)),
+        (b"T", (0, 0)),
+        (b"cc ", (0, 0)),
+        (b"rEPLY-tO", (3, 1)),
+        (b"Reply\rTo", (0, 1)),
+        (b"\xE3\xE3", (0, 0)),
+        (b"\x14o", (0, 0)),
+        (b"Date", (1, 1)),
+        (b"FROM", (2, 1)),
+        (b"reply-to", (3, 1)),
+        (b"tO", (4, 1)),
+        (b"CC", (5, 1)),
+        (b"bCC", (6, 1)),
+        // As long as a known name that starts so.
+        (b"Drom", (0, 1)),
+        (b"fate", (0, 1)),
+        (b"tc", (0, 1)),
+        (b"Co", (0, 1)),
+        (b"Bcd", (0, 1)),
+        (b"Received", (0, 1)),
+        (b"Reply To", (0, 1)),
+        (b"ReplyMTo", (0, 1)),
+        (b"R       ", (0, 1)),
+        (b"D@te", (0, 1)),
+        (b"d`te", (0, 1)),
+        (b"T\x0F", (0, 1)),
+        (b"T\xEF", (0, 1)),
+        (b"c\xE3", (0, 1)),
+        (b"B\0\0", (0, 1)),
+        // As long as a known name, but none that starts so.
+        (b"Tate", (0, 0)),
+        (b"ccto", (0, 0)),
+        (b"bc", (0, 0)),
+        (b"ccc", (0, 0)),
+        (b"To:", (0, 0)),
+        (b" To", (0, 0)),
+        (b"Deply-To", (0, 0)),
+        (b"4o", (0, 0)),
+        (b"\xD4o", (0, 0)),
+        (b"\xF4o", (0, 0)),
+        (b"#c", (0, 0)),
+        (b"\x02cc", (0, 0)),
+        (b"[cc", (0, 0)),
+        (b"@ate", (0, 0)),
+        (b"{rom", (0, 0)),
+        (b"2eply-To", (0, 0)),
+        // Shorter or longer than every known name that starts so.
+        (b"c", (0, 0)),
+        (b"Bc", (0, 0)),
+        (b"Dat", (0, 0)),
+        (b"Froms", (0, 0)),
+        (b"Reply-T", (0, 0)),
+        (b"Reply-To ", (0, 0)),
+        (&[b't'; 258], (0, 0)),
+        (&[b't'; 65_538], (0, 0)),
+    ];
+    for (name, wanted) in cases {
+        let what = format!("name {}", name.escape_ascii());
+        tally.same(&what, (reader::known(name), reader::compared(name)), wanted);
+    }
+}
+
 /// Places of faults with levels full, and of typed addresses.
 fn edges(tally: &mut Tally) {
     let full = "<".repeat(64);
@@ -1425,6 +1493,7 @@ fn main() {
     checked_examples(&mut tally);
     run_examples(&mut tally);
     program_example(&mut tally);
+    known_names(&mut tally);
     edges(&mut tally);
     levels(&mut tally);
     records(&mut tally);

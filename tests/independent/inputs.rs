@@ -100,7 +100,7 @@ pub fn body(rng: &mut Rng, kind: Kind) -> Vec<u8> {
             mutate(rng, valid)
         }
         Kind::Reply => reply(rng),
-        Kind::Name => name(rng),
+        Kind::Name => looked_up(rng),
         Kind::Exchange => commented(rng),
         Kind::Pair => pair(rng).0,
         Kind::Expansion => expansion(rng).0,
@@ -1710,24 +1710,74 @@ fn header(rng: &mut Rng) -> Vec<u8> {
     }
 }
 
-/// A field name: known ones in any case, near ones, others.
-fn name(rng: &mut Rng) -> Vec<u8> {
-    let names: [&[u8]; 14] = [
-        b"Date", b"From", b"Reply-To", b"To", b"cc", b"Bcc", b"Subject", b"Sender", b"X y", b"T",
-        b"Reply_To", b"Froms", b"bc", b"",
-    ];
-    let mut out = rng.pick(&names).to_vec();
-    for byte in out.iter_mut() {
+/// Field names, the known ones first.
+const NAMES: [&[u8]; 14] = [
+    b"Date", b"From", b"Reply-To", b"To", b"cc", b"Bcc", b"Subject", b"Sender", b"X y", b"T",
+    b"Reply_To", b"Froms", b"bc", b"",
+];
+const KNOWN: usize = 6;
+
+/// Turns the case of some letters.
+fn turn_case(rng: &mut Rng, name: &mut [u8]) {
+    for byte in name.iter_mut() {
         if byte.is_ascii_alphabetic() && rng.once_in(3) {
             *byte ^= 32;
         }
     }
+}
+
+/// A field name: known ones in any case, near ones, others.
+fn name(rng: &mut Rng) -> Vec<u8> {
+    let mut out = rng.pick(&NAMES).to_vec();
+    turn_case(rng, &mut out);
     if rng.once_in(15) {
         out = mutate(rng, out);
     }
     if rng.once_in(30) && !out.is_empty() {
         let at = rng.below(out.len());
-        out[at] ^= 1 << rng.below(8);
+        out[at] = near_byte(rng, out[at]);
+    }
+    out
+}
+
+/// A byte that may be taken for another: one bit apart, with its low bits,
+/// next to it, right outside the letters; or a letter; or any.
+fn near_byte(rng: &mut Rng, byte: u8) -> u8 {
+    match rng.below(7) {
+        0 => byte ^ 1 << rng.below(8),
+        1 => byte & 31 | (rng.below(8) as u8) << 5,
+        2 => byte.wrapping_add(1),
+        3 => byte.wrapping_sub(1),
+        4 => b"@[`{"[rng.below(4)],
+        5 => b'a' + rng.below(26) as u8,
+        _ => rng.below(256) as u8,
+    }
+}
+
+/// A name to look up, of any bytes: a known one in any case, one that is near
+/// by its length, its first byte or one behind, or any other.
+fn looked_up(rng: &mut Rng) -> Vec<u8> {
+    let mut out = rng.pick(&NAMES[..KNOWN]).to_vec();
+    turn_case(rng, &mut out);
+    let length = out.len();
+    let behind = 1 + rng.below(length - 1);
+    match rng.below(16) {
+        0..=2 => {}
+        3..=5 => out[0] = near_byte(rng, out[0]),
+        6 => out[0] = rng.pick(&NAMES[..KNOWN])[0],
+        7..=9 => out[behind] = near_byte(rng, out[behind]),
+        10 => out.truncate(rng.below(length)),
+        11 => drop(out.remove(rng.below(length))),
+        12 => {
+            let byte = if rng.once_in(2) { b' ' } else { near_byte(rng, out[behind]) };
+            out.insert([0, behind, length][rng.below(3)], byte);
+        }
+        13 => {
+            let more = if rng.once_in(50) { 65_536 } else { [256, rng.below(300)][rng.below(2)] };
+            out.resize(length + more, b'o');
+        }
+        14 => out.fill_with(|| rng.below(256) as u8),
+        _ => return if rng.once_in(2) { name(rng) } else { bytes(rng, 10) },
     }
     out
 }

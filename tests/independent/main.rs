@@ -18,7 +18,7 @@ extern "C" {
         table: *mut u8, table_len: usize,
         told: *mut u64, told_len: usize,
     );
-    fn rfc733_known_name(name: *const u8, name_len: usize) -> u32;
+    fn rfc733_known_name(name: *const u8, name_len: usize, compared: *mut u64) -> u32;
     fn rfc733_scan(
         message: *const u8, message_len: usize, start: usize, end: usize,
         told: *mut u64, told_len: usize,
@@ -79,8 +79,11 @@ mod proved {
         answer(told)
     }
 
-    pub fn known(name: &[u8]) -> u32 {
-        unsafe { rfc733_known_name(name.as_ptr(), name.len()) }
+    /// The number of a name, and how many names were compared.
+    pub fn known(name: &[u8]) -> (u32, u64) {
+        let mut compared = u64::MAX;
+        let number = unsafe { rfc733_known_name(name.as_ptr(), name.len(), &mut compared) };
+        (number, compared)
     }
 
     pub fn scan(message: &[u8], start: usize, end: usize) -> Told {
@@ -458,18 +461,32 @@ fn compare_header(rng: &mut Rng, case: &Case, seen: &mut Seen) -> u64 {
     proved::split(message, &mut table);
     for record in table.chunks(8).take(20) {
         let at = |i: usize| usize::from(record[i]) * 256 + usize::from(record[i + 1]);
-        compare_name(case, &message[at(0)..at(2)]);
+        compare_name(case, &message[at(0)..at(2)], seen);
         let field = Case { start: at(4), end: at(6), ..*case };
         compare_body(rng, &field, seen);
     }
     0
 }
 
-fn compare_name(case: &Case, name: &[u8]) -> u64 {
-    let number = reader::known(name);
+/// Looks a name up and compares its number and how many names were compared.
+fn compare_name(case: &Case, name: &[u8], seen: &mut Seen) -> u64 {
+    let (number, compared) = (reader::known(name), reader::compared(name));
     let whole = Case { message: name, start: 0, end: name.len(), ..*case };
-    agree(&whole, "known_name", 0, proved::known(name), number);
+    agree(&whole, "known_name", 0, proved::known(name), (number, compared));
+    seen.names[number as usize][compared as usize] += 1;
     u64::from(number)
+}
+
+/// Looks many names up, as one takes next to no time; gives the last number.
+fn compare_names(rng: &mut Rng, seed: u64, seen: &mut Seen) -> u64 {
+    let kind = Kind::Name;
+    let mut number = 0;
+    for _ in 0..1_000 {
+        let name = inputs::body(rng, kind);
+        let case = Case { seed, kind, message: &name, start: 0, end: name.len() };
+        number = compare_name(&case, &name, seen);
+    }
+    number
 }
 
 fn compare_reply(case: &Case, from: &[u8]) -> u64 {
@@ -709,7 +726,7 @@ fn is_refused(store: &[u8], record: usize, number: u64) -> bool {
 }
 
 /// How often the laws of equal addresses and the limit of levels were tried,
-/// and on what.
+/// and names looked up, and on what.
 #[derive(Default)]
 struct Seen {
     steps: Steps,
@@ -740,6 +757,8 @@ struct Seen {
     /// Pairs of which one has line ends kept by folds and the other has none,
     /// with other addresses and with the same.
     kept_in_one: [u64; 2],
+    /// Names by their number and how many were compared.
+    names: [[u64; 2]; 7],
 }
 
 impl Seen {
@@ -770,6 +789,11 @@ impl Seen {
         all.push(("fold behind a backslash, cut off".to_string(), self.cut_folds));
         all.push(("line end kept in one, other pairs".to_string(), self.kept_in_one[0]));
         all.push(("line end kept in one, same pairs".to_string(), self.kept_in_one[1]));
+        for (name, times) in reader::NAMES.iter().zip(&self.names[1..]) {
+            all.push((format!("name, {}", escaped(name)), times[1]));
+        }
+        all.push(("name, other, 1 compared".to_string(), self.names[0][1]));
+        all.push(("name, other, 0 compared".to_string(), self.names[0][0]));
         all.extend(self.steps.tallies());
         all.extend(self.touches.tallies());
         all.extend(self.expansions.tallies());
@@ -901,6 +925,9 @@ struct Counts {
 
 /// Makes one input of the kind, compares, and gives the answer number.
 fn one_input(rng: &mut Rng, seed: u64, kind: Kind, seen: &mut Seen) -> u64 {
+    if kind == Kind::Name {
+        return compare_names(rng, seed, seen);
+    }
     if kind == Kind::Pair {
         return compare_pair(rng, seed, seen);
     }
@@ -917,7 +944,6 @@ fn one_input(rng: &mut Rng, seed: u64, kind: Kind, seen: &mut Seen) -> u64 {
     let whole = Case { seed, kind, message: &body, start: 0, end: body.len() };
     match kind {
         Kind::Header => compare_header(rng, &whole, seen),
-        Kind::Name => compare_name(&whole, &body),
         Kind::Reply => {
             let from = inputs::body(rng, Kind::Tokens);
             steps::compare_steps(rng, &whole, &mut seen.steps);

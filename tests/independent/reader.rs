@@ -112,17 +112,20 @@ fn find_body_end(message: &[u8], start: usize) -> Result<usize, Fault> {
     Err((4, message.len()))
 }
 
+/// The known field names, by number from 1.
+pub const NAMES: [&[u8]; 6] = [b"Date", b"From", b"Reply-To", b"To", b"cc", b"Bcc"];
+
 /// The number of a known field name, 0 for any other.
 pub fn known(name: &[u8]) -> u32 {
-    match name.to_ascii_lowercase().as_slice() {
-        b"date" => 1,
-        b"from" => 2,
-        b"reply-to" => 3,
-        b"to" => 4,
-        b"cc" => 5,
-        b"bcc" => 6,
-        _ => 0,
-    }
+    let place = NAMES.iter().position(|known| known.eq_ignore_ascii_case(name));
+    place.map_or(0, |place| place as u32 + 1)
+}
+
+/// How many known names are compared with a name letter by letter: those of
+/// its length and, case ignored, its first letter.
+pub fn compared(name: &[u8]) -> u64 {
+    let sorted_by = |name: &[u8]| (name.len(), name.first().map(u8::to_ascii_lowercase));
+    NAMES.iter().filter(|known| sorted_by(known) == sorted_by(name)).count() as u64
 }
 
 // --------------------------------------------------------------- symbols

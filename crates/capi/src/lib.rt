@@ -6,7 +6,7 @@ ghost use mathlib.Core.List.{_∷_, []};
 ghost use lib.Seq.{sets};
 ghost use Rattle.octets.specs.Believed.Choice.{pick};
 ghost use Rattle.scanner.specs.Believed.Answers.{bodyScanned, nextInBody};
-ghost use Rattle.header.specs.Believed.Names.{knownOf};
+ghost use Rattle.header.specs.Believed.Names.{knownOf, knownNumber, comparedOf};
 ghost use Rattle.header.specs.Believed.Split.{splitAnswer, splitTable};
 ghost use Rattle.addresses.specs.Believed.Outcome.{outcome};
 ghost use Rattle.editions.specs.Believed.Outcome.{outcomeOf};
@@ -15,9 +15,8 @@ ghost use Rattle.dates.specs.Believed.Outcome.{dateAnswer};
 ghost use Rattle.plain.specs.Believed.Written.{plainOutcome};
 ghost use Rattle.expansion.specs.Believed.Outcome.{expandOutcome};
 ghost use Rattle.touch.specs.Believed.Touched.{touched};
-ghost use Rattle.capi.specs.Believed.Told.{toldIn, expansionToldIn, dateToldIn, touchToldIn, classNumber, symbolToldIn, knownNumber, replyNumber};
+ghost use Rattle.capi.specs.Believed.Told.{toldIn, expansionToldIn, dateToldIn, touchToldIn, classNumber, symbolToldIn, replyNumber};
 use expansion::Expanded;
-use header::names::Known;
 use octets::answers::Answer;
 use octets::stored::store_number;
 use scanner::Class;
@@ -121,20 +120,15 @@ pub extern "C" fn rfc733_split(message: &[u8], table: &mut [u8], array: &mut [u6
     tell(array, header::fields::split(message, table));
 }
 
-// Which known field name a name is: 1 Date, 2 From, 3 Reply-To, 4 To, 5 cc, 6 Bcc, 0 any other.
+// Which known field name a name is: 1 Date, 2 From, 3 Reply-To, 4 To, 5 cc, 6 Bcc, 0 any other; and how many of them were compared with it letter by letter.
 #[no_mangle]
-pub extern "C" fn rfc733_known_name(name: &[u8]) -> u32
-    ensures { λ r. ⌜ r ≡ knownNumber (knownOf (now (name .entry))) ⌝ }
+pub extern "C" fn rfc733_known_name(name: &[u8], compared: &mut u64) -> u32
+    ensures { λ r. ⌜ (r ≡ knownNumber (knownOf (now (name .entry)))) × (now (compared .exit) ≡ comparedOf (now (name .entry))) ⌝ }
 {
-    match header::names::known_name(name) {
-        Known::Date => 1,
-        Known::From => 2,
-        Known::ReplyTo => 3,
-        Known::To => 4,
-        Known::Cc => 5,
-        Known::Bcc => 6,
-        Known::Other => 0,
-    }
+    let found = header::names::known_name(name);
+    let known = found.known;
+    *compared = found.compared as u64;
+    header::names::known_number(known) as u32
 }
 
 // Scan the body of a message from start up to end: accepted, or its first fault.

@@ -6,3 +6,5 @@ pub mod ReadBack
 pub mod StepLaws
 pub mod SplitLaws
 pub mod NameLaws
+pub mod RowLaws
+pub mod NameExamples

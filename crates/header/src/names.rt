@@ -1,8 +1,7 @@
 // The known field names.
 ghost use mathlib.Core.Path.{_≡_};
-ghost use lib.Dec.{eqb};
-ghost use Rattle.octets.specs.Believed.Letters.{lower as lowerOf};
-ghost use Rattle.header.specs.Believed.Names.{knownOf, holdsAddresses};
+ghost use Rattle.header.specs.Believed.Names.{knownNames, knownOf, knownNumber, comparedOf, holdsAddresses};
+ghost use Rattle.header.specs.Ties.Rows.{entryOf, inRow, firstLeft};
 use octets::letters::lower;
 
 // Which known name a name is.
@@ -16,63 +15,108 @@ pub enum Known {
     Other,
 }
 
+// A name looked up: which known name it is, and how many known names were compared with it letter by letter.
+pub struct LookedUp {
+    pub known: Known,
+    pub compared: usize,
+}
+
 // How many names are known.
 const COUNT: usize = 6;
 
-// Each known name in their order, its text padded with spaces, and the text's length.
-const KNOWN: [Known; 6] = [
-    Known::Date,
-    Known::From,
-    Known::ReplyTo,
-    Known::To,
-    Known::Cc,
-    Known::Bcc,
-];
+// A known name, and its text in small letters, padded with spaces to the longest.
+struct Entry(Known, [u8; 8]);
 
-const TEXTS: [[u8; 8]; 6] = [
-    *b"Date    ",
-    *b"From    ",
-    *b"Reply-To",
-    *b"To      ",
-    *b"cc      ",
-    *b"Bcc     ",
-];
-
-const LENGTHS: [usize; 6] = [4, 4, 8, 2, 2, 3];
-
-// Whether two letters agree, case ignored.
-fn same_letter(a: u8, b: u8) -> bool
-    ensures { λ r. ⌜ r ≡ eqb (lowerOf a) (lowerOf b) ⌝ }
+// What a row holds: the known names in their order, from 0.
+fn in_row(row: usize) -> Entry
+    ensures { λ r. ⌜ r ≡ entryOf (inRow row) ⌝ }
 {
-    let first = lower(a);
-    let second = lower(b);
-    first == second
+    match row {
+        0 => Entry(Known::Date, *b"date    "),
+        1 => Entry(Known::From, *b"from    "),
+        2 => Entry(Known::ReplyTo, *b"reply-to"),
+        3 => Entry(Known::To, *b"to      "),
+        4 => Entry(Known::Cc, *b"cc      "),
+        5 => Entry(Known::Bcc, *b"bcc     "),
+        _ => Entry(Known::Other, *b"        "),
+    }
 }
 
-// Which known name a name is, case ignored: the first that agrees.
-pub fn known_name(name: &[u8]) -> Known
-    ensures { λ r. ⌜ r ≡ knownOf (now (name .entry)) ⌝ }
+// The row of the known name with a name's length and, case ignored, first letter; COUNT if there is none.
+fn row_left(name: &[u8]) -> usize
+    ensures { λ r. ⌜ r ≡ firstLeft knownNames (now (name .entry)) ⌝ }
 {
-    let mut i: usize = 0;
+    match name.len() {
+        2 => match lower(name[0]) {
+            b't' => 3,
+            b'c' => 4,
+            _ => COUNT,
+        },
+        3 => match lower(name[0]) {
+            b'b' => 5,
+            _ => COUNT,
+        },
+        4 => match lower(name[0]) {
+            b'd' => 0,
+            b'f' => 1,
+            _ => COUNT,
+        },
+        8 => match lower(name[0]) {
+            b'r' => 2,
+            _ => COUNT,
+        },
+        _ => COUNT,
+    }
+}
+
+// Which known name a name is, case ignored: of those that its length and first letter leave, the first that agrees.
+pub fn known_name(name: &[u8]) -> LookedUp
+    ensures { λ r. ⌜ (r .known ≡ knownOf (now (name .entry))) × (r .compared ≡ comparedOf (now (name .entry))) ⌝ }
+{
+    let mut i = row_left(name);
+    let mut compared: usize = 0;
     let found = 'names: loop {
         if i == COUNT {
-            return Known::Other;
+            return LookedUp {
+                known: Known::Other,
+                compared: compared,
+            };
         }
-        if name.len() != LENGTHS[i] {
-            i += 1;
-            continue 'names;
-        }
-        let mut j: usize = 0;
+        compared += 1;
+        let entry = in_row(i);
+        let text = entry.1;
+        let mut j: usize = 1;
         while j < name.len() {
-            if !same_letter(name[j], TEXTS[i][j]) {
-                i += 1;
+            if lower(name[j]) != text[j] {
+                // No other known name has this length and first letter.
+                i = COUNT;
                 continue 'names;
             }
             j += 1;
         }
         break i;
     };
-    KNOWN[found]
+    let entry = in_row(found);
+    let known = entry.0;
+    LookedUp {
+        known: known,
+        compared: compared,
+    }
+}
+
+// The place of a known name in their order, from 1; 0 for any other.
+pub fn known_number(known: Known) -> u8
+    ensures { λ r. ⌜ r ≡ knownNumber known ⌝ }
+{
+    match known {
+        Known::Date => 1,
+        Known::From => 2,
+        Known::ReplyTo => 3,
+        Known::To => 4,
+        Known::Cc => 5,
+        Known::Bcc => 6,
+        Known::Other => 0,
+    }
 }
 
 // Whether a field of this name holds an address list.

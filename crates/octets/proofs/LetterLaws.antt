@@ -51,6 +51,14 @@ module _ (f : ℕ → ℕ) where
       let (h, t) = both-parts (eqb (f a) (f b)) (same f x y) e in
       ap₂ (λ c z. c ∷ z) (eqb-true (f a) (f b) h) (same-true x y t)
 
+  -- to be the same is to have the same bytes, each read through f
+  pub same-by-map : (x y : List ℕ) → same f x y ≡ sameBytes (map f x) (map f y)
+  unfolding same
+  same-by-map [] [] = refl
+  same-by-map [] (b ∷ y) = refl
+  same-by-map (a ∷ x) [] = refl
+  same-by-map (a ∷ x) (b ∷ y) = ap (λ t. both (eqb (f a) (f b)) t) (same-by-map x y)
+
   module _ (x y : List ℕ) (i : ℕ) (h : i < length x) (k : i < length y) where
     next : same f (drop i x) (drop i y) ≡ both (eqb (f (getD x i 0)) (f (getD y i 0))) (same f (drop (i + 1) x) (drop (i + 1) y))
     unfolding same

@@ -20,7 +20,7 @@ ghost use Rattle.octets.specs.Believed.Choice.{pick};
 ghost use Rattle.octets.specs.Believed.Classes.{isDigit};
 ghost use Rattle.vectors.specs.Believed.Putting.{text as textOf, next as nextOf, putting};
 ghost use Rattle.vectors.specs.Believed.Reading.{before, behind as behindOf, digitsFrom, asked as askedOf, meant as meantOf, copied, times, braced, piece, stays, decoded, startOf, endOf};
-ghost use Rattle.vectors.specs.Believed.Answers.{line as lineOf, bracketed, answerLine, valueLine, untouchedByte, untouchedNumber, written as writtenOf, rowLine, rows, frontText, counted, untouched, keptNote, given, refusesAt, knownNumber, markOf, symbols};
+ghost use Rattle.vectors.specs.Believed.Answers.{line as lineOf, bracketed, answerLine, valueLine, untouchedByte, untouchedNumber, written as writtenOf, rowLine, rows, frontText, counted, untouched, keptNote, given, refusesAt, markOf, symbols};
 ghost use Rattle.vectors.specs.Believed.Vectors.{readText, knownText, dateText, chosenText, scanText, touchText, openText, compareText, unfitText, vectorText, vectorWith, partsText, answerOf, keptLists};
 ghost use Rattle.records.specs.Believed.AddressRecords.{addressRecordSize};
 ghost use Rattle.records.specs.Believed.FieldRecords.{fieldRecordSize};
@@ -30,6 +30,7 @@ use header::fields::split;
 use header::names::Known;
 use header::names::holds_addresses;
 use header::names::known_name;
+use header::names::known_number;
 use octets::answers::Answer;
 use octets::answers::count;
 use octets::answers::number;
@@ -482,21 +483,6 @@ fn put_read(
     n
 }
 
-// The number of a known name.
-fn known_number(known: Known) -> u64
-    ensures { λ r. ⌜ r ≡ knownNumber known ⌝ }
-{
-    match known {
-        Known::Date => 1,
-        Known::From => 2,
-        Known::ReplyTo => 3,
-        Known::To => 4,
-        Known::Cc => 5,
-        Known::Bcc => 6,
-        Known::Other => 0,
-    }
-}
-
 // 1 if a test holds, else 0.
 fn one_if(test: bool) -> u64
     ensures { λ r. ⌜ r ≡ pick test 1 0 ⌝ }
@@ -504,12 +490,17 @@ fn one_if(test: bool) -> u64
     if test { 1 } else { 0 }
 }
 
-// Which known name a name is, and whether that holds an address list.
+// Which known name a name is, whether that holds an address list, and how many were compared letter by letter.
 fn put_known(name: &[u8], out: &mut [u8], n: usize) -> usize
     ensures { λ r. ⌜ Puts (knownText (now (name .entry))) (now (out .entry)) n (now (out .exit)) r ⌝ }
 {
-    let known = known_name(name);
-    let told = [known_number(known), one_if(holds_addresses(known))];
+    let found = known_name(name);
+    let known = found.known;
+    let told = [
+        known_number(known) as u64,
+        one_if(holds_addresses(known)),
+        found.compared as u64,
+    ];
     put_line(b'=', &told, out, n)
 }
 

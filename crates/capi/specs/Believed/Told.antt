@@ -10,8 +10,6 @@ use Rattle.scanner.specs.declared.Class.{Class}
 use Rattle.scanner.specs.declared.Class.the-variants.{Atom, Quoted, At, LessThan, GreaterThan, Comma, Semicolon, Colon, Stray, Dot, Literal}
 use Rattle.scanner.specs.declared.Next.{Next}
 use Rattle.scanner.specs.declared.Next.the-variants.{Found, Ended, Fault}
-use Rattle.header.specs.declared.names.Known.{Known}
-use Rattle.header.specs.declared.names.Known.the-variants.{Date, From, ReplyTo, To, Cc, Bcc, Other}
 use Rattle.dates.specs.Believed.Answers as date
 use Rattle.dates.specs.declared.DateAnswer.{DateAnswer}
 use Rattle.reply.specs.Believed.Reply.{leftForFrom}
@@ -57,16 +55,6 @@ dateToldIn lent answer = sets lent 0 (date.numberOf answer ∷ date.positionOf a
 -- of what is answered for a touched byte: what the byte is and what could have stood there, too
 abbrev pub touchToldIn : List ℕ → Touched → List ℕ
 touchToldIn lent answer = sets lent 0 (touch.numberOf answer ∷ touch.positionOf answer ∷ touch.countOf answer ∷ touch.categoryOf answer ∷ touch.namesOf answer ∷ [])
-
--- the place of a known name in document 01's order, from 1; 0 for any other name
-abbrev pub knownNumber : Known → ℕ
-knownNumber Date = 1
-knownNumber From = 2
-knownNumber ReplyTo = 3
-knownNumber To = 4
-knownNumber Cc = 5
-knownNumber Bcc = 6
-knownNumber Other = 0
 
 -- which of the two bodies to reply to: 0 for Reply-To's, 1 for From's
 abbrev pub replyNumber : List ℕ → ℕ

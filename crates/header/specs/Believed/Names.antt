@@ -1,8 +1,10 @@
--- Document 01, "Fields": the known field names.
+-- Document 01, "Fields": the known field names; document 02, CR 5: how many of them a look-up compares.
 use Prim.Native.Nat.{ℕ}
 use mathlib.Core.Bool.{Bool, true, false}
 use mathlib.Core.List.{List, [], _∷_}
-use Rattle.octets.specs.Believed.Choice.{pick}
+use lib.Dec.{eqb}
+use lib.ListN.{length, take}
+use Rattle.octets.specs.Believed.Choice.{pick, both, either}
 use Rattle.octets.specs.Believed.Letters.{sameLetters}
 use Rattle.octets.specs.Believed.Text.{bytes}
 use Rattle.header.specs.declared.names.Known.{Known}
@@ -42,3 +44,26 @@ holdsAddresses To = true
 holdsAddresses Cc = true
 holdsAddresses Bcc = true
 holdsAddresses Other = false
+
+-- the place of a known name in their order, from 1; 0 for any other name
+abbrev pub knownNumber : Known → ℕ
+knownNumber Date = 1
+knownNumber From = 2
+knownNumber ReplyTo = 3
+knownNumber To = 4
+knownNumber Cc = 5
+knownNumber Bcc = 6
+knownNumber Other = 0
+
+-- Document 02, CR 5: a name has the length of a text and, case ignored, its first letter
+unfoldable pub sameLengthAndFirst : List ℕ → List ℕ → Bool
+sameLengthAndFirst name text = both (eqb (length name) (length text)) (sameLetters (take 1 name) (take 1 text))
+
+-- one of these known names has a name's length and first letter
+unfoldable pub oneHas : List KnownName → List ℕ → Bool
+oneHas [] name = false
+oneHas (k ∷ rest) name = either (sameLengthAndFirst name (k .text)) (oneHas rest name)
+
+-- how many known names are compared with a name letter by letter: one if one has its length and first letter, else none
+abbrev pub comparedOf : List ℕ → ℕ
+comparedOf name = pick (oneHas knownNames name) 1 0

@@ -18,8 +18,6 @@ use Rattle.scanner.specs.declared.Class.{Class}
 use Rattle.scanner.specs.declared.Class.the-variants.{Atom, Quoted, At, LessThan, GreaterThan, Comma, Semicolon, Colon, Stray, Dot, Literal}
 use Rattle.scanner.specs.declared.Next.{Next}
 use Rattle.scanner.specs.declared.Next.the-variants.{Found, Ended, Fault}
-use Rattle.header.specs.declared.names.Known.{Known}
-use Rattle.header.specs.declared.names.Known.the-variants as known
 use Rattle.records.specs.Believed.AddressRecords.{AddressRecord, recordIn}
 use Rattle.addresses.specs.Believed.Outcome.{Outcome}
 use Rattle.listing.specs.Believed.Lines.{spaced}
@@ -109,16 +107,6 @@ abbrev pub refusesAt : Answer → ℕ → Bool
 refusesAt a place = both (eqb (numberOf a) noListGoesOn) (eqb (positionOf a) place)
 
 -- ---- names and symbols
-
--- the known names in document 01's order, from 1; 0 for any other
-abbrev pub knownNumber : Known → ℕ
-knownNumber known.Date = 1
-knownNumber known.From = 2
-knownNumber known.ReplyTo = 3
-knownNumber known.To = 4
-knownNumber known.Cc = 5
-knownNumber known.Bcc = 6
-knownNumber known.Other = 0
 
 -- a class of symbols by a byte: a " @ < > , ; : ) . [
 abbrev pub markOf : Class → ℕ

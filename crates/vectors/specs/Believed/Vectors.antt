@@ -12,7 +12,7 @@ use Rattle.octets.specs.Believed.Octets.{lineFeedByte}
 use Rattle.octets.specs.Believed.Stored.{numberAt}
 use Rattle.scanner.specs.Believed.Answers.{bodyScanned}
 use Rattle.reply.specs.Believed.Reply.{leftForFrom}
-use Rattle.header.specs.Believed.Names.{knownOf, holdsAddresses}
+use Rattle.header.specs.Believed.Names.{knownOf, knownNumber, comparedOf, holdsAddresses}
 use Rattle.header.specs.Believed.Split.{splitAnswer, splitTable}
 use Rattle.addresses.specs.Believed.Outcome.{Outcome, outcome}
 use Rattle.editions.specs.Believed.Outcome.{outcomeOf}
@@ -24,7 +24,7 @@ use Rattle.touch.specs.Believed.Answers as touch
 use Rattle.touch.specs.Believed.Touched.{touched}
 use Rattle.vectors.specs.Believed.Putting.{Text, text, putting}
 use Rattle.vectors.specs.Believed.Reading.{before, behind, startOf, endOf, editionOf, placeOf, roomOf, decoded}
-use Rattle.vectors.specs.Believed.Answers.{line, answerLine, valueLine, untouchedByte, untouchedNumber, given, givenBy, frontText, refusesAt, knownNumber, symbols}
+use Rattle.vectors.specs.Believed.Answers.{line, answerLine, valueLine, untouchedByte, untouchedNumber, given, givenBy, frontText, refusesAt, symbols}
 
 -- ---- what is run
 
@@ -37,9 +37,9 @@ readText letter head message table rest =
     (pick (eqb letter 102) (given fieldRecordSize (splitAnswer message table) (splitTable message table) rest)
     (pick (eqb letter 112) (givenBy 1 (plainOutcome message (startOf head) (endOf head message) table) rest) rest))))
 
--- known: the number of a known name, and whether it holds an address list
+-- known: the number of a known name, whether it holds an address list, and how many were compared letter by letter
 unfoldable pub knownText : List ℕ → List ℕ → List ℕ
-knownText name rest = line 61 (knownNumber (knownOf name) ∷ pick (holdsAddresses (knownOf name)) 1 0 ∷ []) rest
+knownText name rest = line 61 (knownNumber (knownOf name) ∷ pick (holdsAddresses (knownOf name)) 1 0 ∷ comparedOf name ∷ []) rest
 
 -- date: what is told, and the value
 unfoldable pub dateText : List ℕ → List ℕ → List ℕ → List ℕ

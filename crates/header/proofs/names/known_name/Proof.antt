@@ -1,170 +1,138 @@
--- `header::names::known_name` meets its contract: the names passed differ, so the search goes on from here; the letters passed agree. Assumes nothing.
+-- `header::names::known_name` meets its contract: at most one known name is left, and the letters passed agree with its. Assumes nothing.
 use borrow.Author.Needs.{needs}
-use borrow.Author.Tests.{eqb-true, eqb-false, not-true, not-false}
+use borrow.Author.Tests.{eqb-true, eqb-false}
 use Prim.Native.Nat.{ℕ, _+_, _-_, _≤_, _<_}
 use native.Mathlib.Omega.{arith}
-use mathlib.Core.Path.{_≡_, refl, sym, ap, _∙_}
+use mathlib.Core.Path.{_≡_, refl, sym, ap, subst, _∙_}
 use mathlib.Core.Bool.{true, false}
-use mathlib.Core.List.{List, [], _∷_, map}
-use lib.Dec.{eqb}
-use lib.ListN.{length, drop, getD, List·getD-map}
-use Rattle.octets.specs.Believed.Letters.{lower, same, sameLetters}
-use Rattle.octets.proofs.LetterLaws.{lengths-differ, byte-same, byte-differs, both-end}
-use Rattle.octets.proofs.Tables.{at}
-use Rattle.octets.specs.Believed.Text.{bytes}
-use Rattle.header.specs.Believed.Names.{KnownName, knownNames, knownIn, knownOf}
-use Rattle.header.specs.declared.names.Known.the-variants.{Date}
-use Rattle.header.proofs.NameLaws.{past, none-left, next-agrees, next-differs, Holds, holds, holds-true}
+use mathlib.Core.List.{List}
+use lib.ListN.{length, drop, getD}
+use Rattle.octets.specs.Believed.Letters.{lower, sameLetters}
+use Rattle.octets.proofs.LetterLaws.{byte-same, byte-differs, both-end}
+use Rattle.header.specs.Believed.Names.{knownNames}
+use Rattle.header.specs.Ties.Rows.{inRow, padded}
+use Rattle.header.specs.declared.names.Entry.{Entry}
+use Rattle.header.proofs.NameLaws.{past-first}
+use Rattle.header.proofs.RowLaws.{Left, known-left, none-left, left-agrees, left-differs, has-letter, in-width, small-letter}
 use Rattle.header.proofs.names.known_name.Statement.{statement}
 use Rattle.header.proofs.names.known_name.Tie as tie
-
--- the tables of the source
-texts : List (List ℕ)
-texts = bytes "Date    " ∷ bytes "From    " ∷ bytes "Reply-To" ∷ bytes "To      " ∷ bytes "cc      " ∷ bytes "Bcc     " ∷ []
-
-sizes : List ℕ
-sizes = 4 ∷ 4 ∷ 8 ∷ 2 ∷ 2 ∷ 3 ∷ []
-
-abbrev text : ℕ → List ℕ
-text i = getD knownNames i past .text
-
--- each row holds its known name
-row : (i : ℕ) → i < 6 → Holds 8 (text i) (getD texts i []) (getD sizes i 0)
-unfolding knownNames texts sizes same
-row i h =
-    holds-true 8 (text i) (getD texts i []) (getD sizes i 0)
-    (at (λ i k. holds 8 (k .text) (getD texts i []) (getD sizes i 0)) knownNames past tt i h)
 
 six : length knownNames ≡ 6
 unfolding knownNames
 six = refl
 
--- the letters before j of a name agree with those of known name i, and it is the first that can
+-- the letters before j of a name agree with those of the known name in row i
 record Comparing (name : List ℕ) (i j : ℕ) : Type 0 where
-  pub is-known : i < 6
-  pub sized : length name ≡ getD sizes i 0
+  pub is-known : i < length knownNames
+  pub sized : length name ≡ length (inRow i .text)
   pub within : j ≤ length name
-  pub searched : knownOf name ≡ knownIn (drop i knownNames) name
-  pub letters : sameLetters name (text i) ≡ sameLetters (drop j name) (drop j (text i))
+  pub letters : sameLetters name (inRow i .text) ≡ sameLetters (drop j name) (drop j (inRow i .text))
 
-module _ (name : List ℕ) {i j : ℕ} (x : Comparing name i j) where
-  holding : Holds 8 (text i) (getD texts i []) (getD sizes i 0)
-  holding = row i (x .is-known)
-
+module _ {name : List ℕ} {i j : ℕ} (x : Comparing name i j) where
   module _ (h : j < length name) where
-    letter : getD (text i) j 0 ≡ getD (getD texts i []) j 0
-    letter = holding .letters j (omega (arith, x .sized))
+    letter : getD (padded (inRow i .text)) j 0 ≡ lower (getD (inRow i .text) j 0)
+    letter = small-letter (inRow i .text) j (in-width i (x .is-known)) (omega (arith, x .sized, h))
 
-    agrees : eqb (lower (getD name j 0)) (lower (getD (getD texts i []) j 0)) ≡ true → Comparing name i (j + 1)
+    agrees : lower (getD name j 0) ≡ getD (padded (inRow i .text)) j 0 → Comparing name i (j + 1)
     agrees e =
         record {
           is-known = x .is-known;
           sized = x .sized;
-          within = omega arith;
-          searched = x .searched;
-          letters =
-              x .letters
-              ∙ byte-same lower name (text i) j h (omega (arith, x .sized, holding .sized)) (eqb-true _ _ e ∙ ap lower (sym letter));
+          within = omega (arith, h);
+          letters = x .letters ∙ byte-same lower name (inRow i .text) j h (omega (arith, x .sized, h)) (e ∙ letter);
         }
 
-    differs : eqb (lower (getD name j 0)) (lower (getD (getD texts i []) j 0)) ≡ false → knownOf name ≡ knownIn (drop (i + 1) knownNames) name
-    differs e =
-        x .searched
-        ∙ next-differs knownNames name i (omega (arith, x .is-known, six))
-        (x .letters
-        ∙ byte-differs lower name (text i) j h (omega (arith, x .sized, holding .sized)) (λ q. eqb-false _ _ e (q ∙ ap lower letter)))
+    differs : (lower (getD name j 0) ≡ getD (padded (inRow i .text)) j 0 → ⊥) → sameLetters name (inRow i .text) ≡ false
+    differs n = x .letters ∙ byte-differs lower name (inRow i .text) j h (omega (arith, x .sized, h)) (λ e. n (e ∙ sym letter))
 
-  all-agree : length name ≤ j → getD (map (λ k. k .known) knownNames) i Date ≡ knownOf name
-  all-agree h =
-      List·getD-map (λ (k : KnownName). k .known) knownNames i past
-      ∙ sym
-      (x .searched
-      ∙ next-agrees knownNames name i (omega (arith, x .is-known, six))
-      (x .letters ∙ both-end lower name (text i) j h (omega (arith, x .sized, holding .sized))))
+  all-agree : length name ≤ j → sameLetters name (inRow i .text) ≡ true
+  all-agree h = x .letters ∙ both-end lower name (inRow i .text) j h (omega (arith, x .sized, h))
 
 abbrev Inv-loop : tie.InvT-loop
-Inv-loop name i₀ j₀ i j = (i ≡ i₀) × Comparing name i j
+Inv-loop name i₀ compared text j₀ i j = (i ≡ i₀) × Comparing name i₀ j
 
 abbrev μ-loop : tie.MeasureT-loop
-μ-loop name i₀ j₀ i j = length name - j
+μ-loop name i₀ compared text j₀ i j = length name - j
 
 abbrev Inv-names : tie.InvT-names
-Inv-names name i₀ i = (i ≤ 6) × (knownOf name ≡ knownIn (drop i knownNames) name)
+Inv-names name i₀ compared₀ i compared = Left knownNames name i compared
 
 abbrev μ-names : tie.MeasureT-names
-μ-names name i₀ i = 6 - i
+μ-names name i₀ compared₀ i compared = 6 - i
 
 names-holds : tie.Need-names-holds Inv-loop μ-loop Inv-names μ-names
-names-holds c = (omega arith, refl)
+names-holds c = subst (λ i. Left knownNames (c .before .before .args .name .now) i 0) (sym (c .row-left .ensures)) (known-left _)
 
 returns : tie.Need-returns Inv-loop μ-loop Inv-names μ-names
 returns c =
-    let n = c .before .names in
-    sym (n .inv .1 ∙ none-left knownNames (c .before .before .before .args .name .now) (n .i) (omega (arith, six)))
+    let (k, n) = none-left (c .before .names .inv) (omega (arith, six, c .if1 .taken)) in
+    (sym k, sym n)
 
-array-read-if2 : tie.Need-array-read-if2 Inv-loop μ-loop Inv-names μ-names
-array-read-if2 c = omega (arith, c .before .names .inv .0, c .if1 .left)
-
-names-less : tie.Need-names-less Inv-loop μ-loop Inv-names μ-names
-names-less c = omega (arith, c .before .before .names .inv .0, c .before .if1 .left)
-
-names-again : tie.Need-names-again Inv-loop μ-loop Inv-names μ-names
-unfolding sizes
-names-again c =
-    let n = c .before .before .names in
-    let name : List ℕ = c .before .before .before .before .args .name .now in
-    let h : n .i < 6 = omega (arith, n .inv .0, c .before .if1 .left) in (
-      omega arith,
-      n .inv .1
-          ∙ next-differs knownNames name (n .i) (omega (arith, six))
-          (lengths-differ lower name (text (n .i)) (λ e. c .if2 .taken (e ∙ row (n .i) h .sized))),
-    )
+add-compared : tie.Need-add-compared Inv-loop μ-loop Inv-names μ-names
+add-compared c =
+    let l = c .before .names .inv in
+    omega (arith, l .fits (omega (arith, six, l .within, c .if1 .left)) .0)
 
 loop-holds : tie.Need-loop-holds Inv-loop μ-loop Inv-names μ-names
-unfolding sizes
+unfolding inRow
 loop-holds c =
-    let n = c .before .before .names in
-    (refl, record { is-known = omega (arith, n .inv .0, c .before .if1 .left); sized = c .if2 .left; within = omega arith; searched = n .inv .1; letters = refl })
+    let n = c .before .before .before .names in
+    let k : n .i < length knownNames = omega (arith, six, n .inv .within, c .before .before .if1 .left) in
+    let (s, e) = past-first _ _ (n .inv .fits k .1) in
+    (refl, record { is-known = k; sized = s; within = omega (arith, s, has-letter (n .i) k); letters = e })
 
-index-1-same-letter : tie.Need-index-1-same-letter Inv-loop μ-loop Inv-names μ-names
-index-1-same-letter c = c .before .before .loop .inv .1 .is-known
+array-read-if2 : tie.Need-array-read-if2 Inv-loop μ-loop Inv-names μ-names
+array-read-if2 c =
+    let x = c .before .before .before .loop .inv .1 in
+    omega (arith, x .sized, in-width _ (x .is-known), c .before .before .loop-test .taken)
 
-index-2-same-letter : tie.Need-index-2-same-letter Inv-loop μ-loop Inv-names μ-names
-index-2-same-letter c =
-    let x = c .before .before .loop .inv .1 in
-    omega (arith, x .sized, row _ (x .is-known) .fits)
+names-less : tie.Need-names-less Inv-loop μ-loop Inv-names μ-names
+names-less c =
+    let l = c .before .before .before .before .loop in
+    omega (arith, six, l .inv .0, l .inv .1 .is-known)
 
-names-less-2 : tie.Need-names-less-2 Inv-loop μ-loop Inv-names μ-names
-names-less-2 c =
-    let l = c .before .before .before .before .before .loop in
-    omega (arith, l .inv .0, l .inv .1 .is-known)
-
-names-again-2 : tie.Need-names-again-2 Inv-loop μ-loop Inv-names μ-names
-unfolding texts
-names-again-2 c =
-    let l = c .before .before .before .before .before .loop in
-    let name : List ℕ = c .before .before .before .before .before .before .before .before .before .before .args .name .now in
-    (omega (arith, l .inv .1 .is-known), differs name (l .inv .1) (omega arith) (sym (c .before .same-letter .ensures) ∙ not-true _ (c .if3 .taken)))
+names-again : tie.Need-names-again Inv-loop μ-loop Inv-names μ-names
+unfolding inRow
+names-again c =
+    let l = c .before .before .before .before .loop in
+    let e = ap (λ (r : Entry). getD (r .1) (l .j) 0) (c .before .before .before .before .before .before .in-row .ensures) in
+    left-differs (c .before .before .before .before .before .before .before .before .names .inv) (l .inv .1 .is-known) (sym six)
+    (differs (l .inv .1) (c .before .before .before .loop-test .taken) (λ q. c .if2 .taken (c .before .lower .ensures ∙ q ∙ sym e)))
 
 loop-again : tie.Need-loop-again Inv-loop μ-loop Inv-names μ-names
-unfolding texts
 loop-again c =
-    let l = c .before .before .before .before .before .loop in
-    let name : List ℕ = c .before .before .before .before .before .before .before .before .before .before .args .name .now in
-    (l .inv .0, agrees name (l .inv .1) (omega arith) (sym (c .before .same-letter .ensures) ∙ not-false _ (c .if3 .left)))
-
-array-copy-out-result : tie.Need-array-copy-out-result Inv-loop μ-loop Inv-names μ-names
-array-copy-out-result c = c .before .loop .inv .1 .is-known
+    let l = c .before .before .before .before .loop in
+    let e = ap (λ (r : Entry). getD (r .1) (l .j) 0) (c .before .before .before .before .before .before .in-row .ensures) in
+    (l .inv .0, agrees (l .inv .1) (c .before .before .before .loop-test .taken) (sym (c .before .lower .ensures) ∙ c .if2 .left ∙ e))
 
 returns-2 : tie.Need-returns-2 Inv-loop μ-loop Inv-names μ-names
-unfolding knownNames
+unfolding inRow
 returns-2 c =
     let l = c .before .before .loop in
-    all-agree (c .before .before .before .before .before .before .before .args .name .now) (l .inv .1) (omega arith)
+    let (k, n) = left-agrees (c .before .before .before .before .before .before .names .inv) (l .inv .1 .is-known) (all-agree (l .inv .1) (c .before .loop-test .left)) in
+    (ap (λ (r : Entry). r .0) (c .in-row2 .ensures) ∙ ap (λ i. inRow i .known) (l .inv .0) ∙ sym k, sym n)
 
 pub known-name-spec : {M : Type 1} → statement M
 known-name-spec =
     tie.close
-    (tie.spec Inv-loop μ-loop Inv-names μ-names names-holds returns (λ c. omega arith) array-read-if2 (λ c. omega arith) names-less names-again loop-holds
-    (λ c. omega arith) (λ c. omega arith) index-1-same-letter index-2-same-letter (λ c κs. search needs) (λ c. omega arith) names-less-2 names-again-2
-    (λ c. omega arith) (λ c. omega arith) loop-again array-copy-out-result returns-2)
+    (tie.spec
+    Inv-loop
+    μ-loop
+    Inv-names
+    μ-names
+    (λ c κs. search needs)
+    names-holds
+    returns
+    add-compared
+    (λ c κs. search needs)
+    loop-holds
+    (λ c. omega arith)
+    (λ c κs. search needs)
+    array-read-if2
+    names-less
+    names-again
+    (λ c. omega arith)
+    (λ c. omega arith)
+    loop-again
+    (λ c κs. search needs)
+    returns-2)
