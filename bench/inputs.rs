@@ -141,6 +141,27 @@ const UNSTORED: u8 = b'~';
 const DATE: &[u8] = b"Monday, 21 Nov 1977 14:30:00-EST";
 const DATE_SECONDS: usize = 2_457_977_400;
 
+// Names of fields that are looked up, and the sum of the numbers told of them.
+struct Group {
+    name: &'static str,
+    names: &'static [&'static [u8]],
+    sum: usize,
+}
+
+// The known names have the numbers 1 to 6, all others 0. The near misses are examples of document 02 (CR 5), and names with
+// another last letter.
+const GROUPS: [Group; 3] = [
+    Group { name: "the six known names", names: &[b"Date", b"From", b"Reply-To", b"To", b"cc", b"Bcc"], sum: 21 },
+    Group { name: "names of other fields", names: &[b"Subject", b"Message-ID", b"Received", b"X-Mailer"], sum: 0 },
+    Group {
+        name: "near misses",
+        names: &[
+            b"tx", b"xo", b"", b"T", b"cc ", b"Reply\rTo", b"\xe3\xe3", b"\x14o", b"Dato", b"Fron", b"Reply-Tp", b"Bcd",
+        ],
+        sum: 0,
+    },
+];
+
 const BETWEEN: &[u8] = b", ";
 
 // Most headers are short.
@@ -153,8 +174,8 @@ pub const ONCE: usize = 1000;
 pub const TWICE: usize = 1100;
 const COMMON_SIZES: [usize; 7] = [16, 110, SHORT_SIZE, ONCE, TWICE, MIDDLE, LARGEST];
 const DATE_SIZES: [usize; 1] = [DATE.len()];
-// The case has the size.
-const BY_STORE: [usize; 1] = [0];
+// The case or group has the size.
+const BY_CASE: [usize; 1] = [0];
 
 // What is done with an input.
 #[derive(Clone, Copy, PartialEq)]
@@ -173,6 +194,8 @@ pub enum Work {
     Touch,
     Split,
     Date,
+    // Looking up the names of the group of this number.
+    Names(usize),
 }
 
 impl Work {
@@ -180,6 +203,7 @@ impl Work {
     pub fn all() -> Vec<Work> {
         let mut all = Work::common();
         all.extend([Work::List822, Work::List733, Work::Plain, Work::Expand, Work::Touch, Work::Split, Work::Date]);
+        all.extend((0..GROUPS.len()).map(Work::Names));
         all
     }
 
@@ -200,6 +224,20 @@ impl Work {
         matches!(self, Work::Openings(_))
     }
 
+    // Whether its cost is that of a byte.
+    pub fn by_byte(self) -> bool {
+        !matches!(self, Work::Openings(_) | Work::Names(_))
+    }
+
+    // What its cost is that of.
+    pub fn per(self) -> &'static str {
+        match self {
+            Work::Openings(_) => "opening",
+            Work::Names(_) => "look-up",
+            _ => "byte",
+        }
+    }
+
     pub fn name(self) -> String {
         match self {
             Work::Common(number) => format!("addresses, {}", COMMON[number].name),
@@ -211,6 +249,7 @@ impl Work {
             Work::Touch => "touch, the last byte".to_string(),
             Work::Split => FIELDS.name.to_string(),
             Work::Date => "date".to_string(),
+            Work::Names(number) => format!("look-up, {}", GROUPS[number].name),
         }
     }
 
@@ -220,7 +259,7 @@ impl Work {
             Work::Date => &DATE_SIZES,
             Work::Common(0) => &COMMON_SIZES,
             Work::Common(_) => &[MIDDLE],
-            Work::Openings(_) => &BY_STORE,
+            Work::Openings(_) | Work::Names(_) => &BY_CASE,
             _ => &SIZES,
         }
     }
@@ -231,10 +270,10 @@ pub struct Input {
     pub size: usize,
     pub text: Vec<u8>,
     pub store: Vec<u8>,
-    // Addresses in it, 0 where none are read; or stored lists that are opened.
+    // Addresses in it, 0 where none are read; or stored lists that are opened, or names that are looked up.
     pub addresses: usize,
-    // What a reader with records or a value finds: records, bytes of text, records around the byte, fields, seconds; of
-    // an expansion that is refused, its number.
+    // What a reader with records or a value finds: records, bytes of text, records around the byte, fields, seconds, the
+    // sum of numbers of names; of an expansion that is refused, its number.
     pub found: usize,
 }
 
@@ -306,9 +345,16 @@ fn openings(work: Work, case: &Openings) -> Input {
     Input { work, size: text.len(), text, store, addresses, found }
 }
 
+// Each name stands after a byte with its length.
+fn names(work: Work, group: &Group) -> Input {
+    let text: Vec<u8> = group.names.iter().flat_map(|name| [&[name.len() as u8], *name].concat()).collect();
+    Input { work, size: text.len(), text, store: vec![], addresses: group.names.len(), found: group.sum }
+}
+
 pub fn input(work: Work, size: usize) -> Input {
     let (list, between) = match work {
         Work::Openings(number) => return openings(work, &OPENINGS[number]),
+        Work::Names(number) => return names(work, &GROUPS[number]),
         Work::Date => {
             return Input { work, size, text: DATE.to_vec(), store: vec![], addresses: 0, found: DATE_SECONDS };
         }

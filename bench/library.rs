@@ -12,9 +12,9 @@ const BIND_NOW: c_int = 2;
 pub const PATH: usize = 65;
 
 macro_rules! functions {
-    ($($name:ident($($argument:ty),*);)*) => {
+    ($($name:ident($($argument:ty),*) $(-> $given:ty)?;)*) => {
         pub struct Library {
-            $($name: unsafe extern "C" fn($($argument),*),)*
+            $($name: unsafe extern "C" fn($($argument),*) $(-> $given)?,)*
         }
 
         impl Library {
@@ -36,6 +36,8 @@ fn symbol(object: *mut c_void, name: &str) -> *mut c_void {
 
 functions! {
     split(*const u8, usize, *mut u8, usize, *mut u64, usize);
+    // An older library has two arguments; the third, in a register (System V), does it no harm.
+    known_name(*const u8, usize, *mut u64) -> u32;
     addresses(*const u8, usize, usize, usize, usize, *mut u8, usize, *mut u64, usize);
     addresses_by_table(*const u8, usize, usize, usize, *mut u8, usize, *mut u64, usize);
     touch(*const u8, usize, usize, usize, usize, *mut u64, usize, *mut u64, usize);
@@ -50,6 +52,12 @@ impl Library {
         let mut told = [0; 3];
         unsafe { (self.split)(m.as_ptr(), m.len(), table.as_mut_ptr(), table.len(), told.as_mut_ptr(), 3) };
         told
+    }
+
+    // The number of the name.
+    pub fn known_name(&self, name: &[u8]) -> u32 {
+        let mut compared = 0;
+        unsafe { (self.known_name)(name.as_ptr(), name.len(), &mut compared) }
     }
 
     pub fn addresses(&self, m: &[u8], start: usize, end: usize, edition: usize, table: &mut [u8]) -> [u64; 3] {

@@ -78,10 +78,10 @@ impl Task<'_> {
         elapsed / calls as f64
     }
 
-    // What a byte or opening costs.
+    // What a byte, an opening or a look-up costs.
     fn cost(&self, nanoseconds: f64, instructions: Option<f64>) -> Cost {
         let input = self.input;
-        let parts = if input.work.opens() { input.addresses } else { input.text.len() } as f64;
+        let parts = if input.work.by_byte() { input.text.len() } else { input.addresses } as f64;
         Cost { nanoseconds: nanoseconds / parts, instructions: instructions.map(|count| count / parts) }
     }
 
@@ -116,7 +116,7 @@ fn check_mailboxes(task: &Task, table: &mut [u8]) {
     assert_eq!(mailboxes, task.input.addresses, "mailboxes by {}", task.reader);
 }
 
-// The tasks of lists and dates, and those of openings, which come last.
+// The tasks of lists, dates and names, and those of openings, which come last.
 fn parted<'a, 'b>(tasks: &'a [Task<'b>]) -> (&'a [Task<'b>], &'a [Task<'b>]) {
     tasks.split_at(tasks.partition_point(|task| !task.input.work.opens()))
 }

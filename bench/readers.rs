@@ -41,6 +41,17 @@ fn expand(library: &Library) -> Read<'_> {
     })
 }
 
+// Looks up each name, which stands after a byte with its length: the sum of their numbers.
+fn looked_up(mut text: &[u8], number_of: impl Fn(&[u8]) -> u32) -> u64 {
+    let mut sum = 0;
+    while let [length, rest @ ..] = text {
+        let (name, others) = rest.split_at(usize::from(*length));
+        sum += u64::from(number_of(name));
+        text = others;
+    }
+    sum
+}
+
 // What a library has for a work.
 pub fn proved(work: Work, library: &Library) -> Vec<(&'static str, Read<'_>)> {
     let one = |read| vec![(PROVED, read)];
@@ -57,6 +68,7 @@ pub fn proved(work: Work, library: &Library) -> Vec<(&'static str, Read<'_>)> {
         Work::Touch => one(ours(|text, _, _| library.touch(text, text.len() - 1)[2])),
         Work::Split => one(ours(|text, _, table| library.split(text, table)[2])),
         Work::Date => one(ours(|text, _, _| library.date(text) as u64)),
+        Work::Names(_) => one(ours(|text, _, _| looked_up(text, |name| library.known_name(name)))),
     }
 }
 
@@ -71,6 +83,7 @@ fn independent(work: Work) -> Read<'static> {
         Work::Touch => ours(|text, _, _| reader::touch(text, 0, text.len(), text.len() - 1, &mut [0; PATH])[2]),
         Work::Split => ours(|text, _, table| reader::split(text, table).count),
         Work::Date => ours(|text, _, _| reader::date(text, 0, text.len()).1 as u64),
+        Work::Names(_) => ours(|text, _, _| looked_up(text, reader::known)),
         _ => ours(|text, store, table| {
             let (told, _) = reader::expand(text, 0, text.len(), store, table);
             told.number + told.count
@@ -119,7 +132,7 @@ fn libraries() -> Vec<(&'static str, Read<'static>)> {
 pub fn others(input: &Input) -> Vec<(&'static str, Read<'static>, usize)> {
     let mut all = match input.work {
         Work::Common(_) | Work::List733 => vec![(EXPERT, expert(), input.found)],
-        Work::Date | Work::Openings(_) => vec![(INDEPENDENT, independent(input.work), input.found)],
+        Work::Date | Work::Names(_) | Work::Openings(_) => vec![(INDEPENDENT, independent(input.work), input.found)],
         Work::Plain | Work::Expand | Work::Touch | Work::Split if input.size == MIDDLE => {
             vec![(INDEPENDENT, independent(input.work), input.found)]
         }

@@ -3,7 +3,7 @@ use crate::inputs::Work;
 use crate::readers::PROVED;
 use std::collections::HashMap;
 
-// What a byte costs, or an opening.
+// What a byte costs, an opening or a look-up.
 #[derive(Clone, Copy)]
 pub struct Cost {
     pub nanoseconds: f64,
@@ -19,7 +19,7 @@ pub struct Row {
     pub bytes: usize,
     // Records of the store.
     pub stored: usize,
-    // Addresses that are read, or stored lists that are opened.
+    // Addresses that are read, stored lists that are opened, or names that are looked up.
     pub addresses: usize,
     pub reader: &'static str,
     pub cost: Cost,
@@ -79,10 +79,10 @@ pub fn figures(rows: &[Row]) {
     println!("|---|--:|--:|---|---|--:|--:|--:|--:|--:|--:|");
     for row in rows {
         let proved = beside(rows, row, PROVED).expect("a proved reader");
-        let addresses = if row.work.opens() || row.addresses == 0 { "-".to_string() } else { row.addresses.to_string() };
-        let per = if row.work.opens() { "opening" } else { "byte" };
+        let addresses = if row.work.by_byte() && row.addresses > 0 { row.addresses.to_string() } else { "-".to_string() };
         let times = row.cells(proved, |cost| Some(cost.nanoseconds));
         let counts = row.cells(proved, |cost| cost.instructions);
+        let per = row.work.per();
         println!("| {} | {} | {addresses} | {} | {per} | {times} | {counts} |", row.what(), row.bytes, row.reader);
     }
 }

@@ -88,6 +88,10 @@ fn shown(value: f64) -> String {
     if value < 1000.0 { format!("{value:.2}") } else { format!("{value:.0}") }
 }
 
+fn cell(value: Option<f64>) -> String {
+    value.map_or("-".to_string(), shown)
+}
+
 // A line on a target: what it covers, its worst figure, and by how much each figure that misses it does.
 fn target(what: &str, covers: &str, limit: Limit, figures: &[Figure]) {
     let Some(worst) = limit.worst(figures) else {
@@ -202,8 +206,19 @@ fn lists(rows: &[Row]) {
             times_less(rows, row, GMIME, TIME),
             times_less(rows, row, ETPAN, TIME),
         ];
-        let cells = ratios.map(|ratio| ratio.map_or("-".to_string(), shown));
-        println!("| {} | {} |", row.name(), cells.join(" | "));
+        println!("| {} | {} |", row.name(), ratios.map(cell).join(" | "));
+    }
+}
+
+// The look-ups of names, group by group, before and now.
+fn look_ups(rows: &[Row]) {
+    println!("| one look-up | instructions before | now | to before | ns before | now | to before |");
+    println!("|---|--:|--:|--:|--:|--:|--:|");
+    for row in first(rows, |work| matches!(work, Work::Names(_))) {
+        let costs = [COUNT, TIME].map(|measure| {
+            [row.before.as_ref().and_then(measure), measure(&row.cost), to_before(row, measure)].map(cell).join(" | ")
+        });
+        println!("| {} | {} |", row.name(), costs.join(" | "));
     }
 }
 
@@ -226,6 +241,8 @@ pub fn targets(rows: &[Row], stack: &str) {
     before_target(rows);
     println!();
     lists(rows);
+    println!();
+    look_ups(rows);
     println!();
     meeting(rows);
 }
