@@ -148,8 +148,8 @@ struct Group {
     sum: usize,
 }
 
-// The known names have the numbers 1 to 6, all others 0. The near misses are examples of document 02 (CR 5), and names with
-// another last letter.
+// The known names have the numbers 1 to 6, all others 0. The near misses are examples of CR 5's issue, and names with another
+// last letter.
 const GROUPS: [Group; 3] = [
     Group { name: "the six known names", names: &[b"Date", b"From", b"Reply-To", b"To", b"cc", b"Bcc"], sum: 21 },
     Group { name: "names of other fields", names: &[b"Subject", b"Message-ID", b"Received", b"X-Mailer"], sum: 0 },

@@ -41,8 +41,8 @@ impl Row {
     // What is read, and by which of the proved readers if not the first.
     pub fn name(&self) -> String {
         let what = self.what();
-        let list = what.strip_prefix("addresses, ").unwrap_or(&what);
-        [list, self.reader.strip_prefix(PROVED).unwrap_or_default()].concat()
+        let short = ["addresses, ", "look-up, "].iter().find_map(|front| what.strip_prefix(front)).unwrap_or(&what);
+        [short, self.reader.strip_prefix(PROVED).unwrap_or_default()].concat()
     }
 
     pub fn key(&self) -> Key {

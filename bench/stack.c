@@ -51,6 +51,7 @@ static const struct worst inputs[] = {
     {"header of many fields", "a:\r\n", "", "", LIMIT / 4, 0, 0, SPLIT, 0},
     {"long date", " ", "1 Jan 1900 0000 Z", "", LIMIT - 17, 1, 0, DATE, 0},
     {"many parts of a date", "1 ", "", "", LIMIT / 2, 0, 0, DATE, 12},
+    {"known name", "Reply-To", "", "", 1, 0, 0, ADDRESSES, 9},
 };
 
 enum { INPUTS = sizeof inputs / sizeof *inputs };

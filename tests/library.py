@@ -113,7 +113,7 @@ for body, number, place in (
     (b"," * 32769, 1, 32768),
 ):
     refused(f"plain_length({body[:40]!r})", lambda: rfc733.plain_length(body), number, place)
-UNTOUCHED = 777
+UNTOUCHED = 2**64 - 777  # so that a number stored in fewer bits is seen
 THINGS = {"word": 1, "at": 2, "<": 4, ">": 8, "@": 16, ",": 32, ";": 64, ":": 128, "end": 256}
 
 
@@ -592,9 +592,10 @@ for arguments, status, out in (
 ):
     example = subprocess.run([root / "target/lib/example", "--edition", *arguments], capture_output=True, text=True)
     same(f"C example --edition {arguments}", (example.returncode, example.stdout), (status, out))
+
+# look-ups of field names
 KNOWN = "other", "Date", "From", "Reply-To", "To", "cc", "Bcc"
-PATTERN = 0xA5A5A5A5A5A5A5A5
-# a name is lent at the end of these bytes; the page after them may not be read, so that a look behind a name ends the test
+# a name is lent at the end of these bytes; the page after them may not be read, so that a look past a name ends the test
 LENT = 2**17
 pages = mmap.mmap(-1, LENT + mmap.PAGESIZE)
 fence = ctypes.addressof(ctypes.c_char.from_buffer(pages)) + LENT
@@ -604,13 +605,13 @@ same("the page after a name is closed", fenced, 0)
 
 def c_known(name):
     """What the C function returns and stores, and whether the name and the numbers beside the stored one stayed; beforehand
-    each number is PATTERN."""
+    each number is UNTOUCHED."""
     pages[LENT - len(name) : LENT] = name
-    stored = (ctypes.c_uint64 * 3)(*[PATTERN] * 3)
+    stored = (ctypes.c_uint64 * 3)(*[UNTOUCHED] * 3)
     function = rfc733._load().rfc733_known_name
     function.restype = ctypes.c_uint32
     number = function(ctypes.c_void_p(fence - len(name)), ctypes.c_size_t(len(name)), ctypes.byref(stored, 8))
-    stayed = pages[LENT - len(name) : LENT] == name and stored[0] == stored[2] == PATTERN
+    stayed = pages[LENT - len(name) : LENT] == name and stored[0] == stored[2] == UNTOUCHED
     return number, stored[1], stayed
 
 
@@ -679,7 +680,7 @@ for kind in (bytes, bytearray, memoryview, list):
     same(f"looked_up of a {kind.__name__}", rfc733.looked_up(kind(b"fROM")), (2, 1))
     same(f"known_name of a {kind.__name__}", rfc733.known_name(kind(b"fROM")), 2)
 for argument in ("To", None, 2, 2.0):
-    for function in (rfc733.looked_up, rfc733.known_name, rfc733.fields, rfc733.plain, rfc733.date):
+    for function in (rfc733.looked_up, rfc733.known_name):
         try:
             got = function(argument)
         except TypeError:

@@ -1710,8 +1710,8 @@ fn header(rng: &mut Rng) -> Vec<u8> {
     }
 }
 
-/// Field names, the known ones first.
-const NAMES: [&[u8]; 14] = [
+/// Names of fields, the known ones first.
+const FIELD_NAMES: [&[u8]; 14] = [
     b"Date", b"From", b"Reply-To", b"To", b"cc", b"Bcc", b"Subject", b"Sender", b"X y", b"T",
     b"Reply_To", b"Froms", b"bc", b"",
 ];
@@ -1728,7 +1728,7 @@ fn turn_case(rng: &mut Rng, name: &mut [u8]) {
 
 /// A field name: known ones in any case, near ones, others.
 fn name(rng: &mut Rng) -> Vec<u8> {
-    let mut out = rng.pick(&NAMES).to_vec();
+    let mut out = rng.pick(&FIELD_NAMES).to_vec();
     turn_case(rng, &mut out);
     if rng.once_in(15) {
         out = mutate(rng, out);
@@ -1755,22 +1755,22 @@ fn near_byte(rng: &mut Rng, byte: u8) -> u8 {
 }
 
 /// A name to look up, of any bytes: a known one in any case, one that is near
-/// by its length, its first byte or one behind, or any other.
+/// by its length, its first byte or a later one, or any other.
 fn looked_up(rng: &mut Rng) -> Vec<u8> {
-    let mut out = rng.pick(&NAMES[..KNOWN]).to_vec();
+    let mut out = rng.pick(&FIELD_NAMES[..KNOWN]).to_vec();
     turn_case(rng, &mut out);
     let length = out.len();
-    let behind = 1 + rng.below(length - 1);
+    let later = 1 + rng.below(length - 1);
     match rng.below(16) {
         0..=2 => {}
         3..=5 => out[0] = near_byte(rng, out[0]),
-        6 => out[0] = rng.pick(&NAMES[..KNOWN])[0],
-        7..=9 => out[behind] = near_byte(rng, out[behind]),
+        6 => out[0] = rng.pick(&FIELD_NAMES[..KNOWN])[0],
+        7..=9 => out[later] = near_byte(rng, out[later]),
         10 => out.truncate(rng.below(length)),
         11 => drop(out.remove(rng.below(length))),
         12 => {
-            let byte = if rng.once_in(2) { b' ' } else { near_byte(rng, out[behind]) };
-            out.insert([0, behind, length][rng.below(3)], byte);
+            let byte = if rng.once_in(2) { b' ' } else { near_byte(rng, out[later]) };
+            out.insert([0, later, length][rng.below(3)], byte);
         }
         13 => {
             let more = if rng.once_in(50) { 65_536 } else { [256, rng.below(300)][rng.below(2)] };

@@ -725,8 +725,8 @@ fn is_refused(store: &[u8], record: usize, number: u64) -> bool {
     reader::addresses(list, 0, list.len(), &mut []).number == number
 }
 
-/// How often the laws of equal addresses and the limit of levels were tried,
-/// and names looked up, and on what.
+/// How often the laws of equal addresses and the limit of levels were tried
+/// and names were looked up, and on what.
 #[derive(Default)]
 struct Seen {
     steps: Steps,

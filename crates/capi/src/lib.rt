@@ -125,9 +125,9 @@ pub extern "C" fn rfc733_split(message: &[u8], table: &mut [u8], array: &mut [u6
 pub extern "C" fn rfc733_known_name(name: &[u8], compared: &mut u64) -> u32
     ensures { λ r. ⌜ (r ≡ knownNumber (knownOf (now (name .entry)))) × (now (compared .exit) ≡ comparedOf (now (name .entry))) ⌝ }
 {
-    let found = header::names::known_name(name);
-    let known = found.known;
-    *compared = found.compared as u64;
+    let looked_up = header::names::known_name(name);
+    let known = looked_up.known;
+    *compared = looked_up.compared as u64;
     header::names::known_number(known) as u32
 }
 

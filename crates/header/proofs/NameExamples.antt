@@ -1,4 +1,4 @@
--- The examples of document 02, CR 5, computed. Assumes nothing.
+-- Document 02, CR 5: the examples of its issue, worked out by hand, in one table. Assumes nothing.
 use Prim.Native.Nat.{ℕ}
 use mathlib.Core.Path.{_≡_, refl}
 use mathlib.Core.List.{List, [], _∷_, map}

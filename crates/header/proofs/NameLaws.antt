@@ -9,7 +9,7 @@ use lib.Dec.{eqb}
 use lib.ListN.{length, length-map, take, drop}
 use Rattle.octets.specs.Believed.Choice.{pick, both, either}
 use Rattle.octets.specs.Believed.Letters.{lower, same, sameBytes, sameLetters}
-use Rattle.octets.proofs.ChoiceLaws.{both-parts, neither}
+use Rattle.octets.proofs.ChoiceLaws.{both-parts, neither-parts}
 use Rattle.octets.proofs.LetterLaws.{same-true, same-by-map}
 use Rattle.header.specs.Believed.Names.{KnownName, knownNames, knownIn, sameLengthAndFirst, oneHas, comparedOf}
 use Rattle.header.specs.declared.names.Known.the-variants.{Other}
@@ -69,7 +69,7 @@ pub none-agrees : (names : List KnownName) (name : List ℕ) → oneHas names na
 unfolding oneHas knownIn
 none-agrees [] name e = refl
 none-agrees (k ∷ rest) name e =
-    let (h, t) = neither (sameLengthAndFirst name (k .text)) (oneHas rest name) e in rw (differing name (k .text) h) (none-agrees rest name t)
+    let (h, t) = neither-parts (sameLengthAndFirst name (k .text)) (oneHas rest name) e in rw (differing name (k .text) h) (none-agrees rest name t)
 
 -- each of these names has another pair of length and first letter
 unfoldable pub pairsDiffer : List KnownName → Bool

@@ -14,7 +14,7 @@ use Rattle.octets.specs.Believed.Octets.{spaceByte}
 use Rattle.octets.proofs.ChoiceLaws.{both-true, both-parts}
 use Rattle.octets.proofs.Tables.{at, both-left, both-right}
 use Rattle.header.specs.Believed.Names.{KnownName, knownNames, knownIn, sameLengthAndFirst, oneHas}
-use Rattle.header.specs.Ties.Rows.{pastRows, inRow, textWidth, padded, firstLeft}
+use Rattle.header.specs.Ties.Rows.{pastRows, inRow, textWidth, padded, rowLeft}
 use Rattle.header.specs.declared.names.Known.the-variants.{Other}
 use Rattle.header.proofs.NameLaws.{differing, one-shared, none-agrees, pairsDiffer, known-differ}
 
@@ -26,15 +26,15 @@ pub record Left (names : List KnownName) (name : List ℕ) (i compared : ℕ) : 
   pub fits : i < length names → (compared ≡ 0) × (sameLengthAndFirst name (getD names i pastRows .text) ≡ true)
 
 -- before the first is compared, that in the first row with a name's length and first letter is left
-pub one-left : (names : List KnownName) (name : List ℕ) → pairsDiffer names ≡ true → Left names name (firstLeft names name) 0
-unfolding pairsDiffer firstLeft oneHas knownIn
+pub one-left : (names : List KnownName) (name : List ℕ) → pairsDiffer names ≡ true → Left names name (rowLeft names name) 0
+unfolding pairsDiffer rowLeft oneHas knownIn
 one-left [] name p = record { within = omega arith; searched = refl; counted = refl; fits = λ h. absurd (omega (arith, h)) }
 one-left (k ∷ rest) name p =
     let (d, q) = both-parts (not (oneHas rest (k .text))) (pairsDiffer rest) p in
     by (sameLengthAndFirst name (k .text)) refl (not-true _ d) (one-left rest name q)
   where
-    by : (t : Bool) → sameLengthAndFirst name (k .text) ≡ t → oneHas rest (k .text) ≡ false → Left rest name (firstLeft rest name) 0
-        → Left (k ∷ rest) name (pick t 0 (suc (firstLeft rest name))) 0
+    by : (t : Bool) → sameLengthAndFirst name (k .text) ≡ t → oneHas rest (k .text) ≡ false → Left rest name (rowLeft rest name) 0
+        → Left (k ∷ rest) name (pick t 0 (suc (rowLeft rest name))) 0
     by true e d l =
         let n = none-agrees rest name (one-shared rest name (k .text) e ∙ d) in
         record { within = omega arith; searched = rw n; counted = rw e; fits = λ h. (refl, e) }
@@ -47,7 +47,7 @@ one-left (k ∷ rest) name p =
         }
 
 -- of the known names
-pub known-left : (name : List ℕ) → Left knownNames name (firstLeft knownNames name) 0
+pub known-left : (name : List ℕ) → Left knownNames name (rowLeft knownNames name) 0
 known-left name = one-left knownNames name known-differ
 
 module _ {names : List KnownName} {name : List ℕ} {i compared : ℕ} (l : Left names name i compared) where
@@ -84,7 +84,7 @@ module _ {names : List KnownName} {name : List ℕ} {i compared : ℕ} (l : Left
           fits = λ k. absurd (omega (arith, q, k));
         }
 
--- each known name has a letter, and its row holds it in small letters
+-- a text has a letter, and no more than a row holds
 abbrev held : KnownName → Bool
 held k = both (ltb 0 (length (k .text))) (leb (length (k .text)) textWidth)
 
@@ -96,12 +96,14 @@ module _ (i : ℕ) (h : i < length knownNames) where
   abbrev size : ℕ
   size = length (inRow i .text)
 
+  -- so has a known name's
   pub has-letter : 0 < size
   has-letter = ltb→lt 0 size (both-left (ltb 0 size) (leb size textWidth) holds)
 
   pub in-width : size ≤ textWidth
   in-width = leb→le size textWidth (both-right (ltb 0 size) (leb size textWidth) holds)
 
+-- a letter in a row is the text's, made small
 pub small-letter : (text : List ℕ) (j : ℕ) → length text ≤ textWidth → j < length text → getD (padded text) j 0 ≡ lower (getD text j 0)
 unfolding padded lower
 small-letter text j w h =
@@ -109,23 +111,21 @@ small-letter text j w h =
     ∙ List·getD-append (map lower text) (replicate textWidth spaceByte) 0 j (rw (length-map text lower) h)
     ∙ List·getD-map lower text j 0
 
--- the row that a length and a small letter leave
+-- the first row of these names with this length and this first letter, made small; the number of rows if there is none
 unfoldable pub rowBy : List KnownName → ℕ → ℕ → ℕ
 rowBy [] size letter = 0
 rowBy (k ∷ rest) size letter = pick (both (eqb size (length (k .text))) (eqb letter (lower (getD (k .text) 0 0)))) 0 (suc (rowBy rest size letter))
 
-module _ (a : ℕ) (x : List ℕ) where
-  by-letter : (text : List ℕ) → sameLengthAndFirst (a ∷ x) text ≡ both (eqb (length (a ∷ x)) (length text)) (eqb (lower a) (lower (getD text 0 0)))
-  unfolding sameLengthAndFirst same
-  by-letter [] = rw (ne-eqb (suc (length x)) 0 (λ e. omega (arith, e)))
-  by-letter (b ∷ text) = ap (λ t. both (eqb (length (a ∷ x)) (length (b ∷ text))) t) (both-true (eqb (lower a) (lower b)))
+-- a name leaves the row of its length and first letter, if it has a letter
+pub left-by-letter : (names : List KnownName) (name : List ℕ) {size letter : ℕ} → T (ltb 0 size) → length name ≡ size → letter ≡ lower (getD name 0 0) → rowLeft names name ≡ rowBy names size letter
+unfolding sameLengthAndFirst same rowLeft rowBy
+left-by-letter names [] {size} t n e = absurd (omega (arith, n, ltb→lt 0 size t))
+left-by-letter names (a ∷ x) {size} {letter} t n e = of names ∙ ap₂ (λ s l. rowBy names s l) n (sym e)
+  where
+    by-letter : (text : List ℕ) → sameLengthAndFirst (a ∷ x) text ≡ both (eqb (length (a ∷ x)) (length text)) (eqb (lower a) (lower (getD text 0 0)))
+    by-letter [] = rw (ne-eqb (suc (length x)) 0 (λ e. omega (arith, e)))
+    by-letter (b ∷ text) = ap (λ t. both (eqb (length (a ∷ x)) (length (b ∷ text))) t) (both-true (eqb (lower a) (lower b)))
 
-  left-by : (names : List KnownName) → firstLeft names (a ∷ x) ≡ rowBy names (length (a ∷ x)) (lower a)
-  unfolding firstLeft rowBy
-  left-by [] = refl
-  left-by (k ∷ rest) = ap₂ (λ t i. pick t 0 (suc i)) (by-letter (k .text)) (left-by rest)
-
--- is the one that a name of that length and first letter leaves
-pub left-by-letter : (names : List KnownName) (name : List ℕ) {size letter : ℕ} → 0 < length name → length name ≡ size → letter ≡ lower (getD name 0 0) → firstLeft names name ≡ rowBy names size letter
-left-by-letter names [] h n e = absurd (omega (arith, h))
-left-by-letter names (a ∷ x) h n e = left-by a x names ∙ ap₂ (λ s l. rowBy names s l) n (sym e)
+    of : (names : List KnownName) → rowLeft names (a ∷ x) ≡ rowBy names (length (a ∷ x)) (lower a)
+    of [] = refl
+    of (k ∷ rest) = ap₂ (λ t i. pick t 0 (suc i)) (by-letter (k .text)) (of rest)

@@ -1,7 +1,10 @@
 // The known field names.
 ghost use mathlib.Core.Path.{_≡_};
+ghost use Prim.Native.Nat.{_<_};
+ghost use lib.ListN.{length, getD};
+ghost use Rattle.octets.specs.Believed.Letters.{lower as lowerOf};
 ghost use Rattle.header.specs.Believed.Names.{knownNames, knownOf, knownNumber, comparedOf, holdsAddresses};
-ghost use Rattle.header.specs.Ties.Rows.{entryOf, inRow, firstLeft};
+ghost use Rattle.header.specs.Ties.Rows.{entryOf, inRow, rowLeft};
 use octets::letters::lower;
 
 // Which known name a name is.
@@ -24,7 +27,7 @@ pub struct LookedUp {
 // How many names are known.
 const COUNT: usize = 6;
 
-// A known name, and its text in small letters, padded with spaces to the longest.
+// An entry of the table of known names: the name, and its text in small letters, padded with spaces to the longest.
 struct Entry(Known, [u8; 8]);
 
 // What a row holds: the known names in their order, from 0.
@@ -42,26 +45,34 @@ fn in_row(row: usize) -> Entry
     }
 }
 
+// The letter at a place of a name, made small.
+fn letter(name: &[u8], place: usize) -> u8
+    requires { ⌜ place < length (now name) ⌝ }
+    ensures { λ r. ⌜ r ≡ lowerOf (getD (now (name .entry)) place 0) ⌝ }
+{
+    lower(name[place])
+}
+
 // The row of the known name with a name's length and, case ignored, first letter; COUNT if there is none.
 fn row_left(name: &[u8]) -> usize
-    ensures { λ r. ⌜ r ≡ firstLeft knownNames (now (name .entry)) ⌝ }
+    ensures { λ r. ⌜ r ≡ rowLeft knownNames (now (name .entry)) ⌝ }
 {
     match name.len() {
-        2 => match lower(name[0]) {
+        2 => match letter(name, 0) {
             b't' => 3,
             b'c' => 4,
             _ => COUNT,
         },
-        3 => match lower(name[0]) {
+        3 => match letter(name, 0) {
             b'b' => 5,
             _ => COUNT,
         },
-        4 => match lower(name[0]) {
+        4 => match letter(name, 0) {
             b'd' => 0,
             b'f' => 1,
             _ => COUNT,
         },
-        8 => match lower(name[0]) {
+        8 => match letter(name, 0) {
             b'r' => 2,
             _ => COUNT,
         },
@@ -69,7 +80,8 @@ fn row_left(name: &[u8]) -> usize
     }
 }
 
-// Which known name a name is, case ignored: of those that its length and first letter leave, the first that agrees.
+// Which known name a name is, case ignored: of those that its length and first letter leave, the first that agrees; and how
+// many were compared.
 pub fn known_name(name: &[u8]) -> LookedUp
     ensures { λ r. ⌜ (r .known ≡ knownOf (now (name .entry))) × (r .compared ≡ comparedOf (now (name .entry))) ⌝ }
 {
@@ -79,7 +91,7 @@ pub fn known_name(name: &[u8]) -> LookedUp
         if i == COUNT {
             return LookedUp {
                 known: Known::Other,
-                compared: compared,
+                compared,
             };
         }
         compared += 1;
@@ -87,7 +99,7 @@ pub fn known_name(name: &[u8]) -> LookedUp
         let text = entry.1;
         let mut j: usize = 1;
         while j < name.len() {
-            if lower(name[j]) != text[j] {
+            if letter(name, j) != text[j] {
                 // No other known name has this length and first letter.
                 i = COUNT;
                 continue 'names;
@@ -98,13 +110,10 @@ pub fn known_name(name: &[u8]) -> LookedUp
     };
     let entry = in_row(found);
     let known = entry.0;
-    LookedUp {
-        known: known,
-        compared: compared,
-    }
+    LookedUp { known, compared }
 }
 
-// The place of a known name in their order, from 1; 0 for any other.
+// The number of a known name: its place in their order, from 1; 0 for any other.
 pub fn known_number(known: Known) -> u8
     ensures { λ r. ⌜ r ≡ knownNumber known ⌝ }
 {

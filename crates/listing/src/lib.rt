@@ -208,8 +208,8 @@ fn name_at(message: &[u8], start: usize, end: usize) -> Known
     requires { ⌜ (start ≤ end) × (end ≤ length (now message)) ⌝ }
     ensures { λ r. ⌜ r ≡ knownOf (part (now (message .entry)) start end) ⌝ }
 {
-    let found = known_name(&message[start..end]);
-    found.known
+    let looked_up = known_name(&message[start..end]);
+    looked_up.known
 }
 
 // The lines of a body, by the name of its field.

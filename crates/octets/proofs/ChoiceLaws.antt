@@ -25,9 +25,9 @@ both-parts true b e = (refl, e)
 both-parts false b e = absurd (let z : _≡_ {A = ℕ} 0 1 = cc in omega arith)
 
 -- where not one of two holds, neither does
-pub neither : (a b : Bool) → either a b ≡ false → (a ≡ false) × (b ≡ false)
-neither true b e = absurd (let z : _≡_ {A = ℕ} 0 1 = cc in omega arith)
-neither false b e = (refl, e)
+pub neither-parts : (a b : Bool) → either a b ≡ false → (a ≡ false) × (b ≡ false)
+neither-parts true b e = absurd (let z : _≡_ {A = ℕ} 0 1 = cc in omega arith)
+neither-parts false b e = (refl, e)
 
 -- where one of two holds, it is one of them
 pub either-parts : (a b : Bool) → either a b ≡ true → (a ≡ true) ⊎ (b ≡ true)

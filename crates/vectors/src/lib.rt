@@ -27,7 +27,6 @@ ghost use Rattle.records.specs.Believed.FieldRecords.{fieldRecordSize};
 ghost use Rattle.vectors.specs.Ties.Puts.{Puts, shownLimit};
 use dates::read_date;
 use header::fields::split;
-use header::names::Known;
 use header::names::holds_addresses;
 use header::names::known_name;
 use header::names::known_number;
@@ -494,12 +493,12 @@ fn one_if(test: bool) -> u64
 fn put_known(name: &[u8], out: &mut [u8], n: usize) -> usize
     ensures { λ r. ⌜ Puts (knownText (now (name .entry))) (now (out .entry)) n (now (out .exit)) r ⌝ }
 {
-    let found = known_name(name);
-    let known = found.known;
+    let looked_up = known_name(name);
+    let known = looked_up.known;
     let told = [
         known_number(known) as u64,
         one_if(holds_addresses(known)),
-        found.compared as u64,
+        looked_up.compared as u64,
     ];
     put_line(b'=', &told, out, n)
 }

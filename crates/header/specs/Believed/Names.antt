@@ -45,7 +45,7 @@ holdsAddresses Cc = true
 holdsAddresses Bcc = true
 holdsAddresses Other = false
 
--- the place of a known name in their order, from 1; 0 for any other name
+-- the number by which C tells a known name: its place in their order, from 1; 0 for any other name
 abbrev pub knownNumber : Known → ℕ
 knownNumber Date = 1
 knownNumber From = 2

@@ -30,6 +30,6 @@ abbrev pub entryOf : KnownName → Entry
 entryOf k = (k .known, padded (k .text))
 
 -- the row of the first name with a name's length and first letter; the number of rows if there is none
-unfoldable pub firstLeft : List KnownName → List ℕ → ℕ
-firstLeft [] name = 0
-firstLeft (k ∷ rest) name = pick (sameLengthAndFirst name (k .text)) 0 (suc (firstLeft rest name))
+unfoldable pub rowLeft : List KnownName → List ℕ → ℕ
+rowLeft [] name = 0
+rowLeft (k ∷ rest) name = pick (sameLengthAndFirst name (k .text)) 0 (suc (rowLeft rest name))

@@ -106,7 +106,7 @@ givenBy size o rest = given size (o .answer) (o .table) rest
 abbrev pub refusesAt : Answer → ℕ → Bool
 refusesAt a place = both (eqb (numberOf a) noListGoesOn) (eqb (positionOf a) place)
 
--- ---- names and symbols
+-- ---- symbols
 
 -- a class of symbols by a byte: a " @ < > , ; : ) . [
 abbrev pub markOf : Class → ℕ

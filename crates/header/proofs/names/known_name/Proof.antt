@@ -1,6 +1,5 @@
 -- `header::names::known_name` meets its contract: at most one known name is left, and the letters passed agree with its. Assumes nothing.
 use borrow.Author.Needs.{needs}
-use borrow.Author.Tests.{eqb-true, eqb-false}
 use Prim.Native.Nat.{ℕ, _+_, _-_, _≤_, _<_}
 use native.Mathlib.Omega.{arith}
 use mathlib.Core.Path.{_≡_, refl, sym, ap, subst, _∙_}
@@ -83,27 +82,27 @@ loop-holds c =
 
 array-read-if2 : tie.Need-array-read-if2 Inv-loop μ-loop Inv-names μ-names
 array-read-if2 c =
-    let x = c .before .before .before .loop .inv .1 in
-    omega (arith, x .sized, in-width _ (x .is-known), c .before .before .loop-test .taken)
+    let x = c .before .before .loop .inv .1 in
+    omega (arith, x .sized, in-width _ (x .is-known), c .before .loop-test .taken)
 
 names-less : tie.Need-names-less Inv-loop μ-loop Inv-names μ-names
 names-less c =
-    let l = c .before .before .before .before .loop in
+    let l = c .before .before .before .loop in
     omega (arith, six, l .inv .0, l .inv .1 .is-known)
 
 names-again : tie.Need-names-again Inv-loop μ-loop Inv-names μ-names
 unfolding inRow
 names-again c =
-    let l = c .before .before .before .before .loop in
-    let e = ap (λ (r : Entry). getD (r .1) (l .j) 0) (c .before .before .before .before .before .before .in-row .ensures) in
-    left-differs (c .before .before .before .before .before .before .before .before .names .inv) (l .inv .1 .is-known) (sym six)
-    (differs (l .inv .1) (c .before .before .before .loop-test .taken) (λ q. c .if2 .taken (c .before .lower .ensures ∙ q ∙ sym e)))
+    let l = c .before .before .before .loop in
+    let e = ap (λ (r : Entry). getD (r .1) (l .j) 0) (c .before .before .before .before .before .in-row .ensures) in
+    left-differs (c .before .before .before .before .before .before .before .names .inv) (l .inv .1 .is-known) (sym six)
+    (differs (l .inv .1) (c .before .before .loop-test .taken) (λ q. c .if2 .taken (c .before .letter .ensures ∙ q ∙ sym e)))
 
 loop-again : tie.Need-loop-again Inv-loop μ-loop Inv-names μ-names
 loop-again c =
-    let l = c .before .before .before .before .loop in
-    let e = ap (λ (r : Entry). getD (r .1) (l .j) 0) (c .before .before .before .before .before .before .in-row .ensures) in
-    (l .inv .0, agrees (l .inv .1) (c .before .before .before .loop-test .taken) (sym (c .before .lower .ensures) ∙ c .if2 .left ∙ e))
+    let l = c .before .before .before .loop in
+    let e = ap (λ (r : Entry). getD (r .1) (l .j) 0) (c .before .before .before .before .before .in-row .ensures) in
+    (l .inv .0, agrees (l .inv .1) (c .before .before .loop-test .taken) (sym (c .before .letter .ensures) ∙ c .if2 .left ∙ e))
 
 returns-2 : tie.Need-returns-2 Inv-loop μ-loop Inv-names μ-names
 unfolding inRow
@@ -126,7 +125,6 @@ known-name-spec =
     add-compared
     (λ c κs. search needs)
     loop-holds
-    (λ c. omega arith)
     (λ c κs. search needs)
     array-read-if2
     names-less
