@@ -33,7 +33,7 @@ differing name text e = of (sameLetters name text) refl
     of true h = absurd (true≢false (sym (agreeing name text h) ∙ e))
     of false h = refl
 
--- they agree if they do past the first letter
+-- a name with a text's length and first letter agrees with it if it does past that letter
 pub past-first : (name text : List ℕ) → sameLengthAndFirst name text ≡ true → (length name ≡ length text) × (sameLetters name text ≡ sameLetters (drop 1 name) (drop 1 text))
 unfolding sameLengthAndFirst same
 past-first name text e =
@@ -99,6 +99,6 @@ one-or-none (k ∷ rest) name p =
     by true e d r = let n : manyHave rest name ≡ 0 = r ∙ rw (one-shared rest name (k .text) e ∙ d) in omega (arith, n)
     by false e d r = omega (arith, r)
 
--- of the known names
+-- so is the count of the known names
 pub known-counted : (name : List ℕ) → manyHave knownNames name ≡ comparedOf name
 known-counted name = one-or-none knownNames name known-differ

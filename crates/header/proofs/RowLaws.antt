@@ -46,7 +46,7 @@ one-left (k ∷ rest) name p =
           fits = λ h. l .fits (omega (arith, h));
         }
 
--- of the known names
+-- so it is with the known names
 pub known-left : (name : List ℕ) → Left knownNames name (rowLeft knownNames name) 0
 known-left name = one-left knownNames name known-differ
 
