@@ -2,6 +2,8 @@
 //
 // The list reader and the address reader call each other, what is left of the text and the levels left falling.
 // Two of the calls go down one level, read_enclosed's of the list reader and read_typed's of the address reader; the others keep the level. So at most 64 are open.
+#![tactic(auto)]
+
 ghost use Rattle.std.specs.Prelude.{◌≡◌, ◌+◌, ◌*◌, ◌-◌, ◌≤◌, ◌<◌, length, get_or};
 ghost use Rattle.std.proofs.lemmas.List.Edits.{sets};
 ghost use Rattle.octets.specs.Believed.Numbers.{message_limit, level_limit};

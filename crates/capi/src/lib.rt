@@ -1,6 +1,8 @@
 // The libraries for C: lent memory is a pointer with a length, and answers are numbers. Each function refuses as the library does.
 //
 // `told` is an array of three: an answer's number, position and count; of four for an expansion, of five for a touched byte, of seven for a symbol. Of a shorter one the front is filled.
+#![tactic(auto)]
+
 ghost use Rattle.std.specs.Prelude.{◌≡◌, ◌∷◌, []};
 ghost use Rattle.std.proofs.lemmas.List.Edits.{sets};
 ghost use Rattle.octets.specs.Believed.Choice.{pick};

@@ -2,6 +2,8 @@
 //
 // What is expected stands in `stdout`. It was worked out by hand, the dates by Python's datetime: the seconds of
 // datetime(year, month, day, hour, minute, second) - datetime(1900, 1, 1), less 60 for each minute that local time is ahead of GMT.
+#![tactic(auto)]
+
 ghost use Rattle.std.specs.Prelude.{◌≤◌, length};
 
 use libc::{STDIN_FILENO, STDOUT_FILENO};

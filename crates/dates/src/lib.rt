@@ -1,4 +1,6 @@
 // Reading dates.
+#![tactic(auto)]
+
 ghost use Rattle.std.specs.Prelude.{◌≡◌};
 ghost use Rattle.dates.specs.Believed.Answers.{number_of, position_of, count_of, value_of, told};
 ghost use Rattle.dates.specs.Believed.ByGrammar.{ByGrammar};

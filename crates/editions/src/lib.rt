@@ -2,6 +2,8 @@
 //
 // In RFC 822 a group holds mailboxes and nothing holds a group, so that one loop over the symbols reads a list: a table gives the
 // next place for each place and class, and coming to a place begins a record or comes to its end.
+#![tactic(auto)]
+
 ghost use Rattle.std.specs.Prelude.{◌≡◌, ◌+◌, ◌*◌, ◌≤◌, ◌<◌, get_or};
 ghost use Rattle.std.proofs.lemmas.List.Edits.{sets};
 ghost use Rattle.octets.specs.Believed.Choice.{both};

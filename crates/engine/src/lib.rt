@@ -2,6 +2,8 @@
 // It says, too, what could stand where it stops.
 //
 // No function here calls itself, directly or through others.
+#![tactic(auto)]
+
 ghost use Rattle.std.specs.Prelude.{◌≡◌, ◌+◌, ◌*◌, ◌≤◌, ◌<◌, length, get_or, set};
 ghost use Rattle.octets.specs.Believed.Numbers.{message_limit, level_limit};
 ghost use Rattle.grammar.specs.Executable.Machine733.{answer};

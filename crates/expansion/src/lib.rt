@@ -2,6 +2,8 @@
 //
 // One walk over symbols goes on through the stored lists, each of them as if it stood between two commas. No list is copied; the plain
 // text of one mailbox at a time is, to compare it with names. An opening calls the walk again, at most 64 deep.
+#![tactic(auto)]
+
 ghost use Rattle.std.specs.Prelude.{true, false, ◌≡◌, ◌+◌, ◌*◌, ◌-◌, ◌≤◌, ◌<◌, leb, length, take};
 ghost use Rattle.std.proofs.lemmas.List.Edits.{sets};
 ghost use Rattle.octets.specs.Believed.Choice.{both};

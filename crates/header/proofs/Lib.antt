@@ -8,3 +8,4 @@ pub mod SplitLaws
 pub mod NameLaws
 pub mod RowLaws
 pub mod NameExamples
+pub mod KnownNameLoop

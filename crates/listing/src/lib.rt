@@ -1,6 +1,8 @@
 // What the program of an edition prints for a message, as one text.
 //
 // The lent part is a window on the text: of each byte put, its place in the text is counted, and it is stored if it lies in the window.
+#![tactic(auto)]
+
 ghost use Rattle.std.specs.Prelude.{◌≡◌, ◌∷◌, ◌++◌, ◌+◌, ◌*◌, ◌≤◌, ◌<◌, length, drop};
 ghost use Rattle.std.proofs.lemmas.List.Edits.{sets};
 ghost use Rattle.octets.specs.Believed.Numbers.{table_records};

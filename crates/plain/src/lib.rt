@@ -2,6 +2,8 @@
 //
 // A text is written into a lent part from a place on; past the part's end nothing is stored, and it is counted all the same,
 // so that the same walk measures a text and writes it.
+#![tactic(auto)]
+
 ghost use Rattle.std.specs.Prelude.{◌≡◌, [], ◌∷◌, ◌++◌, ◌+◌, ◌*◌, ◌-◌, ◌≤◌, ◌<◌, length, get_or};
 ghost use Rattle.std.proofs.lemmas.List.Edits.{sets};
 ghost use Rattle.octets.specs.Believed.Fitting.{fitting_answer, fitting_text};

@@ -1,4 +1,6 @@
 // Records of a table: their layout, and each stored and loaded by value.
+#![tactic(auto)]
+
 pub mod address;
 pub mod field;
 pub mod positions;

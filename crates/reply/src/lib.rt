@@ -1,4 +1,6 @@
 // The body to reply to.
+#![tactic(auto)]
+
 ghost use Rattle.std.specs.Prelude.{◌≡◌};
 ghost use Rattle.octets.specs.Believed.Choice.{pick};
 ghost use Rattle.reply.specs.Believed.Reply.{left_for_from};

@@ -1,4 +1,6 @@
 // Reads one message from standard input and prints its listing by RFC 822: its fields, and the addresses and dates in their bodies.
+#![tactic(auto)]
+
 ghost use Rattle.std.specs.Prelude.{◌≡◌, length};
 
 use libc::{STDERR_FILENO, STDIN_FILENO};

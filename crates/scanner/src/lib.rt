@@ -1,6 +1,8 @@
 // The symbols of a structured body.
 //
 // The class table goes by reference through every function that looks at bytes.
+#![tactic(auto)]
+
 ghost use Rattle.std.specs.Prelude.{◌≡◌, ◌+◌, ◌≤◌, ◌<◌, [], length};
 ghost use Rattle.scanner.specs.Believed.Kinds.{kind_of};
 ghost use Rattle.scanner.specs.Believed.Characters.{fold_at, characters_at};

@@ -1,6 +1,8 @@
 // What a touched byte of an address body is, and which records are around it; of a refused body, what could have stood there.
 //
 // The tool reads into a table of its own, on the stack: records of the address reader, 2,048 of them.
+#![tactic(auto)]
+
 ghost use Rattle.std.specs.Prelude.{◌≡◌, ◌+◌, ◌*◌, ◌≤◌, ◌<◌, length};
 ghost use Rattle.octets.specs.Believed.Choice.{pick};
 ghost use Rattle.octets.specs.Believed.Numbers.{table_records};

@@ -9,6 +9,8 @@
 // - scan, known, reply, date, touch: symbols, known name, body to reply to, date, touched byte
 // - compare: both plain texts; unfit: whether a list is refused by 8 at the place
 // Any other line is a heading.
+#![tactic(auto)]
+
 ghost use Rattle.std.specs.Prelude.{◌≡◌, false, ◌∷◌, [], ◌++◌, ◌+◌, ◌*◌, ◌%◌, ◌≤◌, ◌<◌, length, take, drop, replicate};
 ghost use Rattle.reply.specs.Believed.Reply.{left_for_from};
 ghost use Rattle.listing.specs.Believed.Lines.{decimal, spaced};

@@ -1,0 +1,13 @@
+-- `octets::writing::copy_front` meets its contract: the bytes up to i are stored, and those from i on are left. Assumes nothing.
+use mathlib.Core.Path.{◌≡◌}
+use Prim.Native.Nat.{◌-◌, ◌≤◌}
+use lib.ListN.{length, take, drop}
+use lib.Seq.{sets}
+use Rattle.octets.proofs.writing.copy_front.Given as goal
+
+abbrev pub invariant-loop-i : goal.invariant-loop-i
+invariant-loop-i l =
+    (l.i ≤ l.end) × (length l.table ≡ length l.initial.table) × (sets l.initial.table 0 (take l.many l.from) ≡ sets l.table l.i (drop l.i (take l.many l.from)))
+
+abbrev pub decreases-loop-i : goal.decreases-loop-i
+decreases-loop-i l = l.end - l.i
