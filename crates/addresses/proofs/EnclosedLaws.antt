@@ -93,7 +93,7 @@ end_of : (e : Enclosure) (o : Option Phrase) (t : Lexeme) (l : AddressList) (u :
 end_of Angle o t l u = refl
 end_of Group o t l u = refl
 
-count_of : (e : Enclosure) (o : Option Phrase) (t : Lexeme) (l : AddressList) (u : Lexeme) → Rattle.grammar.proofs.Rfc733.TreeRecords.address_count (enclosed e o t l u) ≡ suc (Rattle.grammar.proofs.Rfc733.TreeRecords.list_count_lem l)
+count_of : (e : Enclosure) (o : Option Phrase) (t : Lexeme) (l : AddressList) (u : Lexeme) → Rattle.grammar.proofs.Rfc733.TreeRecords.address_count (enclosed e o t l u) ≡ suc (Rattle.grammar.proofs.Rfc733.TreeRecords.list_count l)
 count_of Angle o t l u = refl
 count_of Group o t l u = refl
 

@@ -10,7 +10,7 @@ use Rattle.scanner.specs.declared.cursor.Ahead.TheVariants.{Symbol}
 use Rattle.addresses.specs.Ties.Steps.{word_ahead, ends_ahead, free_in}
 use Rattle.addresses.proofs.ClassCases.{no-symbol-ahead, not_follows}
 use Rattle.addresses.proofs.CursorSteps.{told, told_not, stepped, met, met_word}
-use Rattle.addresses.proofs.CursorReads.{word_next, nodes-done, nodes-refused, nodes-behind, nodes_told}
+use Rattle.addresses.proofs.CursorReads.{word_next_lem, nodes-done, nodes-refused, nodes-behind, nodes_told}
 use Rattle.addresses.proofs.NodesLaws.{NodesSoFar, nodes-start, node-read, nodes-again}
 use Rattle.addresses.proofs.read_nodes.Statement.{statement}
 use Rattle.addresses.proofs.read_nodes.Tie as tie
@@ -47,7 +47,7 @@ returns c =
     let l = c.before.before.before.before.before.before.step.new.1.1.0 in
     let i = c.before.before.before.before.before.before.before.before.loop.invariant in
     let x = stepped k t c.before.before.before.before.before.before.before.before.loop.cursor i.2 c.before.before.before.before.before.before.step.ensures in
-    nodes_told k t c.before.before.before.before.before.before.before.before.before.before.args.cursor.now c.refuse.result c.refuse.new.1.0 (next_in l) (nodes-refused k t (next_in l) i.0 x.next (word_next l (told_not word_ahead false c.before.before.before.before.ahead_of_lem.ensures c.before.before.before.is_is_word.ensures c.before.before.if1.true))) c.refuse.ensures
+    nodes_told k t c.before.before.before.before.before.before.before.before.before.before.args.cursor.now c.refuse.result c.refuse.new.1.0 (next_in l) (nodes-refused k t (next_in l) i.0 x.next (word_next_lem l (told_not word_ahead false c.before.before.before.before.ahead_of_lem.ensures c.before.before.before.is_is_word.ensures c.before.before.if1.true))) c.refuse.ensures
 
 element-copy-out-last : tie.Need-element-copy-out-last invariant-loop decreases-loop
 element-copy-out-last c = search rules
