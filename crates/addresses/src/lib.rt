@@ -41,14 +41,14 @@ const ONCE_LIMIT: usize = 1024;
 const ONCE_ROOM: usize = ONCE_LIMIT / 2 * ADDRESS_RECORD_SIZE;
 
 // What encloses a list.
-#[derive(Drop)]
+#[derive(Clone, Copy)]
 enum Enclosure {
     Angle,
     Group,
 }
 
 // Where a record stands: the levels left, its parent's number plus 1, and its own number.
-#[derive(Drop)]
+#[derive(Clone, Copy)]
 struct Frame {
     levels: usize,
     parent: usize,
@@ -56,7 +56,7 @@ struct Frame {
 }
 
 // Whether an atom and ":" follow a ":", and the atom's span.
-#[derive(Drop)]
+#[derive(Clone, Copy)]
 enum TypedAtom {
     Typed(usize, usize),
     Nameless,
