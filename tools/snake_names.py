@@ -26,6 +26,22 @@ BY_HAND = {
     "too-deep": "too_deep_lem",
     "atWords": "at_words",
     "at_words": "at_words_lem",
+    "listCount": "list_count",
+    "list_count": "list_count_lem",
+    "slotLevels": "slot_levels",
+    "slot_levels": "slot_levels_lem",
+    "slotRecords": "slot_records",
+    "slot_records": "slot_records_lem",
+    "ofVerdict": "of_verdict",
+    "of_verdict": "of_verdict_lem",
+    "typedInTyped": "typed_in_typed",
+    "typed_in_typed": "typed_in_typed_lem",
+    "typedKinds": "typed_kinds",
+    "typed_kinds": "typed_kinds_lem",
+    "withNode": "with_node",
+    "with_node": "with_node_lem",
+    "wordNext": "word_next",
+    "word_next": "word_next_lem",
 }
 # words of the logic's libraries that names of lemmas are joined from
 WORDS = set("length take drop set sets append replicate map get_or reverse cons sum part".split())

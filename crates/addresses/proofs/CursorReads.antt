@@ -38,10 +38,10 @@ stopped_by (Read ahead last free) = Stopped 0 0
 stopped_by (Refused number place) = Stopped number place
 
 -- what comes next is a word
-abbrev pub word_next_lem : Next → Bool
-word_next_lem (Found symbol) = is_word symbol.class
-word_next_lem Ended = false
-word_next_lem (Fault number p) = false
+abbrev pub word_next : Next → Bool
+word_next (Found symbol) = is_word symbol.class
+word_next Ended = false
+word_next (Fault number p) = false
 
 -- the symbol of a class
 abbrev pub is_ahead : Class → Ahead → Bool
@@ -62,13 +62,13 @@ is-from wanted Faulty s e n b = refl
 is_in : (wanted : Class) (cursor : List ℕ) {b : Bool} → is_ahead wanted (ahead_of (get_or cursor 0 0)) ≡ b → is_next wanted (next_in cursor) ≡ b
 is_in wanted cursor e = by_ahead (is_next wanted) (is_ahead wanted) (is-from wanted) cursor ∙ e
 
-word_of : (a : Ahead) (s e n : ℕ) (b : Bool) → word_next_lem (next_from a s e n b) ≡ word_ahead a
+word_of : (a : Ahead) (s e n : ℕ) (b : Bool) → word_next (next_from a s e n b) ≡ word_ahead a
 word_of (Symbol class) s e n b = refl
 word_of End s e n b = refl
 word_of Faulty s e n b = refl
 
-pub word_next : (cursor : List ℕ) {b : Bool} → word_ahead (ahead_of (get_or cursor 0 0)) ≡ b → word_next_lem (next_in cursor) ≡ b
-word_next cursor e = by_ahead word_next_lem word_ahead word_of cursor ∙ e
+pub word_next_lem : (cursor : List ℕ) {b : Bool} → word_ahead (ahead_of (get_or cursor 0 0)) ≡ b → word_next (next_in cursor) ≡ b
+word_next_lem cursor e = by_ahead word_next word_ahead word_of cursor ∙ e
 
 -- what was read is no refusal
 never-read : (size : ℕ) (ahead : Next) (cursor : List ℕ) → reading true cursor ≡ refused_next size ahead → ⊥
@@ -105,7 +105,7 @@ module _ (classes text : List ℕ) where
       )
 
   -- a refusal where a node is wanted
-  pub nodes-refused : {start at p : ℕ} {apart : Bool} (ahead : Next) → NodesSoFar classes text start at apart p → NextIs classes text p ahead → word_next_lem ahead ≡ false → NodesIs classes text start at apart (stopped_by (refused_next (length text) ahead))
+  pub nodes-refused : {start at p : ℕ} {apart : Bool} (ahead : Next) → NodesSoFar classes text start at apart p → NextIs classes text p ahead → word_next ahead ≡ false → NodesIs classes text start at apart (stopped_by (refused_next (length text) ahead))
   nodes-refused (Found symbol) w x e = stops-no-node classes text w x e
   nodes-refused Ended w x e = stops-node_wanted classes text w x.same
   nodes-refused (Fault number p) w x e = stops-node_wanted classes text w x.same

@@ -1,5 +1,5 @@
 -- Addresses that hold a list or an address: angle lists, groups and typed addresses. Assumes nothing.
-use mathlib.Core.Path.{◌≡◌, refl, sym, ap, ◌∙◌}
+use mathlib.Core.Path.{◌≡◌, refl, sym, ap, subst, ◌∙◌}
 use mathlib.Core.Bool.{Bool, true, false, true≢false}
 use mathlib.Core.List.{List, [], ◌∷◌}
 use mathlib.Core.Option.{Option, none, some}
@@ -93,7 +93,7 @@ end_of : (e : Enclosure) (o : Option Phrase) (t : Lexeme) (l : AddressList) (u :
 end_of Angle o t l u = refl
 end_of Group o t l u = refl
 
-count_of : (e : Enclosure) (o : Option Phrase) (t : Lexeme) (l : AddressList) (u : Lexeme) → Rattle.grammar.proofs.Rfc733.TreeRecords.address_count (enclosed e o t l u) ≡ suc (Rattle.grammar.proofs.Rfc733.TreeRecords.list_count_lem l)
+count_of : (e : Enclosure) (o : Option Phrase) (t : Lexeme) (l : AddressList) (u : Lexeme) → Rattle.grammar.proofs.Rfc733.TreeRecords.address_count (enclosed e o t l u) ≡ suc (Rattle.grammar.proofs.Rfc733.TreeRecords.list_count l)
 count_of Angle o t l u = refl
 count_of Group o t l u = refl
 
@@ -241,7 +241,8 @@ module _ (classes text : List ℕ) where
           rest = symbols_on classes text Colon start end apart;
           number_is = refl;
           place_is = refl;
-          stops = λ h c. rw z (deep-enclosed Group h none first-colon (symbols_on classes text Colon start end apart) (symbols_from classes text end) refl c);
+          stops = λ h c. subst (λ (m : ℕ). judge (run (levels_here h + m) (begin h) (symbols_on classes text Colon start end apart)) ≡ refused too_deep (symbols_on classes text Colon start end apart)) (sym z)
+          (deep-enclosed Group h none first-colon (symbols_on classes text Colon start end apart) (symbols_from classes text end) refl c);
         }
 
     module _ (n : frame.levels ≡ 0 → ⊥) where
@@ -252,7 +253,9 @@ module _ (classes text : List ℕ) where
           let q : levels_here h + suc (frame.levels - 1) ≡ levels_here h + frame.levels = omega arith in
           let p : suc (levels_here h) + (frame.levels - 1) ≡ levels_here h + frame.levels = omega arith in
           ap (λ (ys : List Sym). run (levels_here h + frame.levels) (begin h) (of Colon first-colon ∷ ys)) t.follows.yields
-          ∙ rw (p, ← q) (run_typed (frame.levels - 1) first-colon the_atom t.follows.colon (symbols_from classes text behind) h)
+          ∙ ap (λ (m : ℕ). run m (begin h) (of Colon first-colon ∷ of Atom the_atom ∷ of Colon t.follows.colon ∷ symbols_from classes text behind)) (sym q)
+          ∙ run_typed (frame.levels - 1) first-colon the_atom t.follows.colon (symbols_from classes text behind) h
+          ∙ ap (λ (m : ℕ). run m (want h first-colon the_atom t.follows.colon) (symbols_from classes text behind)) (q ∙ sym p)
 
       want-ends : (k : Class) → ends_address k ≡ true → (u : Lexeme) (ys : List Sym) (h : Here)
           → judge (run (levels_here (in_typed h first-colon the_atom t.follows.colon) + (inner classes text frame).levels) (want h first-colon the_atom t.follows.colon) (of k u ∷ ys)) ≡ refused unfit (of k u ∷ ys)

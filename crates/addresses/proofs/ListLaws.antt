@@ -15,7 +15,7 @@ use Rattle.grammar.proofs.Rfc733.Trees.{atom_colon}
 use Rattle.grammar.specs.Executable.Machine733.{in_list, Level, list, levels_at, nameless, fresh, run, judge}
 use Rattle.grammar.proofs.Rfc733.Complete.{done_list, Clear, complete_done_list}
 use Rattle.grammar.proofs.Rfc733.Readers.{AddressEnds, ListEnds, ends_address}
-use Rattle.grammar.proofs.Rfc733.TreeRecords.{list_count_lem, list_records}
+use Rattle.grammar.proofs.Rfc733.TreeRecords.{list_count, list_records}
 use Rattle.grammar.proofs.RecordLaws.{stored-behind}
 use Rattle.addresses.specs.Ties.Steps.{symbols_from, lexeme_at, symbols_on, symbols_ahead, Comes, AddressRead, AddressStops, ListRead, ListStops}
 use Rattle.addresses.specs.declared.Frame.{Frame}
@@ -44,7 +44,7 @@ module _ (classes text : List ℕ) where
     pub clear : (k : Level) → Clear (nameless k) (atom_colon (symbols_from classes text at)) → ClearAt k tree (symbols_ahead classes text ahead)
     pub behind : Behind tree (symbols_ahead classes text ahead)
     pub ahead_ok : Comes classes text last ahead
-    pub count : free ≡ frame.number + list_count_lem tree
+    pub count : free ≡ frame.number + list_count tree
     pub stored : after ≡ sets table (frame.number * address_record_size) (table_bytes (list_records tree (level_limit - frame.levels) frame.parent frame.number))
     pub from : at ≤ last
     pub within : last ≤ length text
@@ -91,7 +91,7 @@ module _ (classes text : List ℕ) where
         by : (l : AddressList)
             → ((k : Level) → Clear (nameless k) (atom_colon (symbols_from classes text at)) → run (levels_at k + frame.levels) (list k (idle empty)) (symbols_from classes text at) ≡ run (levels_at k + frame.levels) (done_list k l) (symbols_on classes text class a b apart))
             → ((k : Level) → Clear (nameless k) (atom_colon (symbols_from classes text at)) → ClearAt k l (symbols_on classes text class a b apart))
-            → Behind l (symbols_on classes text class a b apart) → free ≡ frame.number + list_count_lem l
+            → Behind l (symbols_on classes text class a b apart) → free ≡ frame.number + list_count l
             → now ≡ sets table (frame.number * address_record_size) (table_bytes (list_records l (level_limit - frame.levels) frame.parent frame.number)) → ListSoFar at frame table after ahead last' free'
         by (idle p) reads clear behind count stored =
             record {

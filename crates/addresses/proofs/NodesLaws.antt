@@ -33,20 +33,20 @@ abbrev open_state : Here → Phrase → OpenNodes → State
 open_state h p (first_open t) = first_at h p t
 open_state h p (next_open m t) = next_at h p m t
 
-abbrev with_node_lem : OpenNodes → Word → Nodes
-with_node_lem (first_open t) w = first t w
-with_node_lem (next_open m t) w = next m t w
+abbrev with_node : OpenNodes → Word → Nodes
+with_node (first_open t) w = first t w
+with_node (next_open m t) w = next m t w
 
-with_node : (o : OpenNodes) (w : Word) (xs : List Sym) → nodes_then (with_node_lem o w) xs ≡ open_then o (word_symbol w ∷ xs)
-with_node (first_open t) w xs = refl
-with_node (next_open m t) w xs = refl
+with_node_lem : (o : OpenNodes) (w : Word) (xs : List Sym) → nodes_then (with_node o w) xs ≡ open_then o (word_symbol w ∷ xs)
+with_node_lem (first_open t) w xs = refl
+with_node_lem (next_open m t) w xs = refl
 
-node_end : (o : OpenNodes) (w : Word) → nodes_end (with_node_lem o w) ≡ (word_lexeme w).end
+node_end : (o : OpenNodes) (w : Word) → nodes_end (with_node o w) ≡ (word_lexeme w).end
 node_end (first_open t) w = refl
 node_end (next_open m t) w = refl
 
 -- the machine takes a node
-run-node : (n : ℕ) (h : Here) (p : Phrase) (o : OpenNodes) (w : Word) (xs : List Sym) → run n (open_state h p o) (word_symbol w ∷ xs) ≡ run n (node h p (with_node_lem o w)) xs
+run-node : (n : ℕ) (h : Here) (p : Phrase) (o : OpenNodes) (w : Word) (xs : List Sym) → run n (open_state h p o) (word_symbol w ∷ xs) ≡ run n (node h p (with_node o w)) xs
 run-node n h p (first_open t) w xs = run-word n (first_at h p t) w xs
 run-node n h p (next_open m t) w xs = run-word n (next_at h p m t) w xs
 
@@ -101,8 +101,8 @@ module _ (classes text : List ℕ) where
       let word = word_of class t in
       let e : symbols_from classes text p ≡ word_symbol word ∷ symbols_from classes text b = x.same ∙ ap (λ (y : Sym). y ∷ symbols_from classes text b) (sym (word-symbol class t o)) in
       record {
-        nodes = with_node_lem w.open_nodes word;
-        yields = w.yields ∙ ap (open_then w.open_nodes) e ∙ sym (with_node w.open_nodes word (symbols_from classes text b));
+        nodes = with_node w.open_nodes word;
+        yields = w.yields ∙ ap (open_then w.open_nodes) e ∙ sym (with_node_lem w.open_nodes word (symbols_from classes text b));
         comes = λ c. w.comes c ∙ ap (run c.limit (open_state c.here c.phrase w.open_nodes)) e ∙ run-node c.limit c.here c.phrase w.open_nodes word (symbols_from classes text b);
         end_is = node_end w.open_nodes word ∙ ap (λ (l : Lexeme). l.end) (word-lexeme class t);
         from = omega (arith, w.from, x.ok.0, x.ok.1.starts);

@@ -1,5 +1,5 @@
 -- A whole body: the verdict, and what follows from it for the answer and the table. Assumes nothing.
-use mathlib.Core.Path.{◌≡◌, refl, sym, ap, ◌∙◌}
+use mathlib.Core.Path.{◌≡◌, refl, sym, ap, subst, ◌∙◌}
 use mathlib.Core.Bool.{Bool}
 use mathlib.Core.List.{List, [], ◌∷◌}
 use Prim.Native.Nat.{ℕ}
@@ -19,9 +19,9 @@ use Rattle.scanner.specs.declared.Next.{Next}
 use Rattle.scanner.specs.Believed.Answers.{found_at}
 use Rattle.grammar.specs.Believed.Language.{unfit, accepted, refused}
 use Rattle.grammar.specs.Believed.Records.{count}
-use Rattle.grammar.specs.Executable.Machine733.{as_forests, answer, top, run, judge}
+use Rattle.grammar.specs.Executable.Machine733.{as_forests, answer, top, list, run, judge}
 use Rattle.grammar.proofs.Rfc733.Condition3.{decides}
-use Rattle.grammar.specs.Executable.Trees733.{as_forest, Class, Lexeme, Sym, of, AddressList}
+use Rattle.grammar.specs.Executable.Trees733.{as_forest, Class, Lexeme, Sym, of, AddressList, idle, empty}
 use Rattle.grammar.proofs.Rfc733.Complete.{done_list, complete_done_list}
 use Rattle.grammar.proofs.Symbols.{each_of}
 use Rattle.grammar.proofs.Rfc733.Readers.{ListEnds, ends_list}
@@ -58,7 +58,7 @@ module _ (classes text : List ℕ) where
     verdict_stops s = ap as_forests (rw (zero-add limit) at (s.stops top tt))
 
     pub verdict_closed : {last free a b size : ℕ} {apart : Bool} {class : Class} {table after : List ℕ} → ListRead classes text at (outermost limit) table after (found_at class a b size apart) last free → answer limit (symbols_from classes text at) ≡ refused unfit (symbols_on classes text class a b apart)
-    verdict_closed {a = a} {b = b} {apart = apart} {class = class} l = ap as_forests (ap judge (rw (zero-add limit) at (l.reads top tt)) ∙ not_closed limit l.tree class (lexeme_at classes text class a b apart) (symbols_from classes text b) l.ends)
+    verdict_closed {a = a} {b = b} {apart = apart} {class = class} l = ap as_forests (ap judge (subst (λ (n : ℕ). run n (list top (idle empty)) (symbols_from classes text at) ≡ run n (done_list top l.tree) (of class (lexeme_at classes text class a b apart) ∷ symbols_from classes text b)) (zero-add limit) (l.reads top tt)) ∙ not_closed limit l.tree class (lexeme_at classes text class a b apart) (symbols_from classes text b) l.ends)
 
   pub whole-listed : {at last free : ℕ} {table after : List ℕ} (ahead : Next) → ListRead classes text at (outermost level_limit) table after ahead last free → symbols_ahead classes text ahead ≡ [] → IsListed (answer level_limit) classes text at table after free
   whole-listed {at} {table = table} ahead l e =

@@ -41,14 +41,14 @@ const ONCE_LIMIT: usize = 1024;
 const ONCE_ROOM: usize = ONCE_LIMIT / 2 * ADDRESS_RECORD_SIZE;
 
 // What encloses a list.
-#[derive(Drop)]
+#[derive(Clone, Copy)]
 enum Enclosure {
     Angle,
     Group,
 }
 
 // Where a record stands: the levels left, its parent's number plus 1, and its own number.
-#[derive(Drop)]
+#[derive(Clone, Copy)]
 struct Frame {
     levels: usize,
     parent: usize,
@@ -56,7 +56,7 @@ struct Frame {
 }
 
 // Whether an atom and ":" follow a ":", and the atom's span.
-#[derive(Drop)]
+#[derive(Clone, Copy)]
 enum TypedAtom {
     Typed(usize, usize),
     Nameless,
@@ -334,7 +334,7 @@ fn close_list(
 }
 
 // A list from the end of what stands ahead on, up to what may stand after it.
-#[cycle(read_address_read_colon_read_enclosed_read_list_read_named_read_typed)]
+#[cycle(reading)]
 fn read_list(
     classes: &[u8; 256],
     text: &[u8],
@@ -364,7 +364,7 @@ fn read_list(
 }
 
 // An address whose first symbol stands ahead.
-#[cycle(read_address_read_colon_read_enclosed_read_list_read_named_read_typed)]
+#[cycle(reading)]
 fn read_address(
     classes: &[u8; 256],
     text: &[u8],
@@ -392,7 +392,7 @@ fn read_address(
 }
 
 // An address that begins with a word.
-#[cycle(read_address_read_colon_read_enclosed_read_list_read_named_read_typed)]
+#[cycle(reading)]
 fn read_named(
     classes: &[u8; 256],
     text: &[u8],
@@ -422,7 +422,7 @@ fn read_named(
 }
 
 // An angle list or a group, after its name, if it has one; its opening mark stands ahead.
-#[cycle(read_address_read_colon_read_enclosed_read_list_read_named_read_typed)]
+#[cycle(reading)]
 fn read_enclosed(
     classes: &[u8; 256],
     text: &[u8],
@@ -456,7 +456,7 @@ fn read_enclosed(
 }
 
 // An address that begins with ":": a typed address, or a nameless group.
-#[cycle(read_address_read_colon_read_enclosed_read_list_read_named_read_typed)]
+#[cycle(reading)]
 fn read_colon(
     classes: &[u8; 256],
     text: &[u8],
@@ -489,7 +489,7 @@ fn read_colon(
 }
 
 // A typed address whose first ":" stands at start, after its atom; its second ":" stands ahead.
-#[cycle(read_address_read_colon_read_enclosed_read_list_read_named_read_typed)]
+#[cycle(reading)]
 fn read_typed(
     classes: &[u8; 256],
     text: &[u8],

@@ -12,14 +12,14 @@ use crate::parts::{COLON, COMMA, KEY, MINUS, NO_PART, OTHER_PART, PLUS, START, S
 use octets::classes::{DIGIT, LETTER};
 
 // Local time minus GMT, in minutes, if it is in range.
-#[derive(Drop)]
+#[derive(Clone, Copy)]
 pub(crate) enum Offset {
     Minutes(i16),
     OutOfRange,
 }
 
 // A date as it is written. Names of days and months count from 0; 7 is no day's name.
-#[derive(Drop)]
+#[derive(Clone, Copy)]
 pub(crate) struct Written {
     pub name: usize,
     pub day: u64,
@@ -31,28 +31,28 @@ pub(crate) struct Written {
     pub zone: Offset,
 }
 
-#[derive(Drop)]
+#[derive(Clone, Copy)]
 pub(crate) enum Reading {
     Wrong,
     Right(Written),
 }
 
 // A run of digits: how many, and their value if they are at most six.
-#[derive(Drop)]
+#[derive(Clone, Copy)]
 struct DigitRun {
     count: usize,
     value: u64,
 }
 
 // Hour, minute and second.
-#[derive(Drop)]
+#[derive(Clone, Copy)]
 enum Clock {
     NoClock,
     Time(u64, u64, u64),
 }
 
 // A zone.
-#[derive(Drop)]
+#[derive(Clone, Copy)]
 enum ZoneRead {
     NoZone,
     Found(Offset),

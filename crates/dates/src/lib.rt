@@ -19,7 +19,7 @@ mod names;
 mod parts;
 
 // The answer of reading a date.
-#[derive(Drop)]
+#[derive(Clone, Copy)]
 pub enum DateAnswer {
     // Accepted: seconds from 1 January 1900, 00:00 GMT.
     Accepted(i64),

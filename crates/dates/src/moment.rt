@@ -4,7 +4,7 @@ ghost use Rattle.dates.specs.Believed.Answers.{day_exists, time_exists, name_tru
 
 use crate::form::{Offset, Written};
 
-#[derive(Drop)]
+#[derive(Clone, Copy)]
 pub(crate) enum Moment {
     Impossible,
     At(i64),

@@ -29,7 +29,7 @@ mod places;
 
 // What the loop keeps: its place; the name so far; the number of the open group and of the open angle address, plus 1 or 0; and
 // how many records there are.
-#[derive(Drop)]
+#[derive(Clone, Copy)]
 struct Walk {
     place: usize,
     name: Span,
@@ -39,7 +39,7 @@ struct Walk {
 }
 
 // Where a symbol leads: on, or nowhere.
-#[derive(Drop)]
+#[derive(Clone, Copy)]
 enum Stepped {
     On(Walk),
     Off,

@@ -10,7 +10,7 @@ use Rattle.grammar.specs.Believed.Language.{unfit}
 use Rattle.grammar.specs.Executable.Machines.{go}
 use Rattle.grammar.specs.Executable.Trees733.{Class, Lexeme, Phrase, AddressList, Address}
 use Rattle.grammar.specs.Executable.Machine733.{Here, Level, top, in_angle, in_group, State, list, phrase, want, close, enter, levels_at, step_on, finish, whole, start}
-use Rattle.grammar.proofs.Rfc733.TreeRecords.{list_count_lem}
+use Rattle.grammar.proofs.Rfc733.TreeRecords.{list_count}
 use Rattle.engine.specs.Ties.Actions.{mode_number, mode_room, Act, refuses, begins, adds, passes, opens, opens_named, turns_typed, ends_at_comma, closes, ends_and_closes, finishes, ends_and_finishes, act_number, Action, entry, row_of, action_of}
 use Rattle.engine.specs.Ties.Stands.{mode_of, parent_at, stored_list, Stands}
 use Rattle.engine.specs.Ties.Turns.{is_angle, kind_if, level_if, end_if, Ended, Closed, GoesTo, StopsBy, Opening, AtClose, AtTyped, Turning, Finishing, FinishedList, Unfinished}
@@ -220,7 +220,7 @@ open_whole (in_angle h o t) l f = refl
 open_whole (in_group h o t) l f = refl
 
 -- a list that is finished
-finished_list : (lent table : List ℕ) (s : State) (k : Level) (l : AddressList) (n depth : ℕ) → finish s ≡ whole k l → depth ≡ levels_at k → depth ≡ 0 → n ≡ parent_at k + list_count_lem l
+finished_list : (lent table : List ℕ) (s : State) (k : Level) (l : AddressList) (n depth : ℕ) → finish s ≡ whole k l → depth ≡ levels_at k → depth ≡ 0 → n ≡ parent_at k + list_count l
     → table ≡ stored_list lent k l → FinishedList lent s table n
 finished_list lent table s top l n depth w d z c e = record { tree = l; is = w; count-is = omega (arith, c); stored = e }
 finished_list lent table s (in_angle h o t) l n depth w d z c e = absurd (omega arith)

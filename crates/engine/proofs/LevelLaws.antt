@@ -14,7 +14,7 @@ use Rattle.records.specs.Believed.AddressRecords.{address_record_size, record_by
 use Rattle.records.proofs.TableLaws.{stored_in_front}
 use Rattle.grammar.specs.Executable.Trees733.{Lexeme, Slot, Address, typed}
 use Rattle.grammar.specs.Executable.Machine733.{Here, in_list, in_typed, Level, top, in_angle, in_group, as_list, close, levels_here, levels_at}
-use Rattle.grammar.proofs.Rfc733.TreeRecords.{list_count_lem, address_count, address_records, address_record}
+use Rattle.grammar.proofs.Rfc733.TreeRecords.{list_count, address_count, address_records, address_record}
 use Rattle.grammar.proofs.RecordLaws.{stored-behind}
 use Rattle.engine.specs.Ties.Actions.{after_address}
 use Rattle.engine.specs.Ties.Stands.{mode_of, place_of, number_here, parent_at, parent_here, Entry, HoldsHere, HoldsLevel, stored_here, stored_level}
@@ -87,7 +87,7 @@ kind-deep {stack} {depth} {kind} x h = by depth x.is
 
 -- ---- closing
 
-pub close_free : (h : Here) (a : Address) → parent_at (close h a).level + list_count_lem (close h a).sofar ≡ number_here h + address_count a
+pub close_free : (h : Here) (a : Address) → parent_at (close h a).level + list_count (close h a).sofar ≡ number_here h + address_count a
 close_free (in_list k r) a = omega arith
 close_free (in_typed h t x u) a = omega (arith, close_free h (typed t x u a))
 

@@ -18,7 +18,7 @@ use Rattle.grammar.specs.Executable.Trees733.{Class, Atom, Quoted, Lexeme, Word,
 use Rattle.grammar.specs.Executable.Trees733 as trees
 use Rattle.grammar.specs.Executable.Machine733.{Here, in_list, in_typed, Level, top, in_angle, in_group, State, list, phrase, first_at, next_at, node, want, as_list, close, enter, levels_here, levels_at, step_on}
 use Rattle.grammar.proofs.Rfc733.Complete.{begin, enter-within, enter_beyond}
-use Rattle.grammar.proofs.Rfc733.TreeRecords.{list_count_lem, address_count, address_record, list_records, name_start, name_end, word_lexeme}
+use Rattle.grammar.proofs.Rfc733.TreeRecords.{list_count, address_count, address_record, list_records, name_start, name_end, word_lexeme}
 use Rattle.engine.specs.Ties.Actions.{mode_number, after_address, at_words}
 use Rattle.engine.specs.Ties.Stands.{mode_of, level_size, place_of, Ordered, number_here, parent_at, parent_here, Entry, HoldsHere, HoldsLevel, stored_here, stored_list, FirstAtom, NameIs, Stands}
 use Rattle.engine.specs.Ties.Turns.{kind_if, level_if, end_if, lone_kind, kind_at, KindIs, Ended, lone, boxed, OpenHere, LevelAt, Closing, Closed, Follows, GoesTo, StopsBy, Opening, AtClose, AtTyped}
@@ -319,7 +319,7 @@ mark-steps : (t : Lexeme) (b : Bool) (h : Here) (o : Option Phrase) (v : Lexeme)
 mark-steps t true h o v l = refl
 mark-steps t false h o v l = refl
 
-mark-count : (t : Lexeme) (b : Bool) (o : Option Phrase) (v : Lexeme) (l : AddressList) → address_count (address_if b o v l t) ≡ suc (list_count_lem l)
+mark-count : (t : Lexeme) (b : Bool) (o : Option Phrase) (v : Lexeme) (l : AddressList) → address_count (address_if b o v l t) ≡ suc (list_count l)
 mark-count t true o v l = refl
 mark-count t false o v l = refl
 

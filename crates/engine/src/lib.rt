@@ -53,7 +53,7 @@ const FIRST_TYPED: u32 = 5;
 
 // Where the reader stands: its mode, the open levels, the next free record number, the start of the address that is read and
 // the end of its name, and the end of the last symbol.
-#[derive(Drop)]
+#[derive(Clone, Copy)]
 struct Engine {
     mode: u8,
     depth: usize,
@@ -64,14 +64,14 @@ struct Engine {
 }
 
 // What a symbol does: the reader goes on, or the symbol is refused with this number.
-#[derive(Drop)]
+#[derive(Clone, Copy)]
 enum Turned {
     On(Engine),
     Stop(u8),
 }
 
 // Where the reader stops: at the end of the text, or at a symbol that it refuses with this number at this place.
-#[derive(Drop)]
+#[derive(Clone, Copy)]
 enum Stopped {
     AtEnd(Engine),
     AtSymbol(u8, usize, Engine),

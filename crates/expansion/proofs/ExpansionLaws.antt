@@ -19,7 +19,7 @@ use Rattle.grammar.specs.Believed.Grammar.{levels}
 use Rattle.grammar.specs.Believed.Rfc733.{Derivation, DerivedList, kind_number, typed_kind}
 use Rattle.grammar.specs.Believed.Rfc733 as rfc733
 use Rattle.grammar.specs.Executable.Trees733.{Colon, Comma, LessThan, GreaterThan, Semicolon, Sym, of, Slot, empty, comma, AddressList, idle, full, mailbox, angle, group, quoted, typed, as_forest}
-use Rattle.grammar.proofs.Rfc733.Trees.{nodes_then, slot_then, list_then, address_then, slot_levels_lem, list_levels, address_levels}
+use Rattle.grammar.proofs.Rfc733.Trees.{nodes_then, slot_then, list_then, address_then, slot_levels, list_levels, address_levels}
 use Rattle.grammar.specs.Executable.Trees733 as trees
 use Rattle.grammar.proofs.Rfc733.Derivations.{forest_levels, tree-derived}
 use Rattle.plain.specs.Believed.Meaning.{atom, no_word, and_word, Addresses, no_address, and_address, Address, address, meaning}
@@ -147,7 +147,7 @@ module _ (store : List ℕ) (opening : Opening) (good : GoodOpening opening) (pl
       by (some i) = good i p d before u f h
 
   mutual
-    place-fine : (r : Slot) (d : ℕ) (xs : List Sym) (before : Addresses) (u : ℕ) → WritableSymbols (slot_then r xs) → d + slot_levels_lem r ≤ level_limit → Fine d before → u ≤ opening_limit
+    place-fine : (r : Slot) (d : ℕ) (xs : List Sym) (before : Addresses) (u : ℕ) → WritableSymbols (slot_then r xs) → d + slot_levels r ≤ level_limit → Fine d before → u ≤ opening_limit
         → FineEnd d (slot_expansion store opening place_of d r before u)
     place-fine empty d xs before u g n f h = (f, h)
     place-fine (comma l t) d xs before u g n f h = list-fine l d (of Comma t ∷ xs) before u g n f h

@@ -14,7 +14,7 @@ use Rattle.octets.specs.Believed.Numbers.{level_limit, leads_nowhere}
 use Rattle.octets.specs.Believed.Text.{bytes}
 use Rattle.grammar.specs.Believed.Rfc733.{kind_number, typed_kind, include}
 use Rattle.grammar.specs.Executable.Trees733.{Class, Atom, Quoted, At, LessThan, GreaterThan, Comma, Semicolon, Colon, Lexeme, Sym, of, atom_word, quoted_word, Phrase, one, more, Nodes, first, next, comma, AddressList, idle, full, mailbox, angle, group, quoted, typed}
-use Rattle.grammar.proofs.Rfc733.Trees.{word_symbol, phrase_then, nodes_then, slot_then, list_then, address_then, slot_lawful, list_lawful, address_lawful, slot_levels_lem, list_levels, address_levels}
+use Rattle.grammar.proofs.Rfc733.Trees.{word_symbol, phrase_then, nodes_then, slot_then, list_then, address_then, slot_lawful, list_lawful, address_lawful, slot_levels, list_levels, address_levels}
 use Rattle.grammar.proofs.Rfc733.Readers.{ends_address, AddressEnds}
 use Rattle.grammar.specs.Executable.Trees733 as trees
 use Rattle.grammar.proofs.Rfc733.HouseRule.{one_atom, slot_atom_group, list_atom_group, atom_colon_list, one_atom_false, one_atom_true}
@@ -465,7 +465,7 @@ module _ (store : List ℕ) (opening : WalkOpening) (place_of : ℕ → ℕ) (ba
 
     mutual
       through_place : (r : trees.Slot) (x : Bool) (b : Begin) (m : Addresses) (c : Bool) (d : ℕ) (s : List Bool) (ys : List Sym) (u : ℕ) (k : Place → ℕ → Trail)
-          → slot_lawful r → in_typed s ≡ false → d ≡ base + length s → length s + slot_levels_lem r ≤ level_limit → Clear b m c (slot_atom_group r x)
+          → slot_lawful r → in_typed s ≡ false → d ≡ base + length s → length s + slot_levels r ≤ level_limit → Clear b m c (slot_atom_group r x)
           → before (listed b m) (W (spot b m c) s (slot_then r ys) u k) ≡ onward (slot_expansion store o place_of d r m u) (λ m' v. before (listed b m') (W (spot b m' (flag c r)) s ys v k))
       through_place trees.empty x b m c d s ys u k lawful w q v h = refl
       through_place (comma l t) x b m c d s ys u k lawful w q v h =

@@ -30,7 +30,7 @@ use scanner::{Class, Next, Symbol};
 // ---- the store
 
 // A record of the store, or none.
-#[derive(Drop)]
+#[derive(Clone, Copy)]
 enum Record {
     Stored(usize),
     Nowhere,
@@ -85,7 +85,7 @@ fn lowest(store: &[u8], name: &[u8]) -> Record
 // ---- levels
 
 // The levels open in a text: how many, and which of them are typed addresses, the innermost in the lowest bit.
-#[derive(Drop)]
+#[derive(Clone, Copy)]
 struct Levels {
     many: usize,
     typed: u64,
@@ -213,7 +213,7 @@ fn named_by(classes: &[u8; 256], text: &[u8], at: usize, store: &[u8]) -> Record
 }
 
 // What an Include holds.
-#[derive(Drop)]
+#[derive(Clone, Copy)]
 enum Held {
     // A mailbox.
     Single,
@@ -340,7 +340,7 @@ fn leads_to(classes: &[u8; 256], text: &[u8], at: usize, levels: Levels, store: 
 // ---- where an Include begins and ends
 
 // An Include, from after its second ":"; or none.
-#[derive(Drop)]
+#[derive(Clone, Copy)]
 enum Include {
     Behind(usize),
     Otherwise,
@@ -429,14 +429,14 @@ fn include_end(classes: &[u8; 256], text: &[u8], at: usize) -> usize
 // ---- openings
 
 // Where an Include stands: the position in the body that counts for it, and the levels open around it.
-#[derive(Drop)]
+#[derive(Clone, Copy)]
 struct Spot {
     position: usize,
     depth: usize,
 }
 
 // What comes of a record that an Include leads to: it is opened; or the number and the position of the fault.
-#[derive(Drop)]
+#[derive(Clone, Copy)]
 enum Verdict {
     Opens,
     Faulty(u8, usize),
@@ -482,7 +482,7 @@ fn verdict_on(store: &[u8], i: usize, spot: Spot, openings: usize) -> Verdict
 // ---- the walk
 
 // What a text stands in: it is the body, or the list of an Include of the body at a position, with so many levels open around it.
-#[derive(Drop)]
+#[derive(Clone, Copy)]
 enum Around {
     Body,
     Inside(usize, usize),
@@ -506,7 +506,7 @@ fn spot_of(around: Around, start: usize, levels: Levels) -> Spot
 }
 
 // How far a walk has come: the place in the text that is written, the openings, and the length of that text.
-#[derive(Drop)]
+#[derive(Clone, Copy)]
 struct Stage {
     place: Place,
     openings: usize,
@@ -547,7 +547,7 @@ fn write_on(
 }
 
 // The end of a walk; or the number, the position and the openings of a fault.
-#[derive(Drop)]
+#[derive(Clone, Copy)]
 enum Walked {
     Went(Stage),
     Stopped(u8, usize, usize),
@@ -647,7 +647,7 @@ fn walk_body(classes: &[u8; 256], store: &[u8], text: &[u8], start: usize, out: 
 }
 
 // The answer, and the number of openings.
-#[derive(Drop)]
+#[derive(Clone, Copy)]
 pub struct Expanded {
     pub answer: Answer,
     pub openings: usize,

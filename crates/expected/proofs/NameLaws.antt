@@ -81,16 +81,16 @@ module _ (n : ℕ) (before : List Sym) (s : State) (f : Leads n before s) where
   either-right true b e = refl
   either-right false b e = e
 
-  is-named : (thing : Thing) (c : Class) → IsOf thing c → takes n s c ≡ true → named_at n s thing ≡ true
-  is-named word Atom things.an_atom g = either_left (takes n s Atom) (takes n s Quoted) g
-  is-named word Quoted things.a_quoted g = either-right (takes n s Atom) (takes n s Quoted) g
-  is-named at At things.an_at g = g
-  is-named at_sign At things.an_at_sign g = g
-  is-named less_than LessThan things.a_less_than g = g
-  is-named greater_than GreaterThan things.a_greater_than g = g
-  is-named comma Comma things.a_comma g = g
-  is-named semicolon Semicolon things.a_semicolon g = g
-  is-named colon Colon things.a_colon g = g
+  is-named : {thing : Thing} {c : Class} → IsOf thing c → takes n s c ≡ true → named_at n s thing ≡ true
+  is-named things.an_atom g = either_left (takes n s Atom) (takes n s Quoted) g
+  is-named things.a_quoted g = either-right (takes n s Atom) (takes n s Quoted) g
+  is-named things.an_at g = g
+  is-named things.an_at_sign g = g
+  is-named things.a_less_than g = g
+  is-named things.a_greater_than g = g
+  is-named things.a_comma g = g
+  is-named things.a_semicolon g = g
+  is-named things.a_colon g = g
 
   end-named : (o : Option AddressList) (k : Derivation) → finish s ≡ o → DerivedList k before → levels k ≤ n → is_some o ≡ true
   end-named (some l) k e d v = refl
@@ -100,20 +100,20 @@ module _ (n : ℕ) (before : List Sym) (s : State) (f : Leads n before s) where
       absurd (any-machine.unended_derives DerivedTree list_levels step finish start machine n before s l f e d' (omega (arith, forest_levels l)))
 
   could_named : (thing : Thing) → Could n before thing → named_at n s thing ≡ true
-  could_named thing (goes_on x i g) = is-named thing x.class i (goes-on-takes x g)
+  could_named thing (goes_on x i g) = is-named i (goes-on-takes x g)
   could_named body_end (ends {k = k} d v) = end-named (finish s) k refl d v
 
   -- ---- alike symbols
 
-  word-takes : (c d : Class) → IsOf word c → IsOf word d → takes n s c ≡ takes n s d
-  word-takes Atom Atom things.an_atom things.an_atom = refl
-  word-takes Atom Quoted things.an_atom things.a_quoted = word_same n s
-  word-takes Quoted Atom things.a_quoted things.an_atom = sym (word_same n s)
-  word-takes Quoted Quoted things.a_quoted things.a_quoted = refl
+  word-takes : {c d : Class} → IsOf word c → IsOf word d → takes n s c ≡ takes n s d
+  word-takes things.an_atom things.an_atom = refl
+  word-takes things.an_atom things.a_quoted = word_same n s
+  word-takes things.a_quoted things.an_atom = sym (word_same n s)
+  word-takes things.a_quoted things.a_quoted = refl
 
   alike_takes : (x y : Sym) → Alike x y → takes n s x.class ≡ takes n s y.class
   alike_takes x y (same_class e) = ap (takes n s) e
-  alike_takes x y (both_words i j) = word-takes x.class y.class i j
+  alike_takes x y (both_words i j) = word-takes i j
 
   alike_on : (x y : Sym) → Alike x y → GoesOnWith n before x → GoesOnWith n before y
   alike_on x y a g = takes-goes-on y (sym (alike_takes x y a) ∙ goes-on-takes x g)

@@ -8,16 +8,16 @@ use lib.Seq.{sets}
 use Rattle.records.specs.Believed.AddressRecords.{address_layout, address_record_size, table_bytes}
 use Rattle.records.proofs.TableLaws.{stored-behind as behind}
 use Rattle.grammar.specs.Executable.Trees733.{Slot, empty, comma, AddressList, idle, full, Address, mailbox, angle, group, quoted, typed}
-use Rattle.grammar.proofs.Rfc733.TreeRecords.{slot_count, list_count_lem, address_count, slot_records_lem, list_records, inside_records, address_records}
+use Rattle.grammar.proofs.Rfc733.TreeRecords.{slot_count, list_count, address_count, slot_records, list_records, inside_records, address_records}
 
 -- ---- as many records as addresses
 
 mutual
-  pub slot_length : (r : Slot) (d p i : ℕ) → length (slot_records_lem r d p i) ≡ slot_count r
+  pub slot_length : (r : Slot) (d p i : ℕ) → length (slot_records r d p i) ≡ slot_count r
   slot_length empty d p i = refl
   slot_length (comma l t) d p i = list_length l d p i
 
-  pub list_length : (l : AddressList) (d p i : ℕ) → length (list_records l d p i) ≡ list_count_lem l
+  pub list_length : (l : AddressList) (d p i : ℕ) → length (list_records l d p i) ≡ list_count l
   list_length (idle r) d p i = slot_length r d p i
   list_length (full r a) d p i = simp length-append (omega (arith, slot_length r d p i, inside-length a (suc d) (suc (i + slot_count r))))
 
@@ -32,10 +32,10 @@ mutual
 
 -- the records of one address more, after those of a place
 pub stored-behind : (table : List ℕ) (first : ℕ) (r : Slot) (a : Address) (depth parent : ℕ)
-    → sets (sets table (first * address_record_size) (table_bytes (slot_records_lem r depth parent first))) ((first + slot_count r) * address_record_size) (table_bytes (address_records a depth parent (first + slot_count r)))
+    → sets (sets table (first * address_record_size) (table_bytes (slot_records r depth parent first))) ((first + slot_count r) * address_record_size) (table_bytes (address_records a depth parent (first + slot_count r)))
     ≡ sets table (first * address_record_size) (table_bytes (list_records (full r a) depth parent first))
 stored-behind table first r a depth parent =
-    let rs = slot_records_lem r depth parent first in
+    let rs = slot_records r depth parent first in
     let more = address_records a depth parent (first + slot_count r) in
     ap (λ n. sets (sets table (first * address_record_size) (table_bytes rs)) ((first + n) * address_record_size) (table_bytes more)) (sym (slot_length r depth parent first))
     ∙ behind address_layout table first rs more

@@ -18,7 +18,7 @@ use records::Span;
 use records::field::{FIELD_RECORD_SIZE, FieldRecord, store};
 
 // What stands at a line start.
-#[derive(Drop)]
+#[derive(Clone, Copy)]
 enum Next {
     // A field: name start, name end, body start, body end.
     Field(usize, usize, usize, usize),

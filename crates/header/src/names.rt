@@ -7,7 +7,7 @@ ghost use Rattle.header.specs.Ties.Rows.{entry_of, in_row, row_left};
 use octets::letters::lower;
 
 // Which known name a name is.
-#[derive(Drop)]
+#[derive(Clone, Copy)]
 pub enum Known {
     Date,
     From,
@@ -19,7 +19,7 @@ pub enum Known {
 }
 
 // A name looked up: which known name it is, and how many known names were compared with it letter by letter.
-#[derive(Drop)]
+#[derive(Clone, Copy)]
 pub struct LookedUp {
     pub known: Known,
     pub compared: usize,
@@ -29,7 +29,7 @@ pub struct LookedUp {
 const COUNT: usize = 6;
 
 // An entry of the table of known names: the name, and its text in small letters, padded with spaces to the longest.
-#[derive(Drop)]
+#[derive(Clone, Copy)]
 struct Entry(Known, [u8; 8]);
 
 // What a row holds: the known names in their order, from 0.

@@ -4,7 +4,7 @@ ghost use Rattle.octets.specs.Believed.Answers.{number_of, position_of, count_of
 
 use crate::numbers::{ACCEPTED, TOO_LITTLE_ROOM};
 
-#[derive(Drop)]
+#[derive(Clone, Copy)]
 pub enum Answer {
     // Accepted: the records or bytes written.
     Accepted(usize),

@@ -33,12 +33,12 @@ use Rattle.plain.specs.Believed.RoundTrip.{AcceptedBody}
 
 -- ---- the plain text of a body, if it is accepted
 
-abbrev pub of_verdict_lem : Verdict Class Derivation → Option (List ℕ)
-of_verdict_lem (accepted k) = some (plain_text k)
-of_verdict_lem (refused why rest) = none
+abbrev pub of_verdict : Verdict Class Derivation → Option (List ℕ)
+of_verdict (accepted k) = some (plain_text k)
+of_verdict (refused why rest) = none
 
 abbrev pub plain_of : List ℕ → Option (List ℕ)
-plain_of body = unless_fault (λ number p. none) (scan body 0) (of_verdict_lem (answer level_limit (symbols_of (scan body 0))))
+plain_of body = unless_fault (λ number p. none) (scan body 0) (of_verdict (answer level_limit (symbols_of (scan body 0))))
 
 -- ---- the table
 
@@ -134,9 +134,9 @@ is-text : (o : Option (List ℕ)) (t : List ℕ) → T (is_text o t) → o ≡ s
 is-text none t h = absurd h
 is-text (some u) t h = ap some (same_bytes_lem u t (is_true (same_bytes u t) h))
 
-of_verdict : (v : Verdict Class Derivation) {t : List ℕ} → of_verdict_lem v ≡ some t → (k : Derivation) × (v ≡ accepted k) × (plain_text k ≡ t)
-of_verdict (accepted k) e = (k, refl, cc)
-of_verdict (refused why rest) e = absurd (let o : ◌≡◌ {A = ℕ} 0 1 = cc in omega arith)
+of_verdict_lem : (v : Verdict Class Derivation) {t : List ℕ} → of_verdict v ≡ some t → (k : Derivation) × (v ≡ accepted k) × (plain_text k ≡ t)
+of_verdict_lem (accepted k) e = (k, refl, cc)
+of_verdict_lem (refused why rest) e = absurd (let o : ◌≡◌ {A = ℕ} 0 1 = cc in omega arith)
 
 no-fault : (s : Scanned) (o : Option (List ℕ)) {t : List ℕ} → unless_fault (λ number p. none) s o ≡ some t → (fault_of s ≡ Accepted 0) × (o ≡ some t)
 unfolding unless_fault
@@ -147,8 +147,8 @@ no-fault (fault_at number p) o e = absurd (let z : ◌≡◌ {A = ℕ} 0 1 = cc 
 -- the body is accepted, and the text beside it is the plain text of its derivation
 accepted_as : (body : List ℕ) {t : List ℕ} → length body ≤ message_limit → plain_of body ≡ some t → (k : Derivation) × AcceptedBody body 0 (length body) k × (plain_text k ≡ t)
 accepted_as body h e =
-    let (f, g) = no-fault (scan body 0) (of_verdict_lem (answer level_limit (symbols_of (scan body 0)))) e in
-    let (k, v, p) = of_verdict (answer level_limit (symbols_of (scan body 0))) g in
+    let (f, g) = no-fault (scan body 0) (of_verdict (answer level_limit (symbols_of (scan body 0)))) e in
+    let (k, v, p) = of_verdict_lem (answer level_limit (symbols_of (scan body 0))) g in
     let (d, n) : DerivedList k (symbols_of (scan body 0)) × (levels k ≤ level_limit) = answer_derives level_limit v in
     let a : AcceptedBody body 0 (length body) k =
     record {

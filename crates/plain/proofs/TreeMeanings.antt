@@ -14,7 +14,7 @@ use Rattle.grammar.specs.Believed.Records.{part_of}
 use Rattle.grammar.specs.Believed.Rfc733.{Derivation, include, postal, other_typed, kind_number, typed_kind}
 use Rattle.grammar.specs.Believed.Rfc733 as rfc733
 use Rattle.grammar.specs.Executable.Trees733.{node_piece, Comma, At, put, Atom, Colon, LessThan, GreaterThan, Semicolon, Lexeme, Sym, of, atom_word, quoted_word, Phrase, one, more, Nodes, first, next, Slot, empty, comma, AddressList, idle, full, mailbox, angle, group, quoted, typed, word_piece, phrase_piece, nodes_piece, slot_piece, list_piece, address_piece, as_forest}
-use Rattle.grammar.proofs.Rfc733.Trees.{phrase_then, nodes_then, slot_levels_lem, list_levels, address_levels}
+use Rattle.grammar.proofs.Rfc733.Trees.{phrase_then, nodes_then, slot_levels, list_levels, address_levels}
 use Rattle.grammar.specs.Executable.Trees733 as trees
 use Rattle.grammar.proofs.Rfc733.HouseRule as house
 use Rattle.grammar.proofs.Rfc733.Derivations.{phrase-yield, nodes-yield}
@@ -167,7 +167,7 @@ typed-depth letters member =
     of-typed (λ kind. address_depth (address kind (and_word no_word (atom letters)) no_word (and_address no_address member)) ≡ suc (address_depth member)) (omega arith) (omega arith) (omega arith) letters
 
 mutual
-  place-depth : (r : Slot) → slot_levels_lem r ≡ addresses_depth (slot_meaning r)
+  place-depth : (r : Slot) → slot_levels r ≡ addresses_depth (slot_meaning r)
   place-depth empty = refl
   place-depth (comma l t) = list-depth l
 

@@ -4,7 +4,7 @@ ghost use Rattle.plain.specs.Ties.Walking.{gap_before, gap_before_colon, after_a
 
 use scanner::Class;
 
-#[derive(Drop)]
+#[derive(Clone, Copy)]
 pub enum Place {
     // At the start of a list, or after "<", and commas.
     Start,
@@ -27,7 +27,7 @@ pub enum Place {
 }
 
 // What stands before a symbol.
-#[derive(Drop)]
+#[derive(Clone, Copy)]
 pub enum Gap {
     Nothing,
     Space,

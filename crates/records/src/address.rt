@@ -10,7 +10,7 @@ use crate::positions::{POSITION_WIDTH, load_position, store_position};
 use octets::stored::{load_byte, store_byte};
 
 // A record by value: kind, depth, the parent's number plus 1 or 0, the address's span, and its name's.
-#[derive(Drop)]
+#[derive(Clone, Copy)]
 pub struct AddressRecord {
     pub kind: u8,
     pub depth: u8,

@@ -7,7 +7,7 @@ use crate::Span;
 use crate::positions::{POSITION_WIDTH, load_position, store_position};
 
 // A record by value: the span of the name, and that of the body.
-#[derive(Drop)]
+#[derive(Clone, Copy)]
 pub struct FieldRecord {
     pub name: Span,
     pub body: Span,

@@ -32,7 +32,7 @@ pub const ENDED: usize = 19;
 pub const FAULT: usize = 20;
 
 // What stands ahead.
-#[derive(Drop)]
+#[derive(Clone, Copy)]
 pub enum Ahead {
     Symbol(Class),
     End,

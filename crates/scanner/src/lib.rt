@@ -28,7 +28,7 @@ use octets::numbers::{
 };
 
 // The classes of symbols: the words, "at" and "@", the marks of the address rules, and a symbol that fits no rule.
-#[derive(Drop)]
+#[derive(Clone, Copy)]
 pub enum Class {
     Atom,
     Quoted,
@@ -45,7 +45,7 @@ pub enum Class {
 
 // A symbol: its class; its place, from its first byte to the position after its last; the length of its meaning in bytes; and
 // whether it stands apart: white space or a comment stands right before it.
-#[derive(Drop)]
+#[derive(Clone, Copy)]
 pub struct Symbol {
     pub class: Class,
     pub start: usize,
@@ -55,7 +55,7 @@ pub struct Symbol {
 }
 
 // The next symbol, the end of the text, or a fault: its number and its place.
-#[derive(Drop)]
+#[derive(Clone, Copy)]
 pub enum Next {
     Found(Symbol),
     Ended,
@@ -64,7 +64,7 @@ pub enum Next {
 
 // The next of the data of a quoted-string, with the position after it: a byte; or CR and LF, which a backslash took, and the
 // white space that follows them; or that the string is over.
-#[derive(Drop)]
+#[derive(Clone, Copy)]
 pub enum Datum {
     Byte(u8, usize),
     LineEnd(u8, usize),
@@ -72,7 +72,7 @@ pub enum Datum {
 }
 
 // What a byte of a body is: white space, comment, part of a word, "at", a bracket or mark, or nothing of these.
-#[derive(Drop)]
+#[derive(Clone, Copy)]
 pub enum Category {
     White,
     Comment,
@@ -83,7 +83,7 @@ pub enum Category {
 }
 
 // What the scanner tells apart in a byte.
-#[derive(Drop)]
+#[derive(Clone, Copy)]
 enum ByteKind {
     White,
     Control,
@@ -100,21 +100,21 @@ enum ByteKind {
 }
 
 // The next character: its kind, its position and the position after it.
-#[derive(Drop)]
+#[derive(Clone, Copy)]
 enum Step {
     Done,
     Byte(ByteKind, usize, usize),
 }
 
 // A comment: the position after it, or the fault in it.
-#[derive(Drop)]
+#[derive(Clone, Copy)]
 enum Comment {
     Past(usize),
     Open(u8, usize),
 }
 
 // Where scanning stands between symbols: outside, in a comment that lies in so many others, or there after a backslash.
-#[derive(Drop)]
+#[derive(Clone, Copy)]
 enum Gap {
     Outside,
     Comment(usize),
@@ -122,7 +122,7 @@ enum Gap {
 }
 
 // After a character: still between symbols, or no longer.
-#[derive(Drop)]
+#[derive(Clone, Copy)]
 enum Passed {
     To(Gap),
     Over,

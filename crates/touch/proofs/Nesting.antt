@@ -9,10 +9,10 @@ use Rattle.records.specs.Believed.AddressRecords.{AddressRecord}
 use Rattle.grammar.specs.Believed.Records.{records}
 use Rattle.grammar.specs.Believed.Rfc733.{Derivation, DerivedList}
 use Rattle.grammar.specs.Executable.Trees733.{LessThan, GreaterThan, Comma, Semicolon, Colon, Sym, of, Slot, empty, comma, AddressList, idle, full, Address, mailbox, angle, group, quoted, typed}
-use Rattle.grammar.proofs.Rfc733.Trees.{nodes_then, slot_then, list_then, address_then, slot_levels_lem, list_levels, address_levels}
+use Rattle.grammar.proofs.Rfc733.Trees.{nodes_then, slot_then, list_then, address_then, slot_levels, list_levels, address_levels}
 use Rattle.grammar.proofs.Rfc733.Derivations.{forest_levels, tree-derived}
 use Rattle.grammar.proofs.RecordLaws.{inside-length}
-use Rattle.grammar.proofs.Rfc733.TreeRecords.{phrase_end, name_start, address_end, address_record, slot_count, list_count_lem, address_count, slot_records_lem, list_records, inside_records, tree-records}
+use Rattle.grammar.proofs.Rfc733.TreeRecords.{phrase_end, name_start, address_end, address_record, slot_count, list_count, address_count, slot_records, list_records, inside_records, tree-records}
 use Rattle.grammar.proofs.Symbols.{InOrder}
 use Rattle.grammar.proofs.Rfc733.Order.{phrase_lies, nodes_lies, name_lies}
 
@@ -67,7 +67,7 @@ abbrev mutual
   inside_nest (typed t a u b) d i = node (address_record b d i) (inside_nest b (suc d) (suc i)) nil
 
 mutual
-  place-flat : (r : Slot) (d p i : ℕ) (n : Nest) → flatten (place_nest r d p i n) ≡ slot_records_lem r d p i ++ flatten n
+  place-flat : (r : Slot) (d p i : ℕ) (n : Nest) → flatten (place_nest r d p i n) ≡ slot_records r d p i ++ flatten n
   place-flat empty d p i n = refl
   place-flat (comma l t) d p i n = list-flat l d p i n
 
@@ -75,8 +75,8 @@ mutual
   list-flat (idle r) d p i n = place-flat r d p i n
   list-flat (full r a) d p i n =
       place-flat r d p i _
-      ∙ ap (λ z. slot_records_lem r d p i ++ (address_record a d p ∷ (z ++ flatten n))) (inside-flat a (suc d) (suc (i + slot_count r)))
-      ∙ sym (append_assoc (slot_records_lem r d p i) (address_record a d p ∷ inside_records a (suc d) (suc (i + slot_count r))) (flatten n))
+      ∙ ap (λ z. slot_records r d p i ++ (address_record a d p ∷ (z ++ flatten n))) (inside-flat a (suc d) (suc (i + slot_count r)))
+      ∙ sym (append_assoc (slot_records r d p i) (address_record a d p ∷ inside_records a (suc d) (suc (i + slot_count r))) (flatten n))
 
   inside-flat : (a : Address) (d i : ℕ) → flatten (inside_nest a d i) ≡ inside_records a d i
   inside-flat (mailbox p m) d i = refl
@@ -87,7 +87,7 @@ mutual
 
 -- .. no more than the levels, and one
 mutual
-  place_height : (r : Slot) (d p i : ℕ) (n : Nest) → height (place_nest r d p i n) ≤ max (suc (slot_levels_lem r)) (height n)
+  place_height : (r : Slot) (d p i : ℕ) (n : Nest) → height (place_nest r d p i n) ≤ max (suc (slot_levels r)) (height n)
   place_height empty d p i n = omega arith
   place_height (comma l t) d p i n = list_height l d p i n
 
@@ -147,10 +147,10 @@ mutual
         up_to = t.end;
         le = omega (arith, k.le, k.rest.0, k.rest.1);
         rest = k.rest.2;
-        well = λ d p i end n w. k.well d p i end n (well_from n p (i + list_count_lem l) t.end k.up_to end w (omega (arith, k.rest.0, k.rest.1)));
+        well = λ d p i end n w. k.well d p i end n (well_from n p (i + list_count l) t.end k.up_to end w (omega (arith, k.rest.0, k.rest.1)));
       }
 
-  list_well : (l : AddressList) (from to : ℕ) (xs : List Sym) → InOrder from to (list_then l xs) → NestTaken (list_nest l) (list_count_lem l) from to xs
+  list_well : (l : AddressList) (from to : ℕ) (xs : List Sym) → InOrder from to (list_then l xs) → NestTaken (list_nest l) (list_count l) from to xs
   list_well (idle r) from to xs h = place_well r from to xs h
   list_well (full r a) from to xs h =
       let k = place_well r from to (address_then a xs) h in

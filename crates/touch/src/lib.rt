@@ -23,7 +23,7 @@ use scanner::Category;
 // The bytes of the tool's own table.
 const TABLE_SIZE: usize = TABLE_RECORDS * ADDRESS_RECORD_SIZE;
 
-#[derive(Drop)]
+#[derive(Clone, Copy)]
 pub enum Touched {
     // A byte of an accepted body: what it is, and the number of records around it.
     Byte(Category, usize),

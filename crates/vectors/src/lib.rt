@@ -150,7 +150,7 @@ fn put_bracketed(text: &[u8], out: &mut [u8], n: usize) -> usize
 // ---- what a line says
 
 // The place of the first such mark, and the place after it; without one, both are the end.
-#[derive(Drop)]
+#[derive(Clone, Copy)]
 struct Seam {
     at: usize,
     past: usize,

@@ -22,7 +22,7 @@ use Rattle.grammar.proofs.Rfc733.Trees.{phrase_then, name_then, nodes_then, atom
 use Rattle.grammar.specs.Executable.Machine733.{Here, Level, in_angle, in_group, list, first_at, levels_here, levels_at, nameless, fresh, run, judge}
 use Rattle.grammar.proofs.Rfc733.Complete.{begin, done_address, done_list, Clear}
 use Rattle.grammar.proofs.Rfc733.Readers.{AddressEnds, ListEnds, ends_address}
-use Rattle.grammar.proofs.Rfc733.TreeRecords.{phrase_start, phrase_end, nodes_end, name_start, name_end, address_end, address_count, address_records, list_count_lem, list_records}
+use Rattle.grammar.proofs.Rfc733.TreeRecords.{phrase_start, phrase_end, nodes_end, name_start, name_end, address_end, address_count, address_records, list_count, list_records}
 use Rattle.addresses.specs.declared.Frame.{Frame}
 use Rattle.records.specs.declared.Span.{Span}
 use Rattle.addresses.specs.declared.TypedAtom.{TypedAtom}
@@ -369,7 +369,7 @@ module _ (classes text : List ℕ) where
     pub reads : (k : Level) → Clear (nameless k) (atom_colon (symbols_from at)) → run (levels_at k + frame.levels) (list k (idle empty)) (symbols_from at) ≡ run (levels_at k + frame.levels) (done_list k tree) (symbols_ahead ahead)
     pub ends : ListEnds (symbols_ahead ahead)
     pub ahead_ok : Comes last ahead
-    pub count : free ≡ frame.number + list_count_lem tree
+    pub count : free ≡ frame.number + list_count tree
     pub stored : after ≡ sets table (frame.number * address_record_size) (table_bytes (list_records tree (level_limit - frame.levels) frame.parent frame.number))
     pub from : at ≤ last
     pub within : last ≤ length text

@@ -9,10 +9,9 @@ use Rattle.dates.proofs.value.Goals as goal
 
 pub returns-in-Accepted : goal.returns-in-Accepted
 returns-in-Accepted c =
-    let answer = c.answer-1 in
     let k = c.in-Accepted.known_told-1-own.given in
-    let f : SFits w64 answer.given.0.0 = record { sfits = omega arith } in
-    to_z-of_z f ∙ sym (ap value_of answer.given.1)
+    let f : SFits w64 c.in-Accepted.value = record { sfits = omega arith } in
+    to_z-of_z f ∙ sym (ap value_of c.in-Accepted.is)
 
 pub returns-in-Refused : goal.returns-in-Refused
 returns-in-Refused c = sym (ap value_of c.in-Refused.is)

@@ -8,7 +8,7 @@ use Rattle.records.specs.Believed.AddressRecords.{address_record_size, table_byt
 use Rattle.grammar.specs.Believed.Rfc733.{kind_number, typed_kind, angle_list, group}
 use Rattle.grammar.specs.Executable.Trees733.{Lexeme, Phrase, one, more, atom_word, quoted_word, idle, full, AddressList, Address}
 use Rattle.grammar.specs.Executable.Machine733.{Here, in_list, in_typed, Level, top, in_angle, in_group, State, list, phrase, first_at, next_at, node, want, levels_here, levels_at, fresh, Began}
-use Rattle.grammar.proofs.Rfc733.TreeRecords.{slot_count, list_count_lem, slot_records_lem, list_records, address_records, phrase_start, phrase_end, nodes_end, name_start, name_end}
+use Rattle.grammar.proofs.Rfc733.TreeRecords.{slot_count, list_count, slot_records, list_records, address_records, phrase_start, phrase_end, nodes_end, name_start, name_end}
 use Rattle.engine.specs.Ties.Actions.{Mode, at_place, at_start, at_first_atom, wanting, at_atom, at_quoted, at_words, at_node, mode_number, after_at, after_address}
 use Rattle.engine.specs.declared.Engine.{Engine}
 
@@ -57,7 +57,7 @@ parent_here (in_typed h t a u) = suc (number_here h)
 
 -- the next free number
 abbrev pub free_of : State → ℕ
-free_of (list k l) = parent_at k + list_count_lem l
+free_of (list k l) = parent_at k + list_count l
 free_of (phrase h p) = number_here h
 free_of (first_at h p t) = number_here h
 free_of (next_at h p m t) = number_here h
@@ -130,7 +130,7 @@ HoldsState stack (want h t a u) = HoldsHere stack (in_typed h t a u)
 abbrev mutual
   -- before an address
   pub stored_here : List ℕ → Here → List ℕ
-  stored_here lent (in_list k r) = sets (stored_level lent k) (parent_at k * address_record_size) (table_bytes (slot_records_lem r (levels_at k) (parent_at k) (parent_at k)))
+  stored_here lent (in_list k r) = sets (stored_level lent k) (parent_at k * address_record_size) (table_bytes (slot_records r (levels_at k) (parent_at k) (parent_at k)))
   stored_here lent (in_typed h t a u) = stored_here lent h
 
   -- before a list

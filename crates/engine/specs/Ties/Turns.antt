@@ -15,7 +15,7 @@ use Rattle.grammar.specs.Executable.Machines.{Step, go, stop}
 use Rattle.grammar.specs.Executable.Trees733.{one_of, Lexeme, Phrase, one, atom_word, quoted_word, Nodes, empty, AddressList, idle, Address}
 use Rattle.grammar.specs.Executable.Trees733 as trees
 use Rattle.grammar.specs.Executable.Machine733.{Here, in_list, Level, in_angle, in_group, State, list, phrase, node, want, Spot, close, enter, end_angle, end_group, levels_here, levels_at, step_on, finish}
-use Rattle.grammar.proofs.Rfc733.TreeRecords.{list_count_lem, list_records, address_end, name_start, name_end}
+use Rattle.grammar.proofs.Rfc733.TreeRecords.{list_count, list_records, address_end, name_start, name_end}
 use Rattle.engine.specs.Ties.Actions.{mode_number, wanting, at_quoted, refuses, opens, turns_typed, act_number, mode_room, entry, row_of, action_of, after_address}
 use Rattle.engine.specs.Ties.Stands.{mode_of, stack_size, place_of, number_here, parent_at, parent_here, Entry, HoldsHere, HoldsLevel, stored_here, stored_list, stored_address, Stands}
 use Rattle.engine.specs.declared.Engine.{Engine}
@@ -195,7 +195,7 @@ OpenLevelIs stack after e kind next end r =
 pub record AtClose (text lent : List ℕ) (k : Level) (l : AddressList) (t : Lexeme) (angle : Bool) (depth free kind next end : ℕ) (stack table : List ℕ) : Type 0 where
   pub depth_is : depth ≡ levels_at k
   pub deep : depth ≤ level_limit
-  pub free_is : free ≡ parent_at k + list_count_lem l
+  pub free_is : free ≡ parent_at k + list_count l
   pub holds : HoldsLevel stack k
   pub stored : table ≡ stored_list lent k l
   pub kind-is : kind ≡ kind_if angle
@@ -294,7 +294,7 @@ pub record SomeFinishing (text : List ℕ) (e : Engine) (action : ℕ) (stack ta
 pub record FinishedList (lent : List ℕ) (s : State) (table : List ℕ) (n : ℕ) : Type 0 where
   pub tree : AddressList
   pub is : finish s ≡ some tree
-  pub count-is : n ≡ list_count_lem tree
+  pub count-is : n ≡ list_count tree
   pub stored : table ≡ sets lent 0 (table_bytes (list_records tree 0 0 0))
 
 -- the text ends too soon

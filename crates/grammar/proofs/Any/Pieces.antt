@@ -64,6 +64,7 @@ module _ {C N : Type 0} (G : Grammar C N) where
     AllCovered A (r ∷ rs) = Covers A r × AllCovered A rs
 
     covers : (A : N) (rs : List (Rule C N)) (r : Rule C N) → Memᴰ r rs → AllCovered A rs → Covers A r
+    covers A [] r m c = elim m [ ]
     covers A (r' ∷ rs) r (here e) c = rw e c.0
     covers A (r' ∷ rs) r (there m) c = covers A rs r m c.1
 

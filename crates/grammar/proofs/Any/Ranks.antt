@@ -26,6 +26,7 @@ module _ {C N : Type 0} (rank : N → ℕ) where
   ranked bound (r ∷ rs) = both (below bound (pick r.opens 1 0) r.items) (ranked bound rs)
 
   ranked_rule : (bound : ℕ) (r : Rule C N) (rs : List (Rule C N)) → Memᴰ r rs → ranked bound rs ≡ true → below bound (pick r.opens 1 0) r.items ≡ true
+  ranked_rule bound r [] m h = elim m [ ]
   ranked_rule bound r (r' ∷ rs) (here e) h = rw e (both-parts (below bound (pick r'.opens 1 0) r'.items) (ranked bound rs) h).0
   ranked_rule bound r (r' ∷ rs) (there m) h = ranked_rule bound r rs m (both-parts (below bound (pick r'.opens 1 0) r'.items) (ranked bound rs) h).1
 

@@ -43,6 +43,7 @@ module _ {C N : Type 0} (silent : N → Bool) where
   silent_rules (r ∷ rs) = both (both (no_makes r.makes) (hushed r.items)) (silent_rules rs)
 
   silent_rule : (r : Rule C N) (rs : List (Rule C N)) → Memᴰ r rs → silent_rules rs ≡ true → both (no_makes r.makes) (hushed r.items) ≡ true
+  silent_rule r [] m h = elim m [ ]
   silent_rule r (s ∷ rs) (here e) h = rw e (both-parts (both (no_makes s.makes) (hushed s.items)) (silent_rules rs) h).0
   silent_rule r (s ∷ rs) (there m) h = silent_rule r rs m (both-parts (both (no_makes s.makes) (hushed s.items)) (silent_rules rs) h).1
 

@@ -8,7 +8,7 @@ use mathlib.Core.Option.{Option, none, some}
 use borrow.Author.Tests.{leb-true, leb-false}
 use Rattle.grammar.specs.Believed.Language.{too_deep, accepted}
 use Rattle.grammar.specs.Executable.Trees733.{Atom, LessThan, Semicolon, Colon, Lexeme, Sym, of, Word, atom_word, quoted_word, Phrase, one, more, Nodes, first, next, Slot, empty, comma, AddressList, idle, full, Address, mailbox, angle, group, quoted, typed}
-use Rattle.grammar.proofs.Rfc733.Trees.{word_symbol, phrase_then, name_then, nodes_then, slot_then, list_then, address_then, slot_levels_lem, list_levels, address_levels, slot_lawful, list_lawful, address_lawful, house_rule, DerivedTree}
+use Rattle.grammar.proofs.Rfc733.Trees.{word_symbol, phrase_then, name_then, nodes_then, slot_then, list_then, address_then, slot_levels, list_levels, address_levels, slot_lawful, list_lawful, address_lawful, house_rule, DerivedTree}
 use Rattle.grammar.proofs.Rfc733.HouseRule.{one_atom, atom_named, atom_group, slot_atom_group, list_atom_group, atom_colon_list}
 use Rattle.grammar.specs.Executable.Machines.{go, stop, after}
 use Rattle.grammar.specs.Executable.Machine733.{Here, in_list, in_typed, Level, top, in_angle, in_group, State, list, phrase, first_at, next_at, node, want, spot, as_list, levels_here, levels_at, close, complete, within_limit, entered, enter, on_word, Began, nameless, fresh, begun, run, read}
@@ -122,7 +122,7 @@ clear_group h none t l u c = sym (atom_colon_list l (of Semicolon u ∷ []) refl
 clear_group h (some p) t l u c = tt
 
 mutual
-  pub run_slot : (r : Slot) (n : ℕ) (k : Level) (xs : List Sym) → levels_at k + slot_levels_lem r ≤ n → slot_lawful r → Clear (nameless k) (slot_atom_group r false)
+  pub run_slot : (r : Slot) (n : ℕ) (k : Level) (xs : List Sym) → levels_at k + slot_levels r ≤ n → slot_lawful r → Clear (nameless k) (slot_atom_group r false)
       → run n (list k (idle empty)) (slot_then r xs) ≡ run n (list k (idle r)) xs
   run_slot empty n k xs d o c = refl
   run_slot (comma l t) n k xs d o c = run-list l n k _ d o c ∙ rw (complete_done_list k l)

@@ -10,7 +10,7 @@ use Rattle.grammar.specs.Believed.Grammar.{Item, nonterminal, yield, levels, beg
 use Rattle.grammar.specs.Believed.Rfc733.{same_class, plain, rules_of, Nonterminal, list, slot, address, phrase, at_nodes, node, word, rfc733, Derivation, DerivedList}
 use Rattle.grammar.specs.Executable.Trees733.{put, Class, Atom, At, LessThan, Comma, Semicolon, Colon, Lexeme, Sym, of, Word, atom_word, quoted_word, Phrase, one, more, Nodes, first, next, Slot, empty, comma, AddressList, idle, full, Address, mailbox, angle, group, quoted, typed, Bit, bit, word_piece, phrase_piece, node_piece, nodes_piece, slot_piece, list_piece, address_piece, as_forest}
 use Rattle.grammar.proofs.Any.Pieces.{seen, levels_of, From, by_rule, put-fits, AllCovered, tree_of}
-use Rattle.grammar.proofs.Rfc733.Trees.{word_symbol, phrase_then, nodes_then, slot_then, list_then, address_then, slot_levels_lem, list_levels, address_levels, slot_lawful, list_lawful, address_lawful, house_rule, DerivedTree}
+use Rattle.grammar.proofs.Rfc733.Trees.{word_symbol, phrase_then, nodes_then, slot_then, list_then, address_then, slot_levels, list_levels, address_levels, slot_lawful, list_lawful, address_lawful, house_rule, DerivedTree}
 
 -- ---- the same symbols
 
@@ -59,13 +59,13 @@ nodes-levels (first t w) = omega (arith, word-levels w)
 nodes-levels (next m t w) = omega (arith, nodes-levels m, word-levels w)
 
 mutual
-  slot_levels : (r : Slot) → levels_of (slot_piece r) ≡ slot_levels_lem r
-  slot_levels empty = refl
-  slot_levels (comma l t) = omega (arith, list-levels l)
+  slot_levels_lem : (r : Slot) → levels_of (slot_piece r) ≡ slot_levels r
+  slot_levels_lem empty = refl
+  slot_levels_lem (comma l t) = omega (arith, list-levels l)
 
   list-levels : (l : AddressList) → levels_of (list_piece l) ≡ list_levels l
-  list-levels (idle r) = omega (arith, slot_levels r)
-  list-levels (full r a) = omega (arith, slot_levels r, address-levels a)
+  list-levels (idle r) = omega (arith, slot_levels_lem r)
+  list-levels (full r a) = omega (arith, slot_levels_lem r, address-levels a)
 
   address-levels : (a : Address) → levels_of (address_piece a) ≡ address_levels a
   address-levels (mailbox p m) = omega (arith, phrase-levels p, nodes-levels m)

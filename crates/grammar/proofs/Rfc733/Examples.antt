@@ -89,11 +89,11 @@ men_at_work : Gives (Atom ∷ At ∷ Atom ∷ Colon ∷ Semicolon ∷ []) 8 3 0
 men_at_work = (refl, refl, refl)
 
 -- `: A : : A : "q" ; ;` has no derivation, of whatever levels
-abbrev typed_in_typed_lem : List Sym
-typed_in_typed_lem = placed 0 (Colon ∷ Atom ∷ Colon ∷ Colon ∷ Atom ∷ Colon ∷ Quoted ∷ Semicolon ∷ Semicolon ∷ [])
+abbrev typed_in_typed : List Sym
+typed_in_typed = placed 0 (Colon ∷ Atom ∷ Colon ∷ Colon ∷ Atom ∷ Colon ∷ Quoted ∷ Semicolon ∷ Semicolon ∷ [])
 
-typed_in_typed : (k : Derivation) → DerivedList k typed_in_typed_lem → ⊥
-typed_in_typed k d = unfit-none DerivedList levels level_limit {rest = placed 7 (Semicolon ∷ Semicolon ∷ [])} (answer-right level_limit typed_in_typed_lem) k d
+typed_in_typed_lem : (k : Derivation) → DerivedList k typed_in_typed → ⊥
+typed_in_typed_lem k d = unfit-none DerivedList levels level_limit {rest = placed 7 (Semicolon ∷ Semicolon ∷ [])} (answer-right level_limit typed_in_typed) k d
 
 -- ---- kinds
 
@@ -102,11 +102,11 @@ abbrev kinds_of : List AddressRecord → List ℕ
 kinds_of [] = []
 kinds_of (r ∷ rs) = r.kind ∷ kinds_of rs
 
-abbrev typed_kinds_lem : String → List ℕ
-typed_kinds_lem text =
+abbrev typed_kinds : String → List ℕ
+typed_kinds text =
     kinds_of (records_of (answer level_limit (s Colon 0 1 ∷ of Atom record { start = 1; end = 1 + len text; meaning = bytes text; apart = false } ∷ s Colon 20 21 ∷ s Quoted 22 24 ∷ [])))
 
 -- Include is 5, Postal 6, any other atom 7; case ignored
-typed_kinds : (typed_kinds_lem "Include" ≡ 5 ∷ 4 ∷ []) × (typed_kinds_lem "iNCLUDE" ≡ 5 ∷ 4 ∷ []) × (typed_kinds_lem "PoStAl" ≡ 6 ∷ 4 ∷ []) × (typed_kinds_lem "Includes" ≡ 7 ∷ 4 ∷ [])
+typed_kinds_lem : (typed_kinds "Include" ≡ 5 ∷ 4 ∷ []) × (typed_kinds "iNCLUDE" ≡ 5 ∷ 4 ∷ []) × (typed_kinds "PoStAl" ≡ 6 ∷ 4 ∷ []) × (typed_kinds "Includes" ≡ 7 ∷ 4 ∷ [])
 unfolding lower same
-typed_kinds = (refl, refl, refl, refl)
+typed_kinds_lem = (refl, refl, refl, refl)

@@ -15,7 +15,7 @@ use Rattle.grammar.proofs.Any.Order.{Lies, Ascending, lies_widen, ascending_wide
 use Rattle.grammar.specs.Executable.Trees733.{At, LessThan, GreaterThan, Comma, Semicolon, Colon, Lexeme, Sym, of, Word, atom_word, quoted_word, Phrase, one, more, Nodes, first, next, Slot, empty, comma, AddressList, idle, full, Address, mailbox, angle, group, quoted, typed}
 use Rattle.grammar.proofs.Rfc733.Trees.{word_symbol, phrase_then, name_then, nodes_then, slot_then, list_then, address_then}
 use Rattle.grammar.proofs.Rfc733.Derivations.{tree-derived}
-use Rattle.grammar.proofs.Rfc733.TreeRecords.{word_lexeme, phrase_start, phrase_end, nodes_end, name_start, name_end, address_end, address_record, slot_count, list_count_lem, address_count, slot_records_lem, list_records, inside_records, tree-records, tree-count}
+use Rattle.grammar.proofs.Rfc733.TreeRecords.{word_lexeme, phrase_start, phrase_end, nodes_end, name_start, name_end, address_end, address_record, slot_count, list_count, address_count, slot_records, list_records, inside_records, tree-records, tree-count}
 
 -- ---- the parts of a list in order
 
@@ -67,13 +67,13 @@ record TakenBy (a : Address) (from to : ℕ) (xs : List Sym) : Type 0 where
 -- an address between an opening and a closing mark: the name before the opening one, and the list between them
 marked_lies : (from to : ℕ) (o : Option Phrase) (t u : Lexeme) (l : AddressList) (kind : ℕ) (xs : List Sym)
     → (from ≤ name_start o t) → (name_start o t ≤ name_end o t) → (name_end o t ≤ t.start) → (t.start < t.end) → (u.start < u.end)
-    → (k : Taken t.end to (list_count_lem l) xs (list_records l)) → (k.up_to ≤ u.start)
+    → (k : Taken t.end to (list_count l) xs (list_records l)) → (k.up_to ≤ u.start)
     → (d par : ℕ) → Lies from u.end record { kind = kind; depth = d; parent = par; start = name_start o t; end = u.end; name_start = name_start o t; name_end = name_end o t }
 marked_lies from to o t u l kind xs a b c e f k g d par =
     record { after-from = a; name-after = omega arith; name-order = b; name-before = omega (arith, k.wide); not_empty = omega (arith, k.wide); before-to = omega arith }
 
 mutual
-  slot_taken : (r : Slot) (from to : ℕ) (xs : List Sym) → InOrder from to (slot_then r xs) → Taken from to (slot_count r) xs (slot_records_lem r)
+  slot_taken : (r : Slot) (from to : ℕ) (xs : List Sym) → InOrder from to (slot_then r xs) → Taken from to (slot_count r) xs (slot_records r)
   slot_taken empty from to xs h = record { up_to = from; wide = omega arith; rest = h; ascending = λ d par i. omega arith }
   slot_taken (comma l t) from to xs h =
       let k = list-taken l from to (of Comma t ∷ xs) h in
@@ -84,7 +84,7 @@ mutual
         ascending = λ d par i. ascending_widen from k.up_to from t.end (list_records l d par i) (k.ascending d par i) (omega arith) (omega (arith, k.rest.0, k.rest.1));
       }
 
-  list-taken : (l : AddressList) (from to : ℕ) (xs : List Sym) → InOrder from to (list_then l xs) → Taken from to (list_count_lem l) xs (list_records l)
+  list-taken : (l : AddressList) (from to : ℕ) (xs : List Sym) → InOrder from to (list_then l xs) → Taken from to (list_count l) xs (list_records l)
   list-taken (idle r) from to xs h = slot_taken r from to xs h
   list-taken (full r a) from to xs h =
       let k = slot_taken r from to (address_then a xs) h in
@@ -94,7 +94,7 @@ mutual
         wide = omega (arith, k.wide, b.wide);
         rest = b.rest;
         ascending = λ d par i.
-            ascending_append from k.up_to (address_end a) (slot_records_lem r d par i) _ (k.ascending d par i) (b.lies d par, b.ascending d par (suc d) (suc (i + slot_count r)));
+            ascending_append from k.up_to (address_end a) (slot_records r d par i) _ (k.ascending d par i) (b.lies d par, b.ascending d par (suc d) (suc (i + slot_count r)));
       }
 
   address-taken : (a : Address) (from to : ℕ) (xs : List Sym) → InOrder from to (address_then a xs) → TakenBy a from to xs
@@ -161,7 +161,7 @@ pub count_half : {k : Derivation} {xs : List Sym} (from to : ℕ) → DerivedLis
 count_half {k} {xs} from to d h =
     let (l, e, t) = tree-derived d in
     let y = list-taken l from to [] (rw t.yields h) in
-    let q : count k ≡ list_count_lem l = ap count e ∙ tree-count l in
+    let q : count k ≡ list_count l = ap count e ∙ tree-count l in
     omega (arith, y.wide, y.rest)
 
 -- .. and so many records

@@ -65,29 +65,29 @@ address_record (typed t a u b) depth parent = record_by (kind_number (typed_kind
 abbrev mutual
   pub slot_count : Slot → ℕ
   slot_count empty = 0
-  slot_count (comma l t) = list_count_lem l
+  slot_count (comma l t) = list_count l
 
-  pub list_count_lem : AddressList → ℕ
-  list_count_lem (idle r) = slot_count r
-  list_count_lem (full r a) = slot_count r + address_count a
+  pub list_count : AddressList → ℕ
+  list_count (idle r) = slot_count r
+  list_count (full r a) = slot_count r + address_count a
 
   pub address_count : Address → ℕ
   address_count (mailbox p m) = 1
-  address_count (angle o t l u) = suc (list_count_lem l)
-  address_count (group o t l u) = suc (list_count_lem l)
+  address_count (angle o t l u) = suc (list_count l)
+  address_count (group o t l u) = suc (list_count l)
   address_count (quoted t) = 1
   address_count (typed t a u b) = suc (address_count b)
 
 -- at this depth, with this parent (its number plus 1), from this number on
 abbrev mutual
-  pub slot_records_lem : Slot → ℕ → ℕ → ℕ → List AddressRecord
-  slot_records_lem empty depth parent i = []
-  slot_records_lem (comma l t) depth parent i = list_records l depth parent i
+  pub slot_records : Slot → ℕ → ℕ → ℕ → List AddressRecord
+  slot_records empty depth parent i = []
+  slot_records (comma l t) depth parent i = list_records l depth parent i
 
   pub list_records : AddressList → ℕ → ℕ → ℕ → List AddressRecord
-  list_records (idle r) depth parent i = slot_records_lem r depth parent i
+  list_records (idle r) depth parent i = slot_records r depth parent i
   list_records (full r a) depth parent i =
-      slot_records_lem r depth parent i ++ (address_record a depth parent ∷ inside_records a (suc depth) (suc (i + slot_count r)))
+      slot_records r depth parent i ++ (address_record a depth parent ∷ inside_records a (suc depth) (suc (i + slot_count r)))
 
   -- the records inside an address, `i` being the number of the first of them and so the address's own number plus 1
   pub inside_records : Address → ℕ → ℕ → List AddressRecord
@@ -184,18 +184,18 @@ nodes-count m k = silent_count silent rfc733 all_silent (nodes-is m) refl k
 mutual
   slot_count_lem : (r : Slot) (k : Derivation) → count (put (slot_piece r) k) ≡ slot_count r + count k
   slot_count_lem empty k = omega arith
-  slot_count_lem (comma l t) k = omega (arith, list_count l (leaf (of Comma t) nil))
+  slot_count_lem (comma l t) k = omega (arith, list_count_lem l (leaf (of Comma t) nil))
 
-  list_count : (l : AddressList) (k : Derivation) → count (put (list_piece l) k) ≡ list_count_lem l + count k
-  list_count (idle r) k = omega (arith, slot_count_lem r nil)
-  list_count (full r a) k = omega (arith, slot_count_lem r (put (address_piece a) nil), address-count a nil)
+  list_count_lem : (l : AddressList) (k : Derivation) → count (put (list_piece l) k) ≡ list_count l + count k
+  list_count_lem (idle r) k = omega (arith, slot_count_lem r nil)
+  list_count_lem (full r a) k = omega (arith, slot_count_lem r (put (address_piece a) nil), address-count a nil)
 
   address-count : (a : Address) (k : Derivation) → count (put (address_piece a) k) ≡ address_count a + count k
   address-count (mailbox p m) k = omega (arith, phrase-count p (put (nodes_piece m) nil), nodes-count m nil)
-  address-count (angle none t l u) k = omega (arith, list_count l (leaf (of GreaterThan u) nil))
-  address-count (angle (some p) t l u) k = omega (arith, phrase-count p (leaf (of LessThan t) (put (list_piece l) (leaf (of GreaterThan u) nil))), list_count l (leaf (of GreaterThan u) nil))
-  address-count (group none t l u) k = omega (arith, list_count l (leaf (of Semicolon u) nil))
-  address-count (group (some p) t l u) k = omega (arith, phrase-count p (leaf (of Colon t) (put (list_piece l) (leaf (of Semicolon u) nil))), list_count l (leaf (of Semicolon u) nil))
+  address-count (angle none t l u) k = omega (arith, list_count_lem l (leaf (of GreaterThan u) nil))
+  address-count (angle (some p) t l u) k = omega (arith, phrase-count p (leaf (of LessThan t) (put (list_piece l) (leaf (of GreaterThan u) nil))), list_count_lem l (leaf (of GreaterThan u) nil))
+  address-count (group none t l u) k = omega (arith, list_count_lem l (leaf (of Semicolon u) nil))
+  address-count (group (some p) t l u) k = omega (arith, phrase-count p (leaf (of Colon t) (put (list_piece l) (leaf (of Semicolon u) nil))), list_count_lem l (leaf (of Semicolon u) nil))
   address-count (quoted t) k = omega arith
   address-count (typed t a u b) k = omega (arith, address-count b nil)
 
@@ -210,16 +210,16 @@ nodes-records : (m : Nodes) (k : Derivation) (d par i : ℕ) → records_from (p
 nodes-records m k d par i = silent_records silent rfc733 all_silent (nodes-is m) refl k d par i
 
 mutual
-  slot_records : (r : Slot) (k : Derivation) (d par i : ℕ) → records_from (put (slot_piece r) k) d par i ≡ slot_records_lem r d par i ++ records_from k d par (i + slot_count r)
-  slot_records empty k d par i = refl
-  slot_records (comma l t) k d par i =
-      both-parts (records_from k d par) (slot_records_lem (comma l t) d par i) (i + slot_count (comma l t)) (list-records l (leaf (of Comma t) nil) d par i ∙ append-nil _) (omega (arith, list_count l (leaf (of Comma t) nil)))
+  slot_records_lem : (r : Slot) (k : Derivation) (d par i : ℕ) → records_from (put (slot_piece r) k) d par i ≡ slot_records r d par i ++ records_from k d par (i + slot_count r)
+  slot_records_lem empty k d par i = refl
+  slot_records_lem (comma l t) k d par i =
+      both-parts (records_from k d par) (slot_records (comma l t) d par i) (i + slot_count (comma l t)) (list-records l (leaf (of Comma t) nil) d par i ∙ append-nil _) (omega (arith, list_count_lem l (leaf (of Comma t) nil)))
 
-  list-records : (l : AddressList) (k : Derivation) (d par i : ℕ) → records_from (put (list_piece l) k) d par i ≡ list_records l d par i ++ records_from k d par (i + list_count_lem l)
-  list-records (idle r) k d par i = both-parts (records_from k d par) (list_records (idle r) d par i) (i + list_count_lem (idle r)) (slot_records r nil d par i ∙ append-nil _) (omega (arith, slot_count_lem r nil))
+  list-records : (l : AddressList) (k : Derivation) (d par i : ℕ) → records_from (put (list_piece l) k) d par i ≡ list_records l d par i ++ records_from k d par (i + list_count l)
+  list-records (idle r) k d par i = both-parts (records_from k d par) (list_records (idle r) d par i) (i + list_count (idle r)) (slot_records_lem r nil d par i ∙ append-nil _) (omega (arith, slot_count_lem r nil))
   list-records (full r a) k d par i =
-      both-parts (records_from k d par) (list_records (full r a) d par i) (i + list_count_lem (full r a))
-      (slot_records r (put (address_piece a) nil) d par i ∙ ap (λ rs. slot_records_lem r d par i ++ rs) (address-records a nil d par (i + slot_count r) ∙ append-nil _))
+      both-parts (records_from k d par) (list_records (full r a) d par i) (i + list_count (full r a))
+      (slot_records_lem r (put (address_piece a) nil) d par i ∙ ap (λ rs. slot_records r d par i ++ rs) (address-records a nil d par (i + slot_count r) ∙ append-nil _))
       (omega (arith, slot_count_lem r (put (address_piece a) nil), address-count a nil))
 
   address-records : (a : Address) (k : Derivation) (d par i : ℕ) → records_from (put (address_piece a) k) d par i ≡ address_records a d par i ++ records_from k d par (i + address_count a)
@@ -232,22 +232,22 @@ mutual
       both-parts (records_from k d par) (address_records (angle none t l u) d par i) (i + address_count (angle none t l u))
       (cons_record (same_record d par refl refl (forest_end 0 (angle none t l u) _ (address-yield (angle none t l u) [])) refl refl)
       (list-records l (leaf (of GreaterThan u) nil) (suc d) (suc i) (suc i) ∙ append-nil _))
-      (omega (arith, list_count l (leaf (of GreaterThan u) nil)))
+      (omega (arith, list_count_lem l (leaf (of GreaterThan u) nil)))
   address-records (angle (some p) t l u) k d par i =
       both-parts (records_from k d par) (address_records (angle (some p) t l u) d par i) (i + address_count (angle (some p) t l u))
       (cons_record (same_record d par refl (forest_start p (leaf (of LessThan t) (put (list_piece l) (leaf (of GreaterThan u) nil)))) (forest_end _ (angle (some p) t l u) _ (address-yield (angle (some p) t l u) [])) (name-start p (leaf (of LessThan t) (put (list_piece l) (leaf (of GreaterThan u) nil))) _) (name-end p (leaf (of LessThan t) (put (list_piece l) (leaf (of GreaterThan u) nil))) _))
       (phrase-records p (leaf (of LessThan t) (put (list_piece l) (leaf (of GreaterThan u) nil))) (suc d) (suc i) (suc i) ∙ list-records l (leaf (of GreaterThan u) nil) (suc d) (suc i) (suc i) ∙ append-nil _))
-      (omega (arith, phrase-count p (leaf (of LessThan t) (put (list_piece l) (leaf (of GreaterThan u) nil))), list_count l (leaf (of GreaterThan u) nil)))
+      (omega (arith, phrase-count p (leaf (of LessThan t) (put (list_piece l) (leaf (of GreaterThan u) nil))), list_count_lem l (leaf (of GreaterThan u) nil)))
   address-records (group none t l u) k d par i =
       both-parts (records_from k d par) (address_records (group none t l u) d par i) (i + address_count (group none t l u))
       (cons_record (same_record d par refl refl (forest_end 0 (group none t l u) _ (address-yield (group none t l u) [])) refl refl)
       (list-records l (leaf (of Semicolon u) nil) (suc d) (suc i) (suc i) ∙ append-nil _))
-      (omega (arith, list_count l (leaf (of Semicolon u) nil)))
+      (omega (arith, list_count_lem l (leaf (of Semicolon u) nil)))
   address-records (group (some p) t l u) k d par i =
       both-parts (records_from k d par) (address_records (group (some p) t l u) d par i) (i + address_count (group (some p) t l u))
       (cons_record (same_record d par refl (forest_start p (leaf (of Colon t) (put (list_piece l) (leaf (of Semicolon u) nil)))) (forest_end _ (group (some p) t l u) _ (address-yield (group (some p) t l u) [])) (name-start p (leaf (of Colon t) (put (list_piece l) (leaf (of Semicolon u) nil))) _) (name-end p (leaf (of Colon t) (put (list_piece l) (leaf (of Semicolon u) nil))) _))
       (phrase-records p (leaf (of Colon t) (put (list_piece l) (leaf (of Semicolon u) nil))) (suc d) (suc i) (suc i) ∙ list-records l (leaf (of Semicolon u) nil) (suc d) (suc i) (suc i) ∙ append-nil _))
-      (omega (arith, phrase-count p (leaf (of Colon t) (put (list_piece l) (leaf (of Semicolon u) nil))), list_count l (leaf (of Semicolon u) nil)))
+      (omega (arith, phrase-count p (leaf (of Colon t) (put (list_piece l) (leaf (of Semicolon u) nil))), list_count_lem l (leaf (of Semicolon u) nil)))
   address-records (quoted t) k d par i = both-parts (records_from k d par) (address_records (quoted t) d par i) (i + address_count (quoted t)) refl (omega arith)
   address-records (typed t a u b) k d par i =
       both-parts (records_from k d par) (address_records (typed t a u b) d par i) (i + address_count (typed t a u b))
@@ -259,5 +259,5 @@ mutual
 pub tree-records : (l : AddressList) → records (as_forest l) ≡ list_records l 0 0 0
 tree-records l = list-records l nil 0 0 0 ∙ append-nil _
 
-pub tree-count : (l : AddressList) → count (as_forest l) ≡ list_count_lem l
-tree-count l = omega (arith, list_count l nil)
+pub tree-count : (l : AddressList) → count (as_forest l) ≡ list_count l
+tree-count l = omega (arith, list_count_lem l nil)

@@ -78,13 +78,13 @@ word_first n (in_group r p c s) w xs = word_on n (place (in_group r p c s)) (λ 
 
 -- ---- phrases
 
-word_next : (n : ℕ) (h : Here) (p : Phrase) (w : Word) (xs : List Sym) → run n (done_phrase h p) (seen (word_piece w) xs) ≡ run n (phrase h (more p w)) xs
-word_next n h (one v) w xs = word_on n (word h v) (λ u. phrase h (more (one v) u)) _ w xs refl
-word_next n h (more p v) w xs = word_on n (phrase h (more p v)) (λ u. phrase h (more (more p v) u)) _ w xs refl
+word_next_lem : (n : ℕ) (h : Here) (p : Phrase) (w : Word) (xs : List Sym) → run n (done_phrase h p) (seen (word_piece w) xs) ≡ run n (phrase h (more p w)) xs
+word_next_lem n h (one v) w xs = word_on n (word h v) (λ u. phrase h (more (one v) u)) _ w xs refl
+word_next_lem n h (more p v) w xs = word_on n (phrase h (more p v)) (λ u. phrase h (more (more p v) u)) _ w xs refl
 
 run-phrase : (p : Phrase) (n : ℕ) (h : Here) (xs : List Sym) → run n (place h) (seen (phrase_piece p) xs) ≡ run n (done_phrase h p) xs
 run-phrase (one w) n h xs = word_first n h w xs
-run-phrase (more p w) n h xs = run-phrase p n h _ ∙ word_next n h p w xs
+run-phrase (more p w) n h xs = run-phrase p n h _ ∙ word_next_lem n h p w xs
 
 less-on : (n : ℕ) (h : Here) (p : Phrase) (t : Lexeme) (xs : List Sym) → run n (done_phrase h p) (of LessThan t ∷ xs) ≡ run n (opened (less h p t)) xs
 less-on n (in_list r) (one w) t xs = refl
