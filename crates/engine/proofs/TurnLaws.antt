@@ -39,15 +39,15 @@ begin_open (in_typed h t a u) s = (record { depth_is = s.depth_is; holds = s.hol
 -- ---- words and marks that open and close nothing
 
 first-atom : {text : List ℕ} {at start end : ℕ} (c : Class) (t : Lexeme) (w : Word) → Follows text at c t start end → WordIs c t w → FirstAtom text (one w)
-first-atom Atom t (atom_word v) f atom_is =
+first-atom c t w f atom_is =
     let a = f.start_is in
     let b = f.end_is in
     record { ordered = omega (arith, f.starts); within = omega (arith, f.within); meaning = f.meaning refl ∙ rw (a, b) }
-first-atom Quoted t (quoted_word v) f quoted_is = tt
+first-atom c t w f quoted_is = tt
 
 word-is : (c : Class) (t : Lexeme) (w : Word) → WordIs c t w → word_lexeme w ≡ t
-word-is Atom t (atom_word v) atom_is = refl
-word-is Quoted t (quoted_word v) quoted_is = refl
+word-is c t w atom_is = refl
+word-is c t w quoted_is = refl
 
 -- the end of a word
 word_end : {end : ℕ} (c : Class) (t : Lexeme) (w : Word) → end ≡ t.end → WordIs c t w → end ≡ (word_lexeme w).end
@@ -128,6 +128,32 @@ module _ {text lent stack table : List ℕ} {e : Engine} {c : Class} {t : Lexeme
       record { ordered = keep f next x.ordered; mode_is = q; depth_is = x.depth_is; free_is = x.free_is; room = room-on f x.room; holds = x.holds; current = (same_name next end x.current, word_end d t w f.end_is i); stored = x.stored }
   kept {next} (list k l) (list k' l') to_place x q =
       record { ordered = keep f next x.ordered; mode_is = q; depth_is = x.depth_is; free_is = x.free_is; room = room-on f x.room; holds = x.holds; current = tt; stored = x.stored }
+  kept (list k l) (phrase _ _) x9 x q = elim x9 [ ]
+  kept (list k l) (first_at h' p' t') x8 x q = elim x8 [ ]
+  kept (list k l) (next_at h' p' m' t') x9 x q = elim x9 [ ]
+  kept (list k l) (node h' p' m') x10 x q = elim x10 [ ]
+  kept (list k l) (want _ _ _ _) x15 x q = elim x15 [ ]
+  kept (phrase h p) (list k' l') x7 x m = elim x7 [ ]
+  kept (phrase h p) (phrase _ _) x10 x m = elim x10 [ ]
+  kept (phrase h p) (next_at h' p' m' t') x9 x m = elim x9 [ ]
+  kept (phrase h p) (node h' p' m') x10 x m = elim x10 [ ]
+  kept (phrase h p) (want _ _ _ _) x15 x m = elim x15 [ ]
+  kept (first_at h p v) (list k' l') x8 x q = elim x8 [ ]
+  kept (first_at h p v) (phrase _ _) x11 x q = elim x11 [ ]
+  kept (first_at h p v) (first_at h' p' t') x10 x q = elim x10 [ ]
+  kept (first_at h p v) (next_at h' p' m' t') x11 x q = elim x11 [ ]
+  kept (first_at h p v) (want _ _ _ _) x16 x q = elim x16 [ ]
+  kept (next_at h p m v) (list k' l') x9 x q = elim x9 [ ]
+  kept (next_at h p m v) (phrase _ _) x12 x q = elim x12 [ ]
+  kept (next_at h p m v) (first_at h' p' t') x11 x q = elim x11 [ ]
+  kept (next_at h p m v) (next_at h' p' m' t') x12 x q = elim x12 [ ]
+  kept (next_at h p m v) (want _ _ _ _) x17 x q = elim x17 [ ]
+  kept (node h p m) (list k' l') x10 x q = elim x10 [ ]
+  kept (node h p m) (phrase _ _) x13 x q = elim x13 [ ]
+  kept (node h p m) (first_at h' p' t') x12 x q = elim x12 [ ]
+  kept (node h p m) (node h' p' m') x13 x q = elim x13 [ ]
+  kept (node h p m) (want _ _ _ _) x18 x q = elim x18 [ ]
+  kept (want _ _ _ _) _ x13 x m = elim x13 [ ]
 
   -- only the mode changes
   pub goes_pass : {next : ℕ} {s s' : State} → Keeps t s s' → Stands text lent s e stack table → step_on level_limit s c t ≡ go s' → next ≡ mode_number (mode_of s') → GoesTo text lent (step_on level_limit s c t) end (passed e next end) stack table
@@ -229,12 +255,12 @@ module _ {text lent stack table : List ℕ} {h : Here} {colon atom : Lexeme} {e 
 -- ---- an address ends
 
 pub ended_open : {text lent stack table : List ℕ} {e : Engine} (s : State) (h : Here) (a : Address) → Stands text lent s e stack table → Ended s h a → OpenHere stack h e.depth
-ended_open (phrase h p) h' a x lone = record { depth_is = x.depth_is; holds = x.holds; deep = x.ordered.deep }
-ended_open (node h p m) h' a x boxed = record { depth_is = x.depth_is; holds = x.holds; deep = x.ordered.deep }
+ended_open s h a x lone = record { depth_is = x.depth_is; holds = x.holds; deep = x.ordered.deep }
+ended_open s h a x boxed = record { depth_is = x.depth_is; holds = x.holds; deep = x.ordered.deep }
 
 pub ended_free : {text lent stack table : List ℕ} {e : Engine} (s : State) (h : Here) (a : Address) → Stands text lent s e stack table → Ended s h a → (e.free ≡ number_here h) × (address_count a ≡ 1) × (e.free + 1 ≤ e.at)
-ended_free (phrase h p) h' a x lone = (x.free_is, refl, x.room)
-ended_free (node h p m) h' a x boxed = (x.free_is, refl, x.room)
+ended_free s h a x lone = (x.free_is, refl, x.room)
+ended_free s h a x boxed = (x.free_is, refl, x.room)
 
 lone-stored : (lent : List ℕ) (h : Here) (r : AddressRecord) (table : List ℕ) → table ≡ stored_here lent h → sets table (number_here h * address_record_size) (record_bytes r) ≡ sets (stored_here lent h) (number_here h * address_record_size) (table_bytes (r ∷ []))
 lone-stored lent h r table e = rw e (ap (sets (stored_here lent h) (number_here h * address_record_size)) (sym (append-nil (record_bytes r))))
@@ -262,6 +288,18 @@ ended-closing {text} {lent} {stack} {table} {after} {e} (node h p m) h' (mailbox
           ∙ ap (λ r. sets table (number_here h * address_record_size) (record_bytes r)) (same_record e.depth (levels_here h) (parent_here h) (ap lone_kind x.mode_is) x.depth_is x.current.0.start_is x.current.1 x.current.0.start_is x.current.0.name-is)
           ∙ lone-stored lent h _ table x.stored;
     }
+ended-closing (list _ _) h' a x x6 g = elim x6 [ ]
+ended-closing (phrase h p) h' (mailbox p' m') x x8 g = elim x8 [ ]
+ended-closing (phrase h p) h' (angle _ _ _ _) x x13 g = elim x13 [ ]
+ended-closing (phrase h p) h' (trees.group _ _ _ _) x x14 g = elim x14 [ ]
+ended-closing (phrase h p) h' (trees.typed _ _ _ _) x x15 g = elim x15 [ ]
+ended-closing (first_at _ _ _) h' a x x9 g = elim x9 [ ]
+ended-closing (next_at _ _ _ _) h' a x x11 g = elim x11 [ ]
+ended-closing (node h p m) h' (angle _ _ _ _) x x15 g = elim x15 [ ]
+ended-closing (node h p m) h' (trees.group _ _ _ _) x x16 g = elim x16 [ ]
+ended-closing (node h p m) h' (quoted t) x x13 g = elim x13 [ ]
+ended-closing (node h p m) h' (trees.typed _ _ _ _) x x18 g = elim x18 [ ]
+ended-closing (want _ _ _ _) h' a x x13 g = elim x13 [ ]
 
 -- ---- a level is closed
 

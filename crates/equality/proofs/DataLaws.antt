@@ -74,6 +74,7 @@ AllKeep [] = Unit {0}
 AllKeep (rule ∷ rules) = KeepsKind rule × AllKeep rules
 
 one_keeps : (rule : Rule Class Nonterminal) (rules : List (Rule Class Nonterminal)) → Memᴰ rule rules → AllKeep rules → KeepsKind rule
+one_keeps rule [] m k = elim m [ ]
 one_keeps rule (r ∷ rules) (here e) k = rw e k.0
 one_keeps rule (r ∷ rules) (there m) k = one_keeps rule rules m k.1
 

@@ -17,9 +17,8 @@ use Rattle.addresses.specs.Ties.Whole.{TwiceIs}
 use Rattle.addresses.proofs.AnyEdition.{clean-text, twice_outcome}
 use Rattle.addresses.proofs.WholeLaws.{Promised, promised, settles}
 use Rattle.engine.specs.Ties.Actions.{action_table}
-use borrow.Author.Rules.{rules}
-use Rattle.engine.proofs.read_addresses.Statement.{statement}
-use Rattle.engine.proofs.read_addresses.Tie as tie
+use borrow.Enum.Refused.{opened}
+use Rattle.engine.proofs.read_addresses.Goals as goal
 
 -- a body that is refused by the checks or by a fault, and one that is clean
 refused-promised : (message : List ℕ) (start end : ℕ) (table : List ℕ) {n p : ℕ} → Refused n p ≡ body_scanned message start end → Promised message start end table (Refused n p) table
@@ -31,45 +30,20 @@ twice-promised message start end table after r c x =
     let o = twice_outcome edition733 (answer level_limit) message start end c.short c.ordered c.inside c.faultless x in
     (o, settles message start end table r after o)
 
--- the body is in order and has no fault
-checked : (c : tie.At-match-keys2) → (let a = c.before.before.before.before.args in Clean a.message.now a.start a.end)
-checked c = let a = c.before.before.before.before.args in clean a.message.now a.start a.end c.before.scan-body.result c.before.scan-body.ensures.1 c.match.keys2
+pub returns-in-Refused : goal.returns-in-Refused
+returns-in-Refused c =
+    let a = c.args in
+    let all = refused-promised a.message.now a.start a.end a.table.now (rw c.in-Refused.is at c.scan_body.ensures.outcome.1) in record { outcome = all.0; condition3 = all.1 }
 
-scan-body-requires : tie.Need-scan-body-requires
-scan-body-requires c κs = search rules
+pub slice_bounds-read_twice-end : goal.slice_bounds-read_twice-end
+slice_bounds-read_twice-end c = sym (length-take-le _ c.args.message.now ((let a = c.args in clean a.message.now a.start a.end c.scan_body.result c.scan_body.ensures.outcome.1 (opened c.in_default.in_default-own.keys2))).inside)
 
-enum-known-number : tie.Need-enum-known-number
-enum-known-number c = search rules
-
-returns : tie.Need-returns
-returns c =
-    let a = c.before.before.before.before.before.before.args in
-    refused-promised a.message.now a.start a.end a.table.now (rw c.before.number.given.1 at c.before.before.before.scan-body.ensures.1)
-
-slice-aggregate-read-twice : tie.Need-slice-aggregate-read-twice
-slice-aggregate-read-twice c = sym (length-take-le _ c.before.before.before.before.before.before.before.args.message.now (checked c.before.before.before).inside)
-
-read-twice-requires : tie.Need-read-twice-requires
+pub read_twice-requires : goal.read_twice-requires
 unfolding action_table class_table class_of
-read-twice-requires c κs = (clean-text (checked c.before.before.before.before), refl)
+read_twice-requires c = (clean-text ((let a = c.args in clean a.message.now a.start a.end c.scan_body.result c.scan_body.ensures.outcome.1 (opened c.in_default.in_default-own.keys2))), refl)
 
-same_length : tie.Need-same-length
-same_length c = search rules
-
-returns-2 : tie.Need-returns-2
+pub returns : goal.returns
 unfolding class_table class_of
-returns-2 c =
-    let a = c.before.before.before.before.before.before.before.before.before.before.before.args in
-    twice-promised a.message.now a.start a.end a.table.now _ _ (checked c.before.before.before.before.before.before.before) c.before.before.read_twice.ensures
-
-pub read-addresses-spec : {M : Type 1} → statement M
-read-addresses-spec =
-    tie.close
-    (tie.spec
-    scan-body-requires
-    enum-known-number
-    returns
-    slice-aggregate-read-twice
-    read-twice-requires
-    same_length
-    returns-2)
+returns c =
+    let a = c.args in
+    let all = twice-promised a.message.now a.start a.end a.table.now _ _ ((let a = c.args in clean a.message.now a.start a.end c.scan_body.result c.scan_body.ensures.outcome.1 (opened c.in_default.in_default-own.keys2))) c.read_twice.ensures in record { outcome = all.0; condition3 = all.1 }
