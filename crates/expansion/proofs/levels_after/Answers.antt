@@ -1,6 +1,7 @@
 -- `expansion::levels_after` meets its contract. Assumes nothing.
 use Rattle.scanner.specs.declared.Class.TheVariants.{LessThan, Comma}
 use Rattle.expansion.proofs.LevelLaws.{as_class, atom-typed, atom-other, colon_typing, colon-list, closes, no-level}
+use borrow.Enum.Refused.{opened}
 use Rattle.expansion.proofs.levels_after.Goals as goal
 
 pub returns-in-Typing : goal.returns-in-Typing
