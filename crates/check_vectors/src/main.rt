@@ -4,77 +4,101 @@
 // datetime(year, month, day, hour, minute, second) - datetime(1900, 1, 1), less 60 for each minute that local time is ahead of GMT.
 #![tactic(auto)]
 
-ghost use Rattle.std.specs.Prelude.{◌≤◌, length};
+ghost use Rattle.std.specs.Prelude.{◌≡◌, ◌≤◌, length, IfOk};
 
-use libc::{STDIN_FILENO, STDOUT_FILENO};
-use octets::stored::load_byte;
+use std::io;
+use std::io::{Read, Write};
 
 // The most lines that are read.
 const LINES: usize = 65536;
 
-// The next byte of the input, or 256 at its end.
-fn read_byte() -> usize {
+// Room for a line, for the store, or for what a line gives.
+fn room() -> [u8; 65536]
+    ensures { 65536 ≡ length result }
+{
+    [0; 65536]
+}
+
+// The next byte of the input, or none at its end.
+fn read_byte<R: Read>(input: &mut R) -> io::Result<Option<u8>> {
     let mut byte = [0u8; 1];
-    if libc::read(STDIN_FILENO, &mut byte) == 1 {
-        return load_byte(&byte, 0) as usize;
+    if input.read(&mut byte)? == 1 {
+        return Ok(Some(byte[0]));
     }
-    256
+    Ok(None)
 }
 
 // A line with its LF, as far as there is room: how many bytes, and none at the end of the input.
-fn read_line(line: &mut [u8]) -> usize
-    ensures { result ≤ length line.new }
+fn read_line<R: Read>(input: &mut R, line: &mut [u8]) -> io::Result<usize>
+    ensures { IfOk result (λ n. n ≤ length line.new) }
 {
     let mut n: usize = 0;
     while n < line.len() {
-        let b = read_byte();
-        if b == 256 {
-            return 0;
-        }
-        line[n] = (b % 256) as u8;
+        let Some(b) = read_byte(input)? else {
+            return Ok(0);
+        };
+        line[n] = b;
         n += 1;
-        if b == 10 {
-            return n;
+        if b == b'\n' {
+            return Ok(n);
         }
     }
-    n
+    Ok(n)
 }
 
 // Print the first bytes of a text.
-fn print(text: &[u8], many: usize) {
+fn print<W: Write>(text: &[u8], many: usize, output: &mut W) -> io::Result<()> {
     if many <= text.len() {
-        io::write_all(STDOUT_FILENO, &text[..many]);
+        return output.write_all(&text[..many]);
     }
+    Ok(())
 }
 
 // Run a line with a store of which so many bytes are used: how many are used afterwards.
-fn run(line: &[u8], store: &mut [u8], used: usize, text: &mut [u8]) -> usize {
+fn run<W: Write>(
+    line: &[u8],
+    store: &mut [u8],
+    used: usize,
+    text: &mut [u8],
+    output: &mut W,
+) -> io::Result<usize> {
     if store.len() < used {
-        return used;
+        return Ok(used);
     }
     let many = vectors::write_answer(line, &store[..used], text);
-    print(text, many);
-    vectors::keep_lists(line, store, used)
+    print(text, many, output)?;
+    Ok(vectors::keep_lists(line, store, used))
 }
 
 // Each line of the input.
-fn run_lines(line: &mut [u8], store: &mut [u8], text: &mut [u8]) {
+fn run_lines<R: Read, W: Write>(
+    line: &mut [u8],
+    store: &mut [u8],
+    text: &mut [u8],
+    input: &mut R,
+    output: &mut W,
+) -> io::Result<()> {
     let mut used: usize = 0;
-    let mut lines: usize = 0;
-    while lines < LINES {
-        let n = read_line(line);
+    for _ in 0..LINES {
+        let n = read_line(input, line)?;
         if n == 0 {
-            return;
+            return Ok(());
         }
         let end = n - 1;
-        used = run(&line[..end], store, used, text);
-        lines += 1;
+        used = run(&line[..end], store, used, text, output)?;
     }
+    Ok(())
 }
 
-fn main() {
-    let mut line = io::large_buffer();
-    let mut store = io::large_buffer();
-    let mut text = io::large_buffer();
-    run_lines(&mut line, &mut store, &mut text);
+fn main(rt: HostRuntime) -> io::Result<()> {
+    let mut line = room();
+    let mut store = room();
+    let mut text = room();
+    run_lines(
+        &mut line,
+        &mut store,
+        &mut text,
+        &mut rt.stdin(),
+        &mut rt.stdout(),
+    )
 }

@@ -554,7 +554,7 @@ enum Walked {
 }
 
 // Walk the list of a record in place of an Include.
-#[cycle(walk_walk_record)]
+#[cycle(walking)]
 fn walk_record(
     classes: &[u8; 256],
     store: &[u8],
@@ -587,7 +587,7 @@ fn walk_record(
 }
 
 // Walk a text from a position on: its symbols are written, and the lists of its Includes walked in their places.
-#[cycle(walk_walk_record)]
+#[cycle(walking)]
 fn walk(
     classes: &[u8; 256],
     store: &[u8],

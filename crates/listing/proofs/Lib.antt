@@ -5,4 +5,5 @@ pub mod LineLaws
 pub mod TableLaws
 pub mod BodyLaws
 pub mod WholeLaws
+pub mod WindowLaws
 pub mod Examples

@@ -27,6 +27,7 @@ use records::address::ADDRESS_RECORD_SIZE;
 use records::field::FIELD_RECORD_SIZE;
 
 pub mod printing;
+pub mod reading;
 
 // The bytes of a table of field records, and of one of address records.
 const FIELD_TABLE_SIZE: usize = TABLE_RECORDS * FIELD_RECORD_SIZE;

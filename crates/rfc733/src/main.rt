@@ -3,7 +3,9 @@
 
 ghost use Rattle.std.specs.Prelude.{◌≡◌, length};
 
-use libc::{STDERR_FILENO, STDIN_FILENO};
+use listing::printing::print_listing;
+use listing::reading::read_message;
+use std::io;
 
 // Room for one byte more than a message may have.
 fn message_room() -> [u8; 32769]
@@ -12,18 +14,12 @@ fn message_room() -> [u8; 32769]
     [0; 32769]
 }
 
-// Whether standard input can be read, which is tried with no byte.
-fn readable(space: &mut [u8]) -> bool {
-    libc::read(STDIN_FILENO, &mut space[..0]) >= 0
-}
-
 // Print the listing of the message on standard input; or, on standard error, that it cannot be read.
-fn main() {
+fn main(rt: HostRuntime) -> io::Result<()> {
     let mut space = message_room();
-    if !readable(&mut space) {
-        io::write_all(STDERR_FILENO, b"rfc733: standard input cannot be read\n");
-        return;
-    }
-    let n = io::read_full(STDIN_FILENO, &mut space);
-    listing::printing::print_listing(&space[..n], 733);
+    let Ok(n) = read_message(&mut rt.stdin(), &mut space) else {
+        return eprintln!(rt; "rfc733: standard input cannot be read");
+    };
+    let (_, printed) = print_listing(&space[..n], 733, &mut rt.stdout());
+    printed
 }

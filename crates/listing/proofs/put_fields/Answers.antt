@@ -1,0 +1,39 @@
+use mathlib.Core.Path.{refl, ◌∙◌}
+use Prim.Native.Nat.{◌-◌}
+use native.Mathlib.Omega.{arith}
+use Rattle.octets.proofs.Writes.{left-all, left_as, left_after, left-none}
+use Rattle.records.specs.Believed.FieldRecords.{field_in}
+use Rattle.listing.specs.Believed.Listing.{field_text}
+use Rattle.listing.proofs.TableLaws.{each_all, each_next, each_none}
+use Rattle.listing.proofs.put_fields.Goals as goal
+
+pub loop-i-init : goal.loop-i-init
+loop-i-init c =
+    let a = c.args in
+    (omega arith, omega arith, refl, left_as (left-all _ _ _) (λ rest. each_all (field_text a.edition a.message.now) (field_in a.fields.now) a.many 0 rest))
+
+pub put_field-m-requires : goal.put_field-m-requires
+put_field-m-requires c =
+    let l = c.loop-i in
+    let p = c.requires in
+    (p.1 l.i (omega arith), omega (arith, l.invariant.0, l.invariant.1))
+
+pub loop-i-preserved : goal.loop-i-preserved
+loop-i-preserved c =
+    let a = c.args in
+    let l = c.loop-i in
+    (
+      omega arith,
+      omega (arith, l.invariant.1, c.put_field-m.ensures.1),
+      c.put_field-m.auto.out ∙ l.invariant.2,
+      left_after l.invariant.3 (λ rest. each_next (field_text a.edition a.message.now) (field_in a.fields.now) a.many l.i rest (omega arith)) c.put_field-m.ensures.0,
+    )
+
+pub shape_of-out : goal.shape_of-out
+shape_of-out c = c.loop-i.invariant.2
+
+pub returns : goal.returns
+returns c =
+    let a = c.args in
+    let l = c.loop-i in
+    left-none l.invariant.3 (λ rest. each_none (field_text a.edition a.message.now) (field_in a.fields.now) a.many l.i rest (omega arith))

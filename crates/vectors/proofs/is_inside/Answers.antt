@@ -1,0 +1,8 @@
+-- `vectors::is_inside` meets its contract. Assumes nothing.
+use Rattle.vectors.proofs.is_inside.Goals as goal
+
+pub returns-then-inside : goal.returns-then-inside
+returns-then-inside c = rw c.if-inside.true
+
+pub returns : goal.returns
+returns c = rw c.if-inside.false
