@@ -22,20 +22,23 @@ ABOVE = """\
 UNREAD = re.compile(r"""//[^\n]*|/\*.*?\*/|b?r(#*)".*?"\1|b?"(?:\\.|[^"\\])*"|b?'(?:\\[^\n']*.|[^'\\\n])'""", re.DOTALL)
 HEAD = re.compile(r"(?:\b(pub(?:\([^)]*\))?)\s+)?(?:(?:const|unsafe|(extern))\s+)*\bfn\s+(\w+)")
 BLOCK = re.compile(r"\bimpl\b[^{;]*?(\w+)\s*(?:<[^>{]*>\s*)?\{")
-CLAUSE = re.compile(r"\b(ghost|requires|ensures)\b\s*(\w*)\s*$")
+CLAUSE = re.compile(r"\b(ghost|requires|ensures)\b(\*?)\s*(\w*)\s*$")
 # an import; its module and names; the crate, folder and file of a module
 IMPORT = re.compile(r"\bghost use\s+([^;]*);")
 NAMES = re.compile(r"(\S+)\.\{([^}]*)\}\s*")
-MODULE = re.compile(r"Rattle·(\w+?)(?:·specs)?\.(?:specs|(proofs))\.(\S+)")
+MODULE = re.compile(r"Rattle\.(\w+)\.(?:specs|(proofs))\.(\S+)")
 # a word of a clause; what a λ binds; what is not read in a clause: comments, texts and definitions by their whole paths
 WORD = re.compile(r"[()\[\]{}⌜⌝⟦⟧,;]|[^\s()\[\]{}⌜⌝⟦⟧,;]+")
 BINDER = re.compile(r"λ([^.]*)\.")
-BEYOND = re.compile(r"--|//|/\*|\"|·")
-OPENING, CLOSING, BETWEEN = "([{⌜⟦", ")]}⌝⟧", ("×", "→", "⊎", ",", ";")
+BEYOND = re.compile(r"--|//|/\*|\"|Rattle\.")
+# the result or one of its fields; something at exit
+GIVEN = re.compile(r"result(\.\w+)*|\w+\.new(\.\w+)*")
+OPENING, CLOSING, BETWEEN = "([{⌜⟦", ")]}⌝⟧", ("×", "→", "⊎", "∗", ",", ";")
 
 Clause = collections.namedtuple("Clause", "label text cited start end")
 Function = collections.namedtuple("Function", "full place public listed clauses lines body imports")
 root = pathlib.Path(__file__).resolve().parent.parent
+crates = {path.name for path in (root / "crates").iterdir()}
 
 
 def behind(code, at):
@@ -49,14 +52,17 @@ def behind(code, at):
 
 
 def imported(path, code):
-    """The definitions that a source imports from crates, by the word for each; the word of an operator is without its `_`."""
+    """The definitions that a source imports from the crates here, by the word for each; the word of an operator is without its `◌`."""
     found = {}
     for text in IMPORT.findall(code):
         names = NAMES.fullmatch(text) or sys.exit(f"{path}: an import in a form not read here: {text}")
-        if module := MODULE.fullmatch(names[1]):
+        module = MODULE.fullmatch(names[1])
+        if module and module[1] in crates:
             for name, _, renamed in (item.strip().partition(" as ") for item in names[2].split(",")):
                 full = ".".join(filter(None, (*module.groups(), name)))
-                found.update((word, full) for word in (renamed or name).split("_") if word)
+                found.update((word, full) for word in (renamed or name).split("◌") if word)
+        elif names[1].split(".")[0] == "Rattle" and names[1].split(".")[1] in crates:
+            sys.exit(f"{path}: a module in a form not read here: {names[1]}")
     return found
 
 
@@ -77,9 +83,10 @@ def read(path, source):
         clauses, apart, at = [], "", head.start()
         for clause, end in opened:
             text = source[clause.end() + 1 : end - 1].strip()
-            hidden = re.findall(r"(\w+)\s*:", signature) + WORD.findall(" ".join(BINDER.findall(text)))
+            hidden = ["result"] + re.findall(r"(\w+)\s*:", signature) + WORD.findall(" ".join(BINDER.findall(text)))
             cited = dict.fromkeys(imports[word] for word in WORD.findall(text) if word in imports and word not in hidden)
-            clauses.append(Clause(f"{clause[1]}:{clause[2] or 'unnamed'}", text, list(cited), clause.start(), end))
+            label = f"{clause[1]}{clause[2]}:{clause[3] or 'unnamed'}"
+            clauses.append(Clause(label, text, list(cited), clause.start(), end))
             apart, at = apart + code[at : clause.start()].rstrip(), end
         yield Function(
             full="::".join(module + [name for name, start, end in blocks if start < head.start() < end] + [head[3]]),
@@ -124,13 +131,12 @@ def equations(part):
 
 def empty(clause):
     """What shows that an `ensures` says nothing, where something does."""
-    binder = BINDER.match(clause.text) or re.match("", clause.text)
-    result, words = WORD.findall(binder[0][1:-1]), WORD.findall(clause.text[binder.end() :])
-    if "_≡_" in words:
+    words = WORD.findall(clause.text)
+    if "◌≡◌" in words:
         return "an equation in a form not read here"
     if any(left == right for left, right in equations(tree(words))):
         return "an equation has the same on both sides"
-    if not {".exit", *result}.intersection(words) - set("_(:)"):
+    if not any(GIVEN.fullmatch(word) for word in words):
         return "it speaks neither of the result nor of anything at exit"
 
 
@@ -146,7 +152,7 @@ def by_label(rows):
 
 def alone(function):
     """What is wrong with a function by itself."""
-    kinds = [clause.label.split(":")[0] for clause in function.clauses]
+    kinds = [re.match(r"\w+", clause.label)[0] for clause in function.clauses]
     if function.lines > LIMIT:
         yield f"longer than {LIMIT} lines: {function.lines}"
     if function.listed and "ensures" not in kinds:
@@ -187,7 +193,7 @@ def changes(function, source):
     before, after = source[: function.body], source[function.body :]
     yield before + "{" + "\n" * LIMIT + after[1:], "longer than"
     if function.public:
-        yield before + "requires { ⌜ 0 ≤ 1 ⌝ }\n" + after, "a public function with a `requires`"
+        yield before + "requires { 0 ≤ 1 }\n" + after, "a public function with a `requires`"
     labels = [clause.label for clause in function.clauses]
     for clause in function.clauses if function.listed else []:
         before, text, after = source[: clause.start], source[clause.start : clause.end], source[clause.end :]
@@ -195,9 +201,12 @@ def changes(function, source):
         before, text = before + text[: text.index("{")], text[text.index("{") :]
         if clause.label.startswith("ensures"):
             nothing = f"`{clause.label}` says nothing: "
-            yield before + "{ λ r. ⌜ r ≡ r ⌝ }" + after, nothing + "an equation has the same"
-            yield before + "{ λ r. ⌜ (0 ≤ r) × ((r) ≡ r) ⌝ }" + after, nothing + "an equation has the same"
-            yield before + "{ λ r. ⌜ 0 ≤ 1 ⌝ }" + after, nothing + "it speaks neither"
+            yield before + "{ result ≡ result }" + after, nothing + "an equation has the same"
+            yield before + "{ (0 ≤ result) × ((result) ≡ result) }" + after, nothing + "an equation has the same"
+            yield before + "{ ◌≡◌ result 0 }" + after, nothing + "an equation in a form"
+            yield before + "{ 0 ≤ 1 }" + after, nothing + "it speaks neither"
+            yield before + "{ table.old ≡ table.now }" + after, nothing + "it speaks neither"
+            yield before + "{ result ≡ Rattle.octets.specs.Believed.Text.bytes }" + after, f"`{clause.label}` has Rattle."
             yield before + text[:-1] + "-- }\n ⊎ (0 ≤ 1) }" + after, f"`{clause.label}` has --"
         for word in [word for word in WORD.findall(text) if function.imports.get(word) in clause.cited][:1]:
             other = next((other for other, full in function.imports.items() if full not in clause.cited), "length")

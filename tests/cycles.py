@@ -7,9 +7,12 @@ import re
 import sys
 
 FIRST, SECOND = "addresses", "engine"
-# comments, texts, bytes and ghost imports; a contract clause up to its brace; a call, of a method if a dot is before it
+# comments, texts, bytes and ghost imports; a contract clause up to its brace; an import and what it names; a call, of a method if
+# a dot is before it
 UNREAD = re.compile(r"""//[^\n]*|b?"(?:\\.|[^"\\])*"|b?'(?:\\.|[^'\\])'|\bghost use [^;]*;""", re.DOTALL)
 CLAUSE = re.compile(r"\b(?:requires|ensures)\b[^{]*\{")
+IMPORT = re.compile(r"\buse\s+([^;]*);")
+NAMES = re.compile(r"((?:\w+::)*)(?:(\w+(?:\s+as\s+\w+)?)|\{([^{}*]*)\})")
 CALL = re.compile(r"(\.)?\b((?:\w+::)*)([a-z_]\w*)\s*\(")
 KEYWORDS = {"if", "else", "match", "while", "for", "in", "return", "let", "as"}
 
@@ -27,6 +30,21 @@ def behind(code, at):
     sys.exit(f"a brace is not closed: {code[at:at + 60]!r}")
 
 
+def imported(module, code):
+    """What each imported word stands for."""
+    found = {}
+    for text in IMPORT.findall(code):
+        names = NAMES.fullmatch(text.strip())
+        if not names:
+            faults.append(f"{module}: an import in a form not read here: {text}")
+            continue
+        for item in filter(None, (item.strip() for item in (names[2] or names[3]).split(","))):
+            name, _, renamed = (word.strip() for word in re.sub(r"\s+as\s+", " as ", item).partition(" as "))
+            full = names[1].removesuffix("::") if name == "self" else names[1] + name
+            found[renamed or full.split("::")[-1]] = full
+    return found
+
+
 def read(path):
     """Takes in the functions of a source."""
     crate, _, *inner = path.relative_to(root / "crates").with_suffix("").parts
@@ -34,8 +52,7 @@ def read(path):
     code = UNREAD.sub(" ", path.read_text())
     while clause := CLAUSE.search(code):
         code = code[: clause.start()] + code[behind(code, clause.end() - 1) :]
-    imports = {name.split("::")[-1]: name for name in re.findall(r"\buse ([^;]*);", code)}
-    faults.extend(f"{module}: an import in a form not read here: {name}" for name in imports.values() if re.search(r"[^\w:]", name))
+    imports = imported(module, code)
     for head in re.finditer(r"\bfn (\w+)(?:<[^>]*>)?\(([^,)]*\bself\b)?", code):
         opened = code.index("{", head.end())
         full = f"{module}::{head[1]}"

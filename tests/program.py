@@ -18,7 +18,12 @@ faults, seen = [], 0
 
 
 def program(edition):
-    return root / f"target/bin/rfc{edition}"
+    return root / f"crates/rfc{edition}/out/rfc{edition}"
+
+
+for edition in (733, 822):
+    if not program(edition).exists():
+        sys.exit(f"no {program(edition)}: run 'rt ci' first, or 'rt run' in its crate's folder")
 
 
 def run(message, edition=733):

@@ -1,9 +1,10 @@
 #!/usr/bin/env python3
 """Definitions rest on definitions alone, told from the files of specs/. Each stands in one of three folders: Believed, what a
 reader must believe; Executable, what can be computed of a grammar, with a proposition beside it; Ties, between code and
-definitions. A tie may import what it likes. Every other file names no module of proofs/ and no tie; and what says in its head
-that it is apart from any reader reaches nothing of Executable, through whatever it imports.
-Types that are made from the code's enums and structs (`specs.declared`) may be named by all, and no file names a source.
+definitions. A tie may import what it likes. Every other file names no module of a crate's proofs/ and no tie; and what says in
+its head that it is apart from any reader reaches nothing of Executable, through whatever it imports.
+Types that are made from the code's enums and structs (`specs.declared`) may be named by all, as may the library's own modules
+(`Rattle.std`), and no file names a source.
 Every rule is also tried on files changed in memory: it must find each change."""
 import pathlib
 import re
@@ -11,8 +12,9 @@ import sys
 
 BELIEVED, LAYER, TIES, APART = "Believed", "Executable", "Ties", "apart from any reader"
 HEAD = re.compile(r"(?:--.*\n)*")
-NAMED = re.compile(r"Rattle·[^\s(){}]+")
-MODULE = re.compile(r"Rattle·(\w+)(?:·\w+)?\.(specs|proofs)\.(.+)")
+NAMED = re.compile(r"Rattle[.·][^\s(){},;]+")
+MODULE = re.compile(r"Rattle\.(\w+)\.(specs|proofs)\.(.+)")
+LIBRARY = re.compile(r"Rattle\.std\..+")
 SOURCE = re.compile(r"\S*(?:\.rt\b|\bsrc/)\S*")
 
 root = pathlib.Path(__file__).resolve().parent.parent
@@ -29,6 +31,11 @@ def folder(path):
     return pathlib.PurePath(path).with_suffix("").parts[3]
 
 
+def named(text):
+    """The modules of crates that a text names."""
+    return [name for name in (name.rstrip(".") for name in NAMED.findall(text)) if not LIBRARY.fullmatch(name)]
+
+
 def file_of(crate, inner, files):
     """The file of a module that is named with or without something in it."""
     parts = inner.split(".")
@@ -38,7 +45,7 @@ def file_of(crate, inner, files):
 
 def reached(files, path, way):
     """The files of definitions that are reached from one, added to those on the way."""
-    for module in filter(None, (MODULE.fullmatch(name.rstrip(".")) for name in NAMED.findall(files[path]))):
+    for module in filter(None, (MODULE.fullmatch(name) for name in named(files[path]))):
         taken = module[2] == "specs" and file_of(module[1], module[3], files)
         if taken and taken not in way:
             way.add(taken)
@@ -58,8 +65,8 @@ def faults(files, path):
         here = f"{path}:{number}"
         for source in SOURCE.findall(line):
             yield f"{here}: a source is named: {source}"
-        for name in [] if folder(path) == TIES else NAMED.findall(line):
-            module = MODULE.fullmatch(name.rstrip("."))
+        for name in [] if folder(path) == TIES else named(line):
+            module = MODULE.fullmatch(name)
             if not module:
                 yield f"{here}: a module in a form not read here: {name}"
             elif module[2] == "proofs":
@@ -76,12 +83,14 @@ wrong = [fault for path in files for fault in faults(files, path)]
 within = {kind: [path for path in files if folder(path) == kind and path.count("/") > 3] for kind in (BELIEVED, LAYER, TIES)}
 crate, _, *inner = pathlib.Path(within[TIES][0]).with_suffix("").parts[1:]
 trials = {
-    "definitions take from proofs/": "use Rattle·octets.proofs.Any.{x}",
-    "definitions take from a tie": f"use Rattle·{crate}.specs.{'.'.join(inner)}.{{x}}",
+    "definitions take from proofs/": "use Rattle.octets.proofs.Any.{x}",
+    "definitions take from a tie": f"use Rattle.{crate}.specs.{'.'.join(inner)}.{{x}}",
     "a source is named": "-- src/lib.rt",
+    "a module in a form not read here": "use Rattle·octets.proofs.Any.{x}",
+    "no file is found": "use Rattle.nowhere.specs.Any.{x}",
 }
 crate, _, *inner = pathlib.Path(within[LAYER][0]).with_suffix("").parts[1:]
-reader = {"apart from any reader, and reaches": f"use Rattle·{crate}.specs.{'.'.join(inner)}.{{x}}"}
+reader = {"apart from any reader, and reaches": f"use Rattle.{crate}.specs.{'.'.join(inner)}.{{x}}"}
 for path in [path for path in files if folder(path) != TIES]:
     for words, line in {**trials, **(reader if says(files[path], APART) else {})}.items():
         found = set(faults({**files, path: f"{files[path]}\n{line}\n"}, path)) - set(wrong)

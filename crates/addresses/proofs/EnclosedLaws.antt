@@ -23,7 +23,7 @@ use Rattle.grammar.specs.Executable.Machine733.{Here, in_typed, in_angle, in_gro
 use Rattle.grammar.proofs.Rfc733.Complete.{begin, done_address, done_list, Clear, complete_done_list, run-angle, run-group}
 use Rattle.grammar.proofs.Rfc733.Readers.{ListEnds, ends_address, ends_list, deep-angle, deep-group, closed-unfit, clear_colon, run_typed}
 use Rattle.grammar.proofs.Rfc733.TreeRecords.{name_start, name_end, address_end, address_records, list_records}
-use Rattle.addresses.specs.Ties.Steps.{ends_address_next, closes_next, refused_next, opening, closing, enclosure_kind, level_in, enclosed, House, symbols_from, lexeme_at, symbol_at, symbols_on, symbols_ahead, Standing, AddressRead, AddressStops, AddressIs, Opening, Opened, ListRead, ListStops, inner, TypedFirst}
+use Rattle.addresses.specs.Ties.Steps.{ends_address_next, closes_next, refused_next, opening, closing, enclosure_kind, level_in, enclosed, House, symbols_from, lexeme_at, symbols_on, symbols_ahead, Standing, AddressRead, AddressStops, AddressIs, Opening, Opened, ListRead, ListStops, inner, TypedFirst}
 use Rattle.addresses.specs.declared.Frame.{Frame}
 use Rattle.records.specs.declared.Span.{Span}
 use Rattle.addresses.specs.declared.Enclosure.{Enclosure}
@@ -242,7 +242,7 @@ module _ (classes text : List ℕ) where
           number_is = refl;
           place_is = refl;
           stops = λ h c. subst (λ (m : ℕ). judge (run (levels_here h + m) (begin h) (symbols_on classes text Colon start end apart)) ≡ refused too_deep (symbols_on classes text Colon start end apart)) (sym z)
-          (deep-enclosed Group h none first-colon (symbols_on classes text Colon start end apart) (symbols_from classes text end) refl c);
+              (deep-enclosed Group h none first-colon (symbols_on classes text Colon start end apart) (symbols_from classes text end) refl c);
         }
 
     module _ (n : frame.levels ≡ 0 → ⊥) where

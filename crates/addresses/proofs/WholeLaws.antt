@@ -18,7 +18,6 @@ use Rattle.scanner.proofs.BodyChecks.{Ordered, refused-body, clean-body, body_ca
 use Rattle.scanner.specs.declared.Next.{Next}
 use Rattle.scanner.specs.Believed.Answers.{found_at}
 use Rattle.grammar.specs.Believed.Language.{unfit, accepted, refused}
-use Rattle.grammar.specs.Believed.Records.{count}
 use Rattle.grammar.specs.Executable.Machine733.{as_forests, answer, top, list, run, judge}
 use Rattle.grammar.proofs.Rfc733.Condition3.{decides}
 use Rattle.grammar.specs.Executable.Trees733.{as_forest, Class, Lexeme, Sym, of, AddressList, idle, empty}

@@ -12,10 +12,9 @@ use Rattle.octets.specs.Believed.Stored.{room_for}
 use Rattle.octets.specs.declared.answers.Answer.{Answer}
 use Rattle.octets.specs.Believed.Answers.{number_of}
 use Rattle.records.specs.Believed.AddressRecords.{address_record_size}
-use Rattle.scanner.specs.Believed.Scanning.{Scanned, ended, next, fault_at, outside, scan_by}
+use Rattle.scanner.specs.Believed.Scanning.{Scanned, ended, next, fault_at, scan_by}
 use Rattle.scanner.specs.Believed.Symbols.{Symbol}
 use Rattle.scanner.specs.Believed.Answers.{unless_fault}
-use Rattle.scanner.specs.Believed.Characters.{characters_at}
 use Rattle.scanner.specs.declared.Class.{Class}
 use Rattle.scanner.proofs.FaultNumbers.{is_fault, Numbered, numbered_scan}
 use Rattle.grammar.specs.Believed.Grammar.{Forest}

@@ -9,7 +9,7 @@ use Rattle.octets.specs.Believed.Numbers.{message_limit, level_limit, no_list_go
 use Rattle.grammar.specs.Believed.Language.{unfit}
 use Rattle.grammar.specs.Executable.Machines.{go}
 use Rattle.grammar.specs.Executable.Trees733.{Class, Lexeme, Phrase, AddressList, Address}
-use Rattle.grammar.specs.Executable.Machine733.{Here, Level, top, in_angle, in_group, State, list, phrase, want, close, enter, levels_at, step_on, finish, whole, start}
+use Rattle.grammar.specs.Executable.Machine733.{Here, Level, top, in_angle, in_group, State, list, phrase, want, close, enter, levels_at, step_on, finish, whole}
 use Rattle.grammar.proofs.Rfc733.TreeRecords.{list_count}
 use Rattle.engine.specs.Ties.Actions.{mode_number, mode_room, Act, refuses, begins, adds, passes, opens, opens_named, turns_typed, ends_at_comma, closes, ends_and_closes, finishes, ends_and_finishes, act_number, Action, entry, row_of, action_of}
 use Rattle.engine.specs.Ties.Stands.{mode_of, parent_at, stored_list, Stands}

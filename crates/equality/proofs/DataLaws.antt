@@ -20,7 +20,7 @@ use Rattle.grammar.specs.Believed.Language.{Verdict, accepted, refused, Refusal,
 use Rattle.grammar.specs.Believed.Records.{last_end, meaning_of, name_of, count, record_of, records_from, records}
 use Rattle.grammar.specs.Believed.Rfc733.{Nonterminal, list, slot, address, phrase, at_nodes, node, word, rules_of, kind_number, typed_kind, rfc733, Derivation}
 use Rattle.grammar.specs.Executable.Machine733.{answer}
-use Rattle.grammar.specs.Executable.Trees733.{Class, Atom, Quoted, Colon, Sym}
+use Rattle.grammar.specs.Executable.Trees733.{Class, Atom, Colon, Sym}
 use Rattle.grammar.proofs.Rfc733.Condition3.{answer_accepts, answer_derives}
 use Rattle.addresses.specs.Believed.Outcome.{Outcome, refusal, decided, outcome}
 use Rattle.equality.proofs.Pairs.{Pairwise, no_symbol, one_symbol, KeepsClass}

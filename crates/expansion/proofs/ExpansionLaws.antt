@@ -22,7 +22,7 @@ use Rattle.grammar.specs.Executable.Trees733.{Colon, Comma, LessThan, GreaterTha
 use Rattle.grammar.proofs.Rfc733.Trees.{nodes_then, slot_then, list_then, address_then, slot_levels, list_levels, address_levels}
 use Rattle.grammar.specs.Executable.Trees733 as trees
 use Rattle.grammar.proofs.Rfc733.Derivations.{forest_levels, tree-derived}
-use Rattle.plain.specs.Believed.Meaning.{atom, no_word, and_word, Addresses, no_address, and_address, Address, address, meaning}
+use Rattle.plain.specs.Believed.Meaning.{atom, no_word, and_word, Addresses, no_address, and_address, Address, address}
 use Rattle.plain.specs.Believed.PlainText.{addresses_text}
 use Rattle.plain.specs.Believed.RoundTrip.{AcceptedBody}
 use Rattle.plain.proofs.TreeMeanings.{phrase_meaning, name_meaning, nodes_meaning, address_meaning, typed_meaning, addresses_depth, address_depth, typed-depth}

@@ -12,7 +12,7 @@ use Rattle.grammar.specs.Believed.Rfc733.{Derivation, kind_number, typed_kind}
 use Rattle.grammar.specs.Believed.Rfc733 as rfc733
 use Rattle.grammar.specs.Executable.Trees733.{node_piece, At, put, Atom, Colon, Comma, LessThan, GreaterThan, Semicolon, of, atom_word, quoted_word, Phrase, one, more, Nodes, first, next, Slot, empty, comma, AddressList, idle, full, mailbox, angle, group, quoted, typed, word_piece, phrase_piece, nodes_piece, slot_piece, list_piece, address_piece, as_forest}
 use Rattle.grammar.specs.Executable.Trees733 as trees
-use Rattle.plain.specs.Believed.Meaning.{atom, no_word, and_word, Addresses, no_address, and_address, Address, address, words_of, nodes_of, addresses_after}
+use Rattle.plain.specs.Believed.Meaning.{atom, no_word, and_word, Addresses, no_address, and_address, address, words_of, nodes_of, addresses_after}
 use Rattle.plain.proofs.TreeMeanings.{phrase_meaning, name_meaning, nodes_meaning, address_meaning, of-typed, name-words, node-words, after-address}
 use Rattle.expansion.specs.Believed.Expansion.{Expansion, stopped, reached, and_then, Opening, other_type, expand_include, expand_forest}
 

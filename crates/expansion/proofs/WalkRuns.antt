@@ -23,7 +23,7 @@ use Rattle.plain.specs.Ties.Writing.{is_colon}
 use Rattle.plain.specs.declared.places.Place.{Place}
 use Rattle.plain.proofs.WalkSteps.{colon-of, NoneComes, behind, behind_falls}
 use Rattle.expansion.specs.Believed.Store.{list_in}
-use Rattle.expansion.specs.Ties.Walk.{Sym, Trail, halted, wrote, before, include_here, after_one, in_typed, levels_after, inner_after, WalkOpening, writing, skipping, sought, include_trail, walk, walk_within}
+use Rattle.expansion.specs.Ties.Walk.{Sym, Trail, halted, before, include_here, after_one, in_typed, levels_after, inner_after, WalkOpening, writing, skipping, sought, include_trail, walk, walk_within}
 use Rattle.addresses.specs.Ties.Steps.{symbols_from}
 use Rattle.expansion.specs.Ties.Steps.{LevelsAre, LevelsAfter, skip_to, IncludeBegins, OpenedIs, place_of, levels_around, joined_stage, WriteOnIs, Continuation, walk_symbols, RecordOpens, VerdictIs, Onward, symbol_share, text_share, Goes, Halts, RecordWalked, TextWalked}
 use Rattle.expansion.specs.declared.Around.{Around}

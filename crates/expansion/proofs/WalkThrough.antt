@@ -19,7 +19,7 @@ use Rattle.grammar.proofs.Rfc733.Readers.{ends_address, AddressEnds}
 use Rattle.grammar.specs.Executable.Trees733 as trees
 use Rattle.grammar.proofs.Rfc733.HouseRule.{one_atom, slot_atom_group, list_atom_group, atom_colon_list, one_atom_false, one_atom_true}
 use Rattle.grammar.proofs.Rfc733.HouseRule as house
-use Rattle.plain.specs.Believed.Meaning.{atom, no_word, and_word, Addresses, no_address, and_address, Address, address, meaning}
+use Rattle.plain.specs.Believed.Meaning.{atom, no_word, and_word, Addresses, no_address, and_address, Address, address}
 use Rattle.plain.specs.Believed.PlainText.{word_text, phrase_text, nodes_text, atom_group, addresses_text, address_text}
 use Rattle.plain.specs.Ties.Walking.{gap_text, gap_before, after_atom, after_comma, after, colon_next, symbol_text}
 use Rattle.plain.specs.declared.places.Place.{Place}

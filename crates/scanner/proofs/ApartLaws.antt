@@ -1,16 +1,15 @@
 -- A symbol that stands apart has white space or a comment right before it, and each symbol is the first from the end of the one before it. Assumes nothing.
-use mathlib.Core.Path.{◌≡◌, refl, sym, ap, ◌∙◌}
-use mathlib.Core.Bool.{Bool, true, false, true≢false}
+use mathlib.Core.Path.{◌≡◌, refl, sym, ◌∙◌}
+use mathlib.Core.Bool.{Bool, true, false}
 use mathlib.Core.List.{List, [], ◌∷◌}
-use Prim.Native.Nat.{ℕ, ◌+◌, ◌-◌, ◌≤◌, ◌<◌}
+use Prim.Native.Nat.{ℕ, ◌-◌, ◌≤◌, ◌<◌}
 use native.Mathlib.Omega.{arith}
 use borrow.Author.Tests.{ltb-true, ltb-false}
 use lib.Dec.{ltb}
-use lib.ListN.{length}
-use Rattle.scanner.specs.Believed.Symbols.{Symbol, Lexeme}
+use Rattle.scanner.specs.Believed.Symbols.{Symbol}
 use Rattle.scanner.specs.Believed.Kinds.{character_kind}
 use Rattle.scanner.specs.Believed.Characters.{Character, character, characters_at}
-use Rattle.scanner.specs.Believed.Scanning.{Scanned, ended, next, fault_at, State, outside, in_atom, in_quoted, taking_in_quoted, in_literal, taking_in_literal, in_comment, taking_in_comment, Move, go, halt, move, symbol, apart_from, scan_by}
+use Rattle.scanner.specs.Believed.Scanning.{Scanned, next, State, outside, in_atom, in_quoted, taking_in_quoted, in_literal, taking_in_literal, in_comment, taking_in_comment, Move, go, halt, move, symbol, apart_from, scan_by}
 use Rattle.scanner.specs.Believed.Categories.{taken_outside, taken_in, behind, between, Told}
 use Rattle.scanner.specs.Believed.Apart.{WhiteOrComment, ApartIs, EachFromTheEndBefore}
 use Rattle.scanner.specs.Ties.Meanings.{meaning_at}
@@ -18,7 +17,6 @@ use Rattle.scanner.specs.declared.Class.{Class}
 use Rattle.scanner.specs.declared.ByteKind.{ByteKind}
 use Rattle.scanner.specs.declared.ByteKind.TheVariants.{White, Control, Return, Plain, Open, Close, Quote, Backslash, Mark, Above, OpenBracket, CloseBracket}
 use Rattle.scanner.specs.declared.Category.{Category}
-use Rattle.scanner.specs.declared.Category.TheVariants as category
 use Rattle.scanner.proofs.Unfolding.{SymbolAt, Unfolded, no_symbol, a_symbol, a_fault, unfolded}
 use Rattle.scanner.proofs.EveryCategory.{between_told}
 

@@ -1,8 +1,7 @@
 -- What it changes to be told which symbols stand apart: no fault, and of a symbol nothing else. Assumes nothing.
-use mathlib.Core.Path.{◌≡◌, refl, ap}
+use mathlib.Core.Path.{◌≡◌, refl}
 use mathlib.Core.List.{List}
 use Prim.Native.Nat.{ℕ}
-use lib.Dec.{ltb}
 use Rattle.octets.specs.declared.answers.Answer.TheVariants.{Accepted, Refused}
 use Rattle.scanner.specs.Believed.Scanning.{Scanned, ended, next, fault_at, parted}
 use Rattle.scanner.specs.Believed.Answers.{next_of, unless_fault, fault_of}

@@ -40,7 +40,7 @@ use Rattle.touch.specs.Believed.Touched.{decided, touched}
 use Rattle.touch.specs.Believed.ByGrammar.{NamedThere, ByGrammar}
 use Rattle.touch.specs.Ties.Climbing.{Holds, HeldList, ClimbIs, LastAroundIs}
 use Rattle.touch.specs.declared.Touched.{Touched}
-use Rattle.touch.specs.declared.Touched.TheVariants.{Byte, Expected, Refused, NoRoom}
+use Rattle.touch.specs.declared.Touched.TheVariants.{Byte, Expected, NoRoom}
 use Rattle.touch.proofs.Nesting.{nested, nested_height}
 use Rattle.touch.proofs.AroundLaws.{around_climbs, around-few}
 

@@ -2,7 +2,7 @@
 use mathlib.Core.Path.{◌≡◌, refl, ap, ◌∙◌}
 use mathlib.Core.Bool.{true, false}
 use mathlib.Core.List.{List, [], ◌∷◌, ◌++◌}
-use Prim.Native.Nat.{ℕ, zero, suc, ◌+◌, ◌*◌, ◌-◌, ◌%◌, ◌≤◌, ◌<◌}
+use Prim.Native.Nat.{ℕ, zero, suc, ◌+◌, ◌-◌, ◌%◌, ◌≤◌, ◌<◌}
 use native.Mathlib.Omega.{arith}
 use borrow.Author.Tests.{eq-eqb, ne_eqb, le-leb, lt-leb}
 use lib.Dec.{eqb}
@@ -16,7 +16,6 @@ use Rattle.vectors.proofs.PutLaws.{puts_as, puts_both}
 use lib.ListN.{length, get_or, take, drop, replicate, drop_of_length-le}
 use Rattle.octets.proofs.Parts.{from-here}
 use Rattle.octets.specs.Believed.Octets.{line_feed_byte, space_byte}
-use Rattle.octets.specs.Believed.Stored.{number_at}
 use Rattle.records.specs.Believed.AddressRecords.{record_by, address_record_size, record_in}
 use Rattle.records.specs.Believed.FieldRecords.{field_of, field_record_size, field_in}
 use Rattle.listing.specs.Believed.Lines.{decimal, spaced}

@@ -2,7 +2,7 @@
 use mathlib.Core.Path.{◌≡◌, sym, ◌∙◌}
 use mathlib.Core.Bool.{Bool, false}
 use mathlib.Core.List.{List, [], ◌∷◌, ◌++◌}
-use Prim.Native.Nat.{ℕ, ◌+◌, ◌*◌, ◌%◌}
+use Prim.Native.Nat.{ℕ, ◌*◌, ◌%◌}
 use native.Mathlib.Omega.{arith}
 use borrow.Author.Tests.{eq-eqb, ne_eqb}
 use lib.IntN.{ℤ}
@@ -16,7 +16,7 @@ use Rattle.octets.specs.Believed.Stored.{number_at}
 use Rattle.octets.specs.declared.answers.Answer.{Answer}
 use Rattle.scanner.specs.Believed.Answers.{body_scanned}
 use Rattle.header.specs.Believed.Split.{split_answer, split_table}
-use Rattle.addresses.specs.Believed.Outcome.{Outcome, AnsweredBy, outcome}
+use Rattle.addresses.specs.Believed.Outcome.{AnsweredBy, outcome}
 use Rattle.editions.specs.Believed.Outcome.{outcome_of}
 use Rattle.plain.specs.Believed.Written.{plain_outcome}
 use Rattle.expansion.specs.Believed.Outcome as expansion

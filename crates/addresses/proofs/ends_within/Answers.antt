@@ -1,6 +1,5 @@
 -- `addresses::ends_within` meets its contract. Assumes nothing.
 use mathlib.Core.Path.{sym, ◌∙◌}
-use mathlib.Core.Bool.{true, false}
 use Rattle.addresses.proofs.FirstLaws.{within_end, within-behind, within-stops}
 use borrow.Enum.Refused.{opened}
 use Rattle.addresses.proofs.ends_within.Goals as goal

@@ -1,5 +1,4 @@
 -- `addresses::read_mailbox` meets its contract. Assumes nothing.
-use mathlib.Core.Bool.{true, false}
 use native.Mathlib.Omega.{arith}
 use Rattle.addresses.proofs.CursorReads.{mailbox-done, mailbox-refused}
 use Rattle.addresses.proofs.read_mailbox.Goals as goal

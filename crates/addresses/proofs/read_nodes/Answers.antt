@@ -1,7 +1,6 @@
 use mathlib.Core.Path.{refl, sym, ap, ◌∙◌}
 use mathlib.Core.Bool.{true, false, true≢false}
 use native.Mathlib.Omega.{arith}
-use Prim.Native.Nat.{◌-◌}
 use Rattle.scanner.specs.Ties.Cursors.{next_in}
 use Rattle.scanner.specs.declared.cursor.Ahead.TheVariants.{Symbol}
 use Rattle.addresses.specs.Ties.Steps.{word_ahead, ends_ahead}

@@ -1,6 +1,5 @@
 -- `addresses::read_whole` meets its contract. Assumes nothing.
 use mathlib.Core.Path.{sym, ◌∙◌}
-use mathlib.Core.Bool.{true, false}
 use native.Mathlib.Omega.{arith}
 use Rattle.addresses.proofs.WholeLaws.{whole-stops}
 use Rattle.addresses.proofs.FirstLaws.{small-number, first-end, first-behind}

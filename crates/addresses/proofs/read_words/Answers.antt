@@ -1,7 +1,6 @@
 use mathlib.Core.Path.{refl, ◌∙◌}
 use mathlib.Core.Bool.{true, false}
 use native.Mathlib.Omega.{arith}
-use Prim.Native.Nat.{◌-◌}
 use Rattle.addresses.specs.Ties.Steps.{word_ahead}
 use Rattle.addresses.proofs.CursorSteps.{told, stepped, met, met_word}
 use Rattle.addresses.proofs.CursorReads.{phrase-done}

@@ -1,6 +1,5 @@
 use mathlib.Core.Path.{refl, sym, ◌∙◌}
 use mathlib.Core.List.{[]}
-use Prim.Native.Nat.{◌-◌}
 use native.Mathlib.Omega.{arith}
 use Rattle.addresses.proofs.NextLaws.{next-is, none_left}
 use Rattle.editions.proofs.LoopLaws.{come_on, stop-at, end-listed, end_unfinished, same_long, stop_long}

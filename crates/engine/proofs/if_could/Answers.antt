@@ -13,15 +13,13 @@ could-requires c =
     record { at = c.requires.0; action_is = entry_of c.requires.0.stands c.args.class c.class_number.result c.requires.1 c.class_number.ensures.0 c.action_at-action.ensures }
 
 pub returns-then-could : goal.returns-then-could
-returns-then-could c =
-    (
-      omega arith,
-      λ x. counted c.args.n c.if-could.true (c.could.ensures x (entry_of x.stands c.args.class c.class_number.result c.requires.1 c.class_number.ensures.0 c.action_at-action.ensures)),
-    )
+returns-then-could c = (
+  omega arith,
+  λ x. counted c.args.n c.if-could.true (c.could.ensures x (entry_of x.stands c.args.class c.class_number.result c.requires.1 c.class_number.ensures.0 c.action_at-action.ensures)),
+)
 
 pub returns : goal.returns
-returns c =
-    (
-      omega arith,
-      λ x. not_counted c.args.n c.if-could.false (c.could.ensures x (entry_of x.stands c.args.class c.class_number.result c.requires.1 c.class_number.ensures.0 c.action_at-action.ensures)),
-    )
+returns c = (
+  omega arith,
+  λ x. not_counted c.args.n c.if-could.false (c.could.ensures x (entry_of x.stands c.args.class c.class_number.result c.requires.1 c.class_number.ensures.0 c.action_at-action.ensures)),
+)

@@ -1,5 +1,4 @@
 use mathlib.Core.Path.{refl, ◌∙◌}
-use Prim.Native.Nat.{◌-◌}
 use native.Mathlib.Omega.{arith}
 use Rattle.addresses.proofs.NextLaws.{none_left}
 use Rattle.engine.proofs.ActionLaws.{class-small}

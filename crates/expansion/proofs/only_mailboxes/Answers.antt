@@ -1,9 +1,7 @@
-use Prim.Native.Nat.{◌-◌}
 use native.Mathlib.Omega.{arith}
 use mathlib.Core.Path.{refl, sym, ◌∙◌}
 use Rattle.scanner.proofs.Unfolding.{found}
 use Rattle.plain.proofs.WalkSteps.{none_comes}
-use mathlib.Core.Bool.{false}
 use Rattle.scanner.specs.declared.Class.TheVariants.{At}
 use Rattle.expansion.proofs.SeekSteps.{only_none, only_as, only-word, only-lone, only_next, only-closed, only-other}
 use borrow.Enum.Refused.{opened}

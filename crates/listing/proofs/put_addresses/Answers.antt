@@ -1,5 +1,4 @@
 use mathlib.Core.Path.{refl, ◌∙◌}
-use Prim.Native.Nat.{◌-◌}
 use native.Mathlib.Omega.{arith}
 use Rattle.octets.proofs.Writes.{left-all, left_as, left_after, left-none}
 use Rattle.records.specs.Believed.AddressRecords.{record_in}
@@ -18,8 +17,7 @@ put_address-m-requires c = let l = c.loop-i in omega (arith, l.invariant.0, l.in
 pub loop-i-preserved : goal.loop-i-preserved
 loop-i-preserved c =
     let a = c.args in
-    let l = c.loop-i in
-    (
+    let l = c.loop-i in (
       omega arith,
       omega (arith, l.invariant.1, c.put_address-m.ensures.1),
       c.put_address-m.auto.out ∙ l.invariant.2,

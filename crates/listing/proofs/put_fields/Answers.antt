@@ -1,5 +1,4 @@
 use mathlib.Core.Path.{refl, ◌∙◌}
-use Prim.Native.Nat.{◌-◌}
 use native.Mathlib.Omega.{arith}
 use Rattle.octets.proofs.Writes.{left-all, left_as, left_after, left-none}
 use Rattle.records.specs.Believed.FieldRecords.{field_in}
@@ -21,8 +20,7 @@ put_field-m-requires c =
 pub loop-i-preserved : goal.loop-i-preserved
 loop-i-preserved c =
     let a = c.args in
-    let l = c.loop-i in
-    (
+    let l = c.loop-i in (
       omega arith,
       omega (arith, l.invariant.1, c.put_field-m.ensures.1),
       c.put_field-m.auto.out ∙ l.invariant.2,

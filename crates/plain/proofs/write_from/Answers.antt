@@ -35,8 +35,7 @@ loop-ahead-preserved c =
     let l = c.loop-ahead in
     let a = c.args in
     let y = leads_on l.cursor l.invariant.2 (outside_at a.classes.now a.text.now (get_or l.cursor 2 0)) c.step.ensures in
-    let t = c.ahead_of-ahead-in-loop-ahead.ensures in
-    (
+    let t = c.ahead_of-ahead-in-loop-ahead.ensures in (
       coming_next l.invariant.0 ((found_in _ (sym c.loop-ahead.invariant.1 ∙ c.in-Symbol.is))) c.requires.0 y.ahead (colon_in c.step.new.cursor t c.colon_ahead-colon.ensures) c.put_symbol-n.auto.out c.put_symbol-n.ensures.0 c.put_symbol-n.ensures.1 c.after-place.ensures,
       t,
       y.sized,

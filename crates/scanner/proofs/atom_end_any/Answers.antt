@@ -1,6 +1,5 @@
 use mathlib.Core.Path.{refl, ◌∙◌}
 use native.Mathlib.Omega.{arith}
-use Prim.Native.Nat.{◌-◌}
 use Rattle.scanner.proofs.MoveLaws.{atom-on, atom-ends, atom-last}
 use borrow.Enum.Refused.{opened}
 use Rattle.scanner.proofs.atom_end_any.Goals as goal

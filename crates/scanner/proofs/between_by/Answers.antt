@@ -1,5 +1,4 @@
 use native.Mathlib.Omega.{arith}
-use Prim.Native.Nat.{◌-◌}
 use Rattle.scanner.proofs.CategoryLaws.{walked_none, walk-over, walk-tells, walk_ends, walk-on}
 use Rattle.scanner.proofs.between_by.Goals as goal
 

@@ -1,6 +1,5 @@
 use mathlib.Core.Path.{refl, sym, ◌∙◌}
 use native.Mathlib.Omega.{arith}
-use Prim.Native.Nat.{◌-◌}
 use Rattle.scanner.proofs.Unfolding.{found, found_end, found_fault, faultless-on}
 use Rattle.scanner.proofs.BodyChecks.{no-fault}
 use Rattle.scanner.proofs.CategoryLaws.{category_over, category_before, category_in, category_behind}

@@ -1,7 +1,6 @@
 use mathlib.Core.Path.{refl, ◌∙◌}
 use mathlib.Core.List.{[]}
 use native.Mathlib.Omega.{arith}
-use Prim.Native.Nat.{◌-◌}
 use Rattle.octets.specs.Believed.Numbers.{byte_above_127, stray_control}
 use Rattle.scanner.specs.Believed.Scanning.{taking_in_comment, go, halt}
 use Rattle.scanner.proofs.MoveLaws.{at-end, comment_moves, comment-on, comment-opens, comment-closes, comment-over, comment_taking, comment-taken}

@@ -1,6 +1,5 @@
 use mathlib.Core.Path.{refl, sym, ap, ◌∙◌}
 use native.Mathlib.Omega.{arith}
-use Prim.Native.Nat.{◌-◌}
 use Rattle.scanner.specs.Believed.Answers.{unless_fault, fault_of}
 use Rattle.scanner.proofs.Unfolding.{found, found_end, found_fault, fault-on}
 use Rattle.scanner.proofs.fault_by.Goals as goal

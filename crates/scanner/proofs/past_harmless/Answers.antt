@@ -1,6 +1,5 @@
 use mathlib.Core.Path.{refl, ◌∙◌}
 use native.Mathlib.Omega.{arith}
-use Prim.Native.Nat.{◌-◌}
 use Rattle.scanner.proofs.FaultLaws.{harmless_byte}
 use Rattle.scanner.proofs.past_harmless.Goals as goal
 

@@ -1,6 +1,5 @@
 use mathlib.Core.Path.{refl, sym, ◌∙◌}
 use native.Mathlib.Omega.{arith}
-use Prim.Native.Nat.{◌-◌}
 use Rattle.scanner.proofs.ByteLaws.{runs, runs_on, runs_out, runs_to}
 use Rattle.scanner.proofs.plain_end.Goals as goal
 

@@ -1,7 +1,6 @@
 use mathlib.Core.Path.{refl, sym, ap, ◌∙◌}
 use mathlib.Core.List.{[]}
 use native.Mathlib.Omega.{arith}
-use Prim.Native.Nat.{◌-◌}
 use Rattle.octets.specs.Believed.Numbers.{byte_above_127, stray_control}
 use Rattle.scanner.specs.Believed.Scanning.{Scanned, taking_in_quoted, go, halt, parted}
 use Rattle.scanner.specs.Believed.Answers.{next_of}

@@ -1,4 +1,3 @@
-use Prim.Native.Nat.{◌-◌}
 use native.Mathlib.Omega.{arith}
 use Rattle.records.specs.Believed.AddressRecords.{record_in}
 use Rattle.touch.specs.Believed.Around.{covers}

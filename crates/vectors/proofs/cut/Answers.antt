@@ -1,4 +1,3 @@
-use Prim.Native.Nat.{◌-◌}
 use native.Mathlib.Omega.{arith}
 use Rattle.vectors.proofs.ReadLaws.{none-at-first, cut_here, none-next, cut_nowhere}
 use Rattle.vectors.proofs.cut.Goals as goal

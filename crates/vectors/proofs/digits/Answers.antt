@@ -1,8 +1,6 @@
 use mathlib.Core.Path.{refl, sym, ◌∙◌}
-use Prim.Native.Nat.{◌-◌}
 use native.Mathlib.Omega.{arith}
 use lib.ListN.{get_or}
-use borrow.Author.Tests.{not-false}
 use Rattle.vectors.proofs.ReadLaws.{digit-next, no_digit, digits_end, digit_range}
 use Rattle.vectors.proofs.digits.Goals as goal
 

@@ -1,5 +1,4 @@
 use mathlib.Core.Path.{refl, sym, ◌∙◌}
-use Prim.Native.Nat.{◌-◌}
 use native.Mathlib.Omega.{arith}
 use Rattle.vectors.proofs.AnswerLaws.{kept_next, not_kept, kept-end}
 use Rattle.vectors.proofs.is_kept.Goals as goal

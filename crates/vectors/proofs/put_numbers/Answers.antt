@@ -1,6 +1,5 @@
 use mathlib.Core.Path.{refl, ◌∙◌}
 use mathlib.Core.List.{◌∷◌}
-use Prim.Native.Nat.{◌-◌}
 use native.Mathlib.Omega.{arith}
 use Rattle.octets.specs.Believed.Octets.{space_byte}
 use Rattle.vectors.proofs.PutLaws.{puts_both, left-all, left_after, left-none}

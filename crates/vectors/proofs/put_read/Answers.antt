@@ -1,8 +1,6 @@
 -- `vectors::put_read` meets its contract. Assumes nothing.
 use Rattle.vectors.proofs.PutLaws.{puts_nothing}
 use Rattle.vectors.proofs.VectorLaws.{answered_by, run-addresses, run_by_table, run_edition, run_fields, run-plain, run-nothing}
-use Rattle.editions.proofs.read_addresses.Reads as read-addresses-reads'
-use Rattle.engine.proofs.read_addresses.Reads as read-addresses-reads''
 use Rattle.vectors.proofs.put_read.Goals as goal
 
 pub returns-then-letter-eq97 : goal.returns-then-letter-eq97

@@ -1,5 +1,4 @@
 use mathlib.Core.Path.{refl, ◌∙◌}
-use Prim.Native.Nat.{◌-◌}
 use native.Mathlib.Omega.{arith}
 use Rattle.vectors.proofs.PutLaws.{left-all, left_as, left_after, left-none}
 use Rattle.vectors.proofs.AnswerLaws.{rows_all, rows_next, rows_none}

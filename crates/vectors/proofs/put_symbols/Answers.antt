@@ -1,5 +1,4 @@
 use mathlib.Core.Path.{refl, sym, ◌∙◌}
-use Prim.Native.Nat.{◌-◌}
 use native.Mathlib.Omega.{arith}
 use Rattle.octets.proofs.ChoiceLaws.{cast_bool}
 use Rattle.vectors.proofs.PutLaws.{left-all, left_after, left-last, left-none}

@@ -1,6 +1,5 @@
 -- `vectors::put_symbols` meets its contract: the symbols before p are put. Assumes nothing.
 use mathlib.Core.Path.{◌≡◌}
-use Prim.Native.Nat.{◌-◌}
 use lib.ListN.{length}
 use Rattle.vectors.specs.Believed.Answers.{symbols}
 use Rattle.vectors.proofs.PutLaws.{Left}

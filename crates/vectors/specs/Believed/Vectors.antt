@@ -10,7 +10,7 @@ use Rattle.scanner.specs.Believed.Answers.{body_scanned}
 use Rattle.reply.specs.Believed.Reply.{left_for_from}
 use Rattle.header.specs.Believed.Names.{known_of, known_number, compared_of, holds_addresses}
 use Rattle.header.specs.Believed.Split.{split_answer, split_table}
-use Rattle.addresses.specs.Believed.Outcome.{Outcome, outcome}
+use Rattle.addresses.specs.Believed.Outcome.{outcome}
 use Rattle.editions.specs.Believed.Outcome.{outcome_of}
 use Rattle.plain.specs.Believed.Written.{plain_outcome}
 use Rattle.expansion.specs.Believed.Outcome as expansion

@@ -1,11 +1,10 @@
 -- `dates::moment::moment_of` meets its contract. Assumes nothing.
 use mathlib.Core.Path.{sym, ap, ◌∙◌}
-use mathlib.Core.Bool.{true}
 use native.Mathlib.Omega.{arith}
 use mir.Syntax.{w16, w64}
 use mir.Val.{SFits}
 use mir.Facts.{to_z-of_z}
-use Rattle.dates.specs.Believed.Answers.{day_exists, time_exists, local_seconds, in_zone, moment_of}
+use Rattle.dates.specs.Believed.Answers.{local_seconds, in_zone, moment_of}
 use Rattle.dates.specs.declared.moment.Moment.TheVariants.{At}
 use Rattle.dates.proofs.MomentLaws.{in_calendar, in_day}
 use Rattle.dates.proofs.moment.moment_of.Goals as goal

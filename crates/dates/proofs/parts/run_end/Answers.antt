@@ -1,6 +1,5 @@
 use mathlib.Core.Path.{◌≡◌, sym, ◌∙◌}
 use native.Mathlib.Omega.{arith}
-use Prim.Native.Nat.{◌-◌}
 use Rattle.octets.specs.Believed.Text.{part}
 use Rattle.dates.specs.Ties.Steps.{span}
 use Rattle.dates.proofs.PartLaws.{span-end, span-other, span_same}

@@ -23,8 +23,11 @@ pub returns-in_default : goal.returns-in_default
 returns-in_default c =
     let a = c.args in
     let p = c.requires in
-    rw (p.token.rest-is, part_unquoted a.classes.now a.text.now (get_or a.cursor.now 2 0) (get_or a.cursor.now 3 0) c.if-at-end.false ((let a = c.args in
-    found a.classes.now a.text.now (get_or a.cursor.now 3 0) (rw c.in-Found.is at c.next_by.ensures))) (opened c.in_default.in_default-own.keys2)) c.first_part-in_default.ensures
+    rw (
+      p.token.rest-is,
+      part_unquoted a.classes.now a.text.now (get_or a.cursor.now 2 0) (get_or a.cursor.now 3 0) c.if-at-end.false ((let a = c.args in
+          found a.classes.now a.text.now (get_or a.cursor.now 3 0) (rw c.in-Found.is at c.next_by.ensures))) (opened c.in_default.in_default-own.keys2),
+    ) c.first_part-in_default.ensures
 
 pub returns-in-Ended : goal.returns-in-Ended
 returns-in-Ended c =

@@ -1,5 +1,5 @@
 use mathlib.Core.Path.{refl}
-use Prim.Native.Nat.{◌+◌, ◌-◌}
+use Prim.Native.Nat.{◌+◌}
 use native.Mathlib.Omega.{arith}
 use Rattle.header.proofs.StepLaws.{goes_nowhere, goes-both}
 use Rattle.header.proofs.fields.past_plain.Goals as goal

@@ -10,16 +10,20 @@ returns-then-message-gt-MESSAGE_LIMIT c = let a = c.args in record { outcome = t
 pub returns-then-many-le-STAGED_FIELDS : goal.returns-then-many-le-STAGED_FIELDS
 returns-then-many-le-STAGED_FIELDS c =
     let a = c.args in
-    record { outcome = copied a.message.now a.table.now (omega arith) (sym c.in-Accepted.is ∙ c.store_fields.ensures.0)
-    c.staged_room-staged.result (omega arith)
-    c.store_fields.ensures.1
-    c.copy_front.ensures }
+    record {
+      outcome = copied a.message.now a.table.now (omega arith) (sym c.in-Accepted.is ∙ c.store_fields.ensures.0)
+          c.staged_room-staged.result (omega arith)
+          c.store_fields.ensures.1
+          c.copy_front.ensures;
+    }
 
 pub returns-else-many-le-STAGED_FIELDS : goal.returns-else-many-le-STAGED_FIELDS
 returns-else-many-le-STAGED_FIELDS c =
     let a = c.args in
-    record { outcome = stored-again a.message.now a.table.now (omega arith) (sym c.in-Accepted.is ∙ c.store_fields.ensures.0)
-    c.store_fields-in-Accepted.ensures.1 }
+    record {
+      outcome = stored-again a.message.now a.table.now (omega arith) (sym c.in-Accepted.is ∙ c.store_fields.ensures.0)
+          c.store_fields-in-Accepted.ensures.1;
+    }
 
 pub returns-in-Refused : goal.returns-in-Refused
 returns-in-Refused c =

@@ -1,14 +1,13 @@
-use Prim.Native.Nat.{◌-◌, ◌<◌}
+use Prim.Native.Nat.{◌<◌}
 use native.Mathlib.Omega.{arith}
 use mathlib.Core.Path.{refl, sym, ap, subst, ◌∙◌}
-use mathlib.Core.Bool.{true, false}
 use lib.ListN.{length, get_or}
 use Rattle.header.specs.Believed.Names.{known_names}
 use Rattle.header.specs.Ties.Rows.{in_row}
 use Rattle.header.specs.declared.names.Entry.{Entry}
 use Rattle.header.proofs.NameLaws.{past_first}
 use Rattle.header.proofs.RowLaws.{Left, known-left, none_left, left_agrees, left_differs, has-letter, in_width}
-use Rattle.header.proofs.KnownNameLoop.{agrees, all-agree, differs, letter, six}
+use Rattle.header.proofs.KnownNameLoop.{agrees, all-agree, differs, six}
 use Rattle.header.proofs.names.known_name.Goals as goal
 
 pub names-init : goal.names-init

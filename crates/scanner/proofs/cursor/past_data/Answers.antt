@@ -1,4 +1,3 @@
-use Prim.Native.Nat.{◌-◌}
 use Rattle.scanner.proofs.ByteLaws.{no_data, data_on}
 use Rattle.scanner.proofs.cursor.past_data.Goals as goal
 

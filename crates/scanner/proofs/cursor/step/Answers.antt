@@ -1,6 +1,5 @@
 use mathlib.Core.Path.{refl, sym, ◌∙◌}
 use native.Mathlib.Omega.{arith}
-use Prim.Native.Nat.{◌-◌}
 use Rattle.scanner.proofs.CursorMoves.{moves_on, white_passes, mark_moves, atom_moves, end_moves}
 use Rattle.scanner.proofs.cursor.step.Goals as goal
 
