@@ -135,6 +135,29 @@ def looked_at(crate, edit, said):
     return f"a check of {name} alone ends with status {status} and shows no failing fact: {' | '.join(lines[-3:])}"
 
 
+# what a proof file says by names that follow from the code: a goal or the answer to it, and a path into what is known
+NAMED = re.compile(r"(?<![\w.-])(?:goal\.[\w.-]+|c\.[\w.-]+|(?:returns|loop|bounds|overflow|slice_bounds|shape_of)\b[\w-]*|[\w-]+-requires[\w-]*)")
+
+
+def touched(text):
+    """What is wrong with the files that an edit changes: code or definitions, and of a proof file no more than the names that goals
+    and what is known there have after it."""
+    path, old, seen = None, None, False
+    for line in text.split("\n"):
+        if line.startswith("file: "):
+            path = line.removeprefix("file: ").strip()
+            seen = seen or path.startswith(("src/", "specs/"))
+            if not path.startswith(("src/", "specs/", "proofs/")):
+                yield f"changes neither code nor a definition: {path}"
+        elif line.startswith("old:"):
+            old = line.removeprefix("old:").strip()
+        elif line.startswith("new:") and path and path.startswith("proofs/"):
+            if NAMED.sub("_", old) != NAMED.sub("_", line.removeprefix("new:").strip()):
+                yield f"changes more of {path} than names of goals: {old}"
+    if not seen:
+        yield "changes neither code nor a definition"
+
+
 TRIALS = {
     FITS: """\
 refused, as it must be: ./proofs/a/Answers.antt:1:2: error: `returns`: computed as far as they go, the two types differ only where one has `1`
@@ -169,16 +192,24 @@ for old, new, parts in (
 ):
     if renamed(old, new) != parts:
         wrong.append(f"{old} is not turned to {new}: {renamed(old, new)}")
+code, names = "file: src/lib.rt\nold: a < b\nnew: a <= b\n", "file: proofs/f/Answers.antt\nold: returns-then-a-b c = c.if-a-b.true\n"
+for text, faults in (
+    (code, 0),
+    (code + names + "new: returns-then-a-le-b c = c.if-a-le-b.true\n", 0),
+    (code + names + "new: returns-then-a-b c = refl\n", 1),
+    (names + "new: returns-then-a-le-b c = c.if-a-le-b.true\n", 1),
+    ("file: stdout\nold: 1\nnew: 2\n", 2),
+):
+    if len(list(touched(text))) != faults:
+        wrong.append(f"what an edit changes is not told apart: {text!r}")
 if not log.is_file():
     sys.exit(f"no {log}: run .ci/run first, or give what `rt ci` printed")
 said = {(line[1], line[2]): line[3] for line in map(LINE.match, log.read_text(errors="replace").splitlines()) if line}
 looks, limits, seen = {}, 0, 0
 for edit in sorted(root.glob("crates/*/must-fail/*.edit")):
     crate, name = edit.parent.parent.name, edit.relative_to(root)
-    # a goal is named by the code's conditions: an edit of one may give the proof file the goal's new name with it
-    paths = re.findall(r"^file: (.*)", edit.read_text(), re.MULTILINE)
-    if not paths or not paths[0].startswith(("src/", "specs/")):
-        wrong.append(f"{name}: changes neither code nor a definition: {paths}")
+    for fault in touched(edit.read_text()):
+        wrong.append(f"{name}: {fault}")
     words = said.get((crate, edit.name))
     if words is None:
         wrong.append(f"{name}: nothing is said of it: run 'rt ci' first")

@@ -4,7 +4,8 @@
 usage: tools/snake_names.py [--check] [--table]
 
 Run at the top, once, after the toolchain's own port script. `camelCase` of a definition, a lemma, a field or a variable becomes
-`snake_case`. A dash in a lemma's name stays where it joins two names of definitions, and a type to a name; elsewhere it becomes `_`.
+`snake_case`. A dash in a lemma's name stays behind and before a function on lists that its left side calls, and between a type and a
+name; elsewhere it becomes `_`.
 A name that would fall together with another stays as it is and is listed. Edits under must-fail/ are turned by the same table.
 --table prints the table, --check writes nothing.
 """
@@ -26,6 +27,7 @@ BY_HAND = {
     "too-deep": "too_deep_lem",
     "atWords": "at_words",
     "at_words": "at_words_lem",
+    "is-comment": "comment_is",
     "listCount": "list_count",
     "list_count": "list_count_lem",
     "list-count": "list_count_lem",
@@ -51,8 +53,8 @@ BY_HAND = {
     "word_next": "word_next_lem",
     "word-next": "word_next_lem",
 }
-# words of the logic's libraries that names of lemmas are joined from
-WORDS = set("length take drop set sets append replicate map get_or reverse cons sum part".split())
+# functions on lists, of which laws are named by their left side
+LISTS = set("length take drop set sets append replicate map get_or reverse".split())
 
 
 def files(root, endings):
@@ -137,10 +139,11 @@ def main(argv):
                     if "/specs/" in path:
                         definitions.add(m.group(1))
     where = occurrences(texts)
-    names = {snake(d) for d in definitions} | WORDS
+    names = {snake(d) for d in definitions} | LISTS
     table = {}
-    # the definitions first: a lemma that would have a definition's name gets _lem
-    order = sorted(w for w in words if w in definitions) + sorted(w for w in words if w not in definitions)
+    # the definitions first, those of specs/ and what is in camel case: a law that would have a definition's name gets _lem
+    definitions |= {d for d in declared if "-" not in d and re.search("[A-Z]", d[1:]) and d[:1].islower()}
+    order = sorted(w for w in words if w in definitions and "-" not in w) + sorted(w for w in words if w not in definitions or "-" in w)
     behind = {}
     for w in order:
         if w in outside or not CAMEL.match(w) or w.endswith("'") and w[:1] == "b":
@@ -153,7 +156,8 @@ def main(argv):
             parts = new.split("-")
             out = parts[0]
             for a, b in zip(parts, parts[1:]):
-                joined = a[:1].isupper() or b[:1].isupper() or (a in names and b in names)
+                # a type and a name, or the outer call of a law's left side: `IsX-tail`, `length-plain_text`, `yield-append`
+                joined = a[:1].isupper() or b[:1].isupper() or (a in LISTS and b in names) or (a in names and b in LISTS)
                 out += ("-" if joined else "_") + b
             new = out
         if new == w:
@@ -164,7 +168,7 @@ def main(argv):
             table[new] = new + "_lem"
             behind.setdefault(new + "_lem", set()).update(where.get(new, set()))
             print(f"{new} becomes {new}_lem, for the definition {w}")
-        elif clash and w in declared and w not in definitions:
+        elif clash and w in declared and (w not in definitions or "-" in w):
             print(f"{w} becomes {new}_lem")
             new += "_lem"
         elif clash:

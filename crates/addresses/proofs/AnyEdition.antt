@@ -36,12 +36,12 @@ use Rattle.grammar.specs.declared.Whole.TheVariants.{Listed}
 
 module _ {N : Type 0} (verdict : List (Symbol Class) → Verdict Class (Forest Class N)) (classes text : List ℕ) {at : ℕ} (table : List ℕ) where
   pub twice_refused : {number-told place : ℕ} → IsRefused verdict classes text at number-told place → TwiceIs verdict classes text at table table (Refused number-told place)
-  twice_refused s = record { answer-is = rw (s.verdict_is, s.number_is, s.place_is); table_is = rw s.verdict_is }
+  twice_refused s = record { answer_is = rw (s.verdict_is, s.number_is, s.place_is); table_is = rw s.verdict_is }
 
-  pub twice_no-room : {dry after : List ℕ} {n : ℕ} → IsListed verdict classes text at dry after n → length table / address_record_size < n → TwiceIs verdict classes text at table table (NoRoom n)
-  twice_no-room l h =
-      let q : room_for address_record_size table < count l.derivation = rw (← l.count-is) h in
-      record { answer-is = rw (l.verdict_is, lt-ltb (room_for address_record_size table) (count l.derivation) q, l.count-is); table_is = rw (l.verdict_is, lt-ltb (room_for address_record_size table) (count l.derivation) q) }
+  pub twice_no_room : {dry after : List ℕ} {n : ℕ} → IsListed verdict classes text at dry after n → length table / address_record_size < n → TwiceIs verdict classes text at table table (NoRoom n)
+  twice_no_room l h =
+      let q : room_for address_record_size table < count l.derivation = rw (← l.count_is) h in
+      record { answer_is = rw (l.verdict_is, lt-ltb (room_for address_record_size table) (count l.derivation) q, l.count_is); table_is = rw (l.verdict_is, lt-ltb (room_for address_record_size table) (count l.derivation) q) }
 
   -- a list that there is room for: the second run answers as the first did, and leaves its records
   pub twice_written : {dry half : List ℕ} {n : ℕ} (after : List ℕ) → IsListed verdict classes text at dry half n → n ≤ length table / address_record_size → (w : Whole) → WholeIs verdict classes text at table after w
@@ -49,9 +49,9 @@ module _ {N : Type 0} (verdict : List (Symbol Class) → Verdict Class (Forest C
   twice_written after d h (Listed m) l =
       let e : accepted d.derivation ≡ accepted l.derivation = sym d.verdict_is ∙ l.verdict_is in
       let k : d.derivation ≡ l.derivation = cc in
-      let q : count d.derivation ≤ room_for address_record_size table = rw (← d.count-is) h in
+      let q : count d.derivation ≤ room_for address_record_size table = rw (← d.count_is) h in
       record {
-        answer-is = rw (d.verdict_is, le-ltb (room_for address_record_size table) (count d.derivation) q, d.count-is);
+        answer_is = rw (d.verdict_is, le-ltb (room_for address_record_size table) (count d.derivation) q, d.count_is);
         table_is = l.stored ∙ rw (← k, d.verdict_is, le-ltb (room_for address_record_size table) (count d.derivation) q);
       }
   twice_written after d h (whole.Refused number-told place) s =
@@ -73,11 +73,11 @@ module _ {N : Type 0} (edition : Edition N) (verdict : List (Symbol Class) → V
       let z = verdict (symbols_in edition message start end) in
       let e : decided (length (take end message)) table z ≡ outcome_in edition verdict message start end table =
       ap (λ (n : ℕ). decided n table z) (length-take-le end message inside) ∙ sym (verdict_decides f (refusal table) (derived table)) in
-      answered (x.answer-is ∙ ap (λ (o : Outcome). o.answer) e) (x.table_is ∙ ap (λ (o : Outcome). o.table) e)
+      answered (x.answer_is ∙ ap (λ (o : Outcome). o.answer) e) (x.table_is ∙ ap (λ (o : Outcome). o.table) e)
 
 -- a clean body may be read
-pub clean-text : {classes message : List ℕ} {start end : ℕ} → CleanBy classes message start end → Body classes (take end message) start
-clean-text {message = message} {end = end} x =
+pub clean_text : {classes message : List ℕ} {start end : ℕ} → CleanBy classes message start end → Body classes (take end message) start
+clean_text {message = message} {end = end} x =
     let n = length-take-le end message x.inside in
     record { inside = omega (arith, n, x.ordered); short = omega (arith, n, x.inside, x.short); faultless = record { none = x.faultless } }
 
@@ -91,7 +91,7 @@ module _ {N : Type 0} (edition : Edition N) (least : ℕ) (answer : ℕ → List
           one = λ j j' d d'. decides.one j j' symbols d d';
           with_room = λ k' d h. let q = same k' d in (rw (le-ltb (room_for address_record_size table) (count k) (rw q h)) (ap (λ z. telling number-accepted 0 (count z)) q), rw (le-ltb (room_for address_record_size table) (count k) (rw q h)) (ap (λ z. sets table 0 (table_bytes (records z))) q));
           without_room = λ k' d h. let q = same k' d in (rw (lt-ltb (room_for address_record_size table) (count k) (rw q h)) (ap (λ z. telling too_little_room 0 (count z)) q), rw (lt-ltb (room_for address_record_size table) (count k) (rw q h)));
-          no-list = λ f. let d = answer_derives edition.grammar edition.list least answer decides level_limit below {xs = symbols} e in absurd (f k (record { derived = d.0; within = d.1 }));
+          no_list = λ f. let d = answer_derives edition.grammar edition.list least answer decides level_limit below {xs = symbols} e in absurd (f k (record { derived = d.0; within = d.1 }));
         }
       where
         same : (k' : Forest Class N) → IsListIn edition symbols k' → k ≡ k'
@@ -101,7 +101,7 @@ module _ {N : Type 0} (edition : Edition N) (least : ℕ) (answer : ℕ → List
           one = λ j j' d d'. decides.one j j' symbols d d';
           with_room = λ k d h. absurd (never k d);
           without_room = λ k d h. absurd (never k d);
-          no-list = λ f. (record { why = why; rest = rest; right = rw e at (decides.right level_limit below symbols); tells = refl }, refl);
+          no_list = λ f. (record { why = why; rest = rest; right = rw e at (decides.right level_limit below symbols); tells = refl }, refl);
         }
       where
         never : (k : Forest Class N) → IsListIn edition symbols k → ⊥
@@ -114,5 +114,5 @@ module _ {N : Type 0} (edition : Edition N) (least : ℕ) (answer : ℕ → List
   pub settles : (message : List ℕ) (start end : ℕ) (table : List ℕ) (r : Answer) (after : List ℕ)
       → AnsweredBy (outcome_in edition (answer level_limit) message start end table) r after → Condition3In edition message start end table r after
   settles message start end table r after a h k l n =
-      rw (a.answer-is, a.bytes-are, verdict_decides edition (answer level_limit) message start end h k l n (refusal table) (derived table))
+      rw (a.answer_is, a.bytes_are, verdict_decides edition (answer level_limit) message start end h k l n (refusal table) (derived table))
       (by_verdict_lem (symbols_in edition message start end) end table (answer level_limit (symbols_in edition message start end)) refl)

@@ -14,7 +14,7 @@ use Rattle.grammar.specs.Believed.Rfc733.{same_class, Derivation}
 use Rattle.grammar.specs.Executable.Trees733.{Class, Quoted, Sym}
 use Rattle.grammar.proofs.Symbols.{same_class_lem, least_bytes, InOrder}
 use Rattle.grammar.proofs.Any.Order.{Ascending}
-use Rattle.grammar.proofs.Rfc733.Order.{records-ascend, count_half}
+use Rattle.grammar.proofs.Rfc733.Order.{records_ascend, count_half}
 use Rattle.grammar.specs.Believed.Language.{accepted}
 use Rattle.grammar.specs.Executable.Machine733.{answer}
 use Rattle.grammar.proofs.Rfc733.Condition3.{answer_derives}
@@ -44,7 +44,7 @@ module _ {message : List ℕ} {start end : ℕ} {k : Derivation} (b : ListBody m
 
   -- the records go in order of start
   pub records_in_order : Ascending start end (records k)
-  records_in_order = records-ascend start end b.list.derived in_body
+  records_in_order = records_ascend start end b.list.derived in_body
 
 -- .. of the symbols from a position on, by any classes
 pub accepted_half : (classes text : List ℕ) (at limit : ℕ) {k : Derivation} → at ≤ length text → answer limit (symbols_from classes text at) ≡ accepted k → at + 2 * count k ≤ length text

@@ -35,23 +35,23 @@ all = Atom ∷ Quoted ∷ At ∷ LessThan ∷ GreaterThan ∷ Comma ∷ Semicolo
 abbrev each : List ℕ → (Class → Bool) → Bool
 each ks test = every (λ n class. implies (has_key ks n) (test class)) 0 all
 
-of-key : (ks : List ℕ) (n : ℕ) (b k : Bool) → has_key ks n ≡ k → T (implies k b) → OneOf ks n → b ≡ true
-of-key ks n true k e t o = refl
-of-key ks n false true e t o = absurd t
-of-key ks n false false e t o = absurd (miss ks n (rw e tt) o)
+of_key : (ks : List ℕ) (n : ℕ) (b k : Bool) → has_key ks n ≡ k → T (implies k b) → OneOf ks n → b ≡ true
+of_key ks n true k e t o = refl
+of_key ks n false true e t o = absurd t
+of_key ks n false false e t o = absurd (miss ks n (rw e tt) o)
 
 pub by_class : (ks : List ℕ) (test : Class → Bool) → T (each ks test) → (class : Class) → OneOf ks (tag class) → test class ≡ true
-by_class ks test t Atom o = of-key ks 0 (test Atom) (has_key ks 0) refl (at (λ n class. implies (has_key ks n) (test class)) all Stray t 0 (lit< tt)) o
-by_class ks test t Quoted o = of-key ks 1 (test Quoted) (has_key ks 1) refl (at (λ n class. implies (has_key ks n) (test class)) all Stray t 1 (lit< tt)) o
-by_class ks test t At o = of-key ks 2 (test At) (has_key ks 2) refl (at (λ n class. implies (has_key ks n) (test class)) all Stray t 2 (lit< tt)) o
-by_class ks test t LessThan o = of-key ks 3 (test LessThan) (has_key ks 3) refl (at (λ n class. implies (has_key ks n) (test class)) all Stray t 3 (lit< tt)) o
-by_class ks test t GreaterThan o = of-key ks 4 (test GreaterThan) (has_key ks 4) refl (at (λ n class. implies (has_key ks n) (test class)) all Stray t 4 (lit< tt)) o
-by_class ks test t Comma o = of-key ks 5 (test Comma) (has_key ks 5) refl (at (λ n class. implies (has_key ks n) (test class)) all Stray t 5 (lit< tt)) o
-by_class ks test t Semicolon o = of-key ks 6 (test Semicolon) (has_key ks 6) refl (at (λ n class. implies (has_key ks n) (test class)) all Stray t 6 (lit< tt)) o
-by_class ks test t Colon o = of-key ks 7 (test Colon) (has_key ks 7) refl (at (λ n class. implies (has_key ks n) (test class)) all Stray t 7 (lit< tt)) o
-by_class ks test t Stray o = of-key ks 8 (test Stray) (has_key ks 8) refl (at (λ n class. implies (has_key ks n) (test class)) all Stray t 8 (lit< tt)) o
-by_class ks test t Dot o = of-key ks 9 (test Dot) (has_key ks 9) refl (at (λ n class. implies (has_key ks n) (test class)) all Stray t 9 (lit< tt)) o
-by_class ks test t Literal o = of-key ks 10 (test Literal) (has_key ks 10) refl (at (λ n class. implies (has_key ks n) (test class)) all Stray t 10 (lit< tt)) o
+by_class ks test t Atom o = of_key ks 0 (test Atom) (has_key ks 0) refl (at (λ n class. implies (has_key ks n) (test class)) all Stray t 0 (lit< tt)) o
+by_class ks test t Quoted o = of_key ks 1 (test Quoted) (has_key ks 1) refl (at (λ n class. implies (has_key ks n) (test class)) all Stray t 1 (lit< tt)) o
+by_class ks test t At o = of_key ks 2 (test At) (has_key ks 2) refl (at (λ n class. implies (has_key ks n) (test class)) all Stray t 2 (lit< tt)) o
+by_class ks test t LessThan o = of_key ks 3 (test LessThan) (has_key ks 3) refl (at (λ n class. implies (has_key ks n) (test class)) all Stray t 3 (lit< tt)) o
+by_class ks test t GreaterThan o = of_key ks 4 (test GreaterThan) (has_key ks 4) refl (at (λ n class. implies (has_key ks n) (test class)) all Stray t 4 (lit< tt)) o
+by_class ks test t Comma o = of_key ks 5 (test Comma) (has_key ks 5) refl (at (λ n class. implies (has_key ks n) (test class)) all Stray t 5 (lit< tt)) o
+by_class ks test t Semicolon o = of_key ks 6 (test Semicolon) (has_key ks 6) refl (at (λ n class. implies (has_key ks n) (test class)) all Stray t 6 (lit< tt)) o
+by_class ks test t Colon o = of_key ks 7 (test Colon) (has_key ks 7) refl (at (λ n class. implies (has_key ks n) (test class)) all Stray t 7 (lit< tt)) o
+by_class ks test t Stray o = of_key ks 8 (test Stray) (has_key ks 8) refl (at (λ n class. implies (has_key ks n) (test class)) all Stray t 8 (lit< tt)) o
+by_class ks test t Dot o = of_key ks 9 (test Dot) (has_key ks 9) refl (at (λ n class. implies (has_key ks n) (test class)) all Stray t 9 (lit< tt)) o
+by_class ks test t Literal o = of_key ks 10 (test Literal) (has_key ks 10) refl (at (λ n class. implies (has_key ks n) (test class)) all Stray t 10 (lit< tt)) o
 
 pub is_false : (b : Bool) → not b ≡ true → b ≡ false
 is_false true e = absurd (true≢false (sym e))
@@ -68,10 +68,10 @@ no_symbol f a e g Ended o = e
 no_symbol f a e g (Fault number p) o = g number p
 
 -- .. of what stands ahead
-pub no-symbol-ahead : {A : Type 0} (f : Ahead → A) (a : A) → f End ≡ a → f Faulty ≡ a → (r : Ahead) → OneOf (1 ∷ 2 ∷ []) (tag_of ahead-declared.the_type r) → f r ≡ a
-no-symbol-ahead f a e g (Symbol class) o = absurd (miss (1 ∷ 2 ∷ []) 0 tt o)
-no-symbol-ahead f a e g End o = e
-no-symbol-ahead f a e g Faulty o = g
+pub no_symbol_ahead : {A : Type 0} (f : Ahead → A) (a : A) → f End ≡ a → f Faulty ≡ a → (r : Ahead) → OneOf (1 ∷ 2 ∷ []) (tag_of ahead-declared.the_type r) → f r ≡ a
+no_symbol_ahead f a e g (Symbol class) o = absurd (miss (1 ∷ 2 ∷ []) 0 tt o)
+no_symbol_ahead f a e g End o = e
+no_symbol_ahead f a e g Faulty o = g
 
 -- a class that begins no address and does not end one: "at", or what fits no rule
 abbrev pub begins_none : Class → Bool

@@ -20,7 +20,7 @@ use Rattle.grammar.specs.Believed.Rfc733.{same_class}
 use Rattle.grammar.specs.Executable.Trees733.{Class}
 use Rattle.addresses.specs.declared.Enclosure.{Enclosure}
 use Rattle.addresses.specs.Ties.Steps.{Refused, is_word, word_ahead, ends_ahead, closing, closes_ahead, ends_address_next, closes_next, refused_next, free_in, last_in, reading, symbols_ahead, NoWord}
-use Rattle.addresses.proofs.NextLaws.{NextIs, next-is}
+use Rattle.addresses.proofs.NextLaws.{NextIs, next_is}
 
 -- what was asked of what stands ahead
 pub told : {A : Type 0} (g : Ahead → A) (b : A) {x y : Ahead} {r : A} → x ≡ y → r ≡ g x → r ≡ b → g y ≡ b
@@ -46,66 +46,66 @@ pub by_ahead : {A : Type 0} (f : Next → A) (g : Ahead → A) → ((a : Ahead) 
 unfolding next_in
 by_ahead f g h cursor = h (ahead_of (get_or cursor 0 0)) (get_or cursor 1 0) (get_or cursor 2 0) (get_or cursor 3 0) (apart_in cursor)
 
-ends-from : (a : Ahead) (s e n : ℕ) (b : Bool) → ends_address_next (next_from a s e n b) ≡ ends_ahead a
-ends-from (Symbol class) s e n b = refl
-ends-from End s e n b = refl
-ends-from Faulty s e n b = refl
+ends_from : (a : Ahead) (s e n : ℕ) (b : Bool) → ends_address_next (next_from a s e n b) ≡ ends_ahead a
+ends_from (Symbol class) s e n b = refl
+ends_from End s e n b = refl
+ends_from Faulty s e n b = refl
 
 pub ends_in : (cursor : List ℕ) {b : Bool} → ends_ahead (ahead_of (get_or cursor 0 0)) ≡ b → ends_address_next (next_in cursor) ≡ b
-ends_in cursor e = by_ahead ends_address_next ends_ahead ends-from cursor ∙ e
+ends_in cursor e = by_ahead ends_address_next ends_ahead ends_from cursor ∙ e
 
-closes-from : (enclosure : Enclosure) (a : Ahead) (s e n : ℕ) (b : Bool) → closes_next enclosure (next_from a s e n b) ≡ closes_ahead enclosure a
-closes-from enclosure (Symbol class) s e n b = refl
-closes-from enclosure End s e n b = refl
-closes-from enclosure Faulty s e n b = refl
+closes_from : (enclosure : Enclosure) (a : Ahead) (s e n : ℕ) (b : Bool) → closes_next enclosure (next_from a s e n b) ≡ closes_ahead enclosure a
+closes_from enclosure (Symbol class) s e n b = refl
+closes_from enclosure End s e n b = refl
+closes_from enclosure Faulty s e n b = refl
 
 pub closes_in : (enclosure : Enclosure) (cursor : List ℕ) {b : Bool} → closes_ahead enclosure (ahead_of (get_or cursor 0 0)) ≡ b → closes_next enclosure (next_in cursor) ≡ b
-closes_in enclosure cursor e = by_ahead (closes_next enclosure) (closes_ahead enclosure) (closes-from enclosure) cursor ∙ e
+closes_in enclosure cursor e = by_ahead (closes_next enclosure) (closes_ahead enclosure) (closes_from enclosure) cursor ∙ e
 
 -- a symbol of which something holds stands ahead
 pub record Stands (cursor : List ℕ) (test : Class → Bool) : Type 0 where
   pub class : Class
-  pub ahead-is : ahead_of (get_or cursor 0 0) ≡ Symbol class
+  pub ahead_is : ahead_of (get_or cursor 0 0) ≡ Symbol class
   pub passes : test class ≡ true
 
-closing-from : (e : Enclosure) (a : Ahead) → closes_ahead e a ≡ true → (class : Class) × (a ≡ Symbol class) × (same_class (closing e) class ≡ true)
-closing-from e (Symbol class) h = (class, refl, h)
-closing-from e End h = absurd (true≢false (sym h))
-closing-from e Faulty h = absurd (true≢false (sym h))
+closing_from : (e : Enclosure) (a : Ahead) → closes_ahead e a ≡ true → (class : Class) × (a ≡ Symbol class) × (same_class (closing e) class ≡ true)
+closing_from e (Symbol class) h = (class, refl, h)
+closing_from e End h = absurd (true≢false (sym h))
+closing_from e Faulty h = absurd (true≢false (sym h))
 
 pub closing_in : (e : Enclosure) (cursor : List ℕ) → closes_ahead e (ahead_of (get_or cursor 0 0)) ≡ true → Stands cursor (same_class (closing e))
-closing_in e cursor h = let x = closing-from e (ahead_of (get_or cursor 0 0)) h in record { class = x.0; ahead-is = x.1; passes = x.2 }
+closing_in e cursor h = let x = closing_from e (ahead_of (get_or cursor 0 0)) h in record { class = x.0; ahead_is = x.1; passes = x.2 }
 
-word-from : (a : Ahead) → word_ahead a ≡ true → (class : Class) × (a ≡ Symbol class) × (is_word class ≡ true)
-word-from (Symbol class) e = (class, refl, e)
-word-from End e = absurd (true≢false (sym e))
-word-from Faulty e = absurd (true≢false (sym e))
+word_from : (a : Ahead) → word_ahead a ≡ true → (class : Class) × (a ≡ Symbol class) × (is_word class ≡ true)
+word_from (Symbol class) e = (class, refl, e)
+word_from End e = absurd (true≢false (sym e))
+word_from Faulty e = absurd (true≢false (sym e))
 
 pub word_in : (cursor : List ℕ) → word_ahead (ahead_of (get_or cursor 0 0)) ≡ true → Stands cursor is_word
-word_in cursor e = let x = word-from (ahead_of (get_or cursor 0 0)) e in record { class = x.0; ahead-is = x.1; passes = x.2 }
+word_in cursor e = let x = word_from (ahead_of (get_or cursor 0 0)) e in record { class = x.0; ahead_is = x.1; passes = x.2 }
 
 module _ (classes text : List ℕ) where
-  no-word-from : (a : Ahead) (s e n : ℕ) (b : Bool) → word_ahead a ≡ false → NoWord classes text (symbols_ahead classes text (next_from a s e n b))
-  no-word-from (Symbol class) s e n b h = h
-  no-word-from End s e n b h = tt
-  no-word-from Faulty s e n b h = tt
+  no_word_from : (a : Ahead) (s e n : ℕ) (b : Bool) → word_ahead a ≡ false → NoWord classes text (symbols_ahead classes text (next_from a s e n b))
+  no_word_from (Symbol class) s e n b h = h
+  no_word_from End s e n b h = tt
+  no_word_from Faulty s e n b h = tt
 
-  pub no-word_in : (cursor : List ℕ) → word_ahead (ahead_of (get_or cursor 0 0)) ≡ false → NoWord classes text (symbols_ahead classes text (next_in cursor))
+  pub no_word_in : (cursor : List ℕ) → word_ahead (ahead_of (get_or cursor 0 0)) ≡ false → NoWord classes text (symbols_ahead classes text (next_in cursor))
   unfolding next_in
-  no-word_in cursor h = no-word-from (ahead_of (get_or cursor 0 0)) (get_or cursor 1 0) (get_or cursor 2 0) (get_or cursor 3 0) (apart_in cursor) h
+  no_word_in cursor h = no_word_from (ahead_of (get_or cursor 0 0)) (get_or cursor 1 0) (get_or cursor 2 0) (get_or cursor 3 0) (apart_in cursor) h
 
   -- ---- moving on
 
   pub record Stepped (before after : List ℕ) : Type 0 where
     pub next : NextIs classes text (get_or before 2 0) (next_in after)
     pub free_kept : free_in after ≡ free_in before
-    pub last-kept : last_in after ≡ last_in before
+    pub last_kept : last_in after ≡ last_in before
     pub sized : length after ≡ cursor_size
 
   pub stepped : (before : List ℕ) {after : List ℕ} → length before ≡ cursor_size → after ≡ moved (next_of (scan_by classes text (get_or before 2 0))) (from_end before) → Stepped before after
   stepped before {after} l e =
       let x = leads_on before l (outside_at classes text (get_or before 2 0)) e in
-      record { next = next-is classes text (get_or before 2 0) (next_in after) x.ahead; free_kept = x.sixth; last-kept = x.seventh; sized = x.sized }
+      record { next = next_is classes text (get_or before 2 0) (next_in after) x.ahead; free_kept = x.sixth; last_kept = x.seventh; sized = x.sized }
 
   -- the symbol that stands ahead then
   pub met : {before after : List ℕ} {class : Class} → Stepped before after → ahead_of (get_or after 0 0) ≡ Symbol class → NextIs classes text (get_or before 2 0) (found_at class (get_or after 1 0) (get_or after 2 0) (get_or after 3 0) (apart_in after))
@@ -118,25 +118,25 @@ module _ (classes text : List ℕ) where
 -- ---- refusing
 
 -- what was put into the places of a refusal
-pub refusal-at : (cursor : List ℕ) {after : List ℕ} → length cursor ≡ cursor_size → (number place : ℕ) → after ≡ placed fault_number place number 0 cursor → (get_or after 2 0 ≡ number) × (get_or after 1 0 ≡ place)
-refusal-at cursor l number place e =
+pub refusal_at : (cursor : List ℕ) {after : List ℕ} → length cursor ≡ cursor_size → (number place : ℕ) → after ≡ placed fault_number place number 0 cursor → (get_or after 2 0 ≡ number) × (get_or after 1 0 ≡ place)
+refusal_at cursor l number place e =
     rw e (each_cursor (λ x. (get_or (placed fault_number place number 0 x) 2 0 ≡ number) × (get_or (placed fault_number place number 0 x) 1 0 ≡ place)) (λ a b c d f g h. (refl, refl)) cursor l)
 
 pub refusing : (cursor : List ℕ) {after : List ℕ} → length cursor ≡ cursor_size → (number place : ℕ) → after ≡ placed fault_number place number 0 cursor → reading false after ≡ Refused number place
-refusing cursor l number place e = let x = refusal-at cursor l number place e in rw (x.0, x.1)
+refusing cursor l number place e = let x = refusal_at cursor l number place e in rw (x.0, x.1)
 
-pub refused-symbol : (size : ℕ) (cursor : List ℕ) {class : Class} → ahead_of (get_or cursor 0 0) ≡ Symbol class → refused_next size (next_in cursor) ≡ Refused no_list_goes_on (get_or cursor 1 0)
-refused-symbol size cursor e = ap (refused_next size) (found_in cursor e)
+pub refused_symbol : (size : ℕ) (cursor : List ℕ) {class : Class} → ahead_of (get_or cursor 0 0) ≡ Symbol class → refused_next size (next_in cursor) ≡ Refused no_list_goes_on (get_or cursor 1 0)
+refused_symbol size cursor e = ap (refused_next size) (found_in cursor e)
 
 -- .. where no symbol is left
 abbrev NoSymbol : ℕ → Ahead → Type 0
 NoSymbol size a = (s e n : ℕ) (b : Bool) → refused_next size (next_from a s e n b) ≡ Refused ends_too_soon size
 
-no-symbol-from : (size : ℕ) (a : Ahead) → OneOf (1 ∷ 2 ∷ []) (tag_of ahead-declared.the_type a) → NoSymbol size a
-no-symbol-from size (Symbol class) o = absurd (miss (1 ∷ 2 ∷ []) 0 tt o)
-no-symbol-from size End o = λ s e n b. refl
-no-symbol-from size Faulty o = λ s e n b. refl
+no_symbol_from : (size : ℕ) (a : Ahead) → OneOf (1 ∷ 2 ∷ []) (tag_of ahead-declared.the_type a) → NoSymbol size a
+no_symbol_from size (Symbol class) o = absurd (miss (1 ∷ 2 ∷ []) 0 tt o)
+no_symbol_from size End o = λ s e n b. refl
+no_symbol_from size Faulty o = λ s e n b. refl
 
 pub refused_end : (size : ℕ) (cursor : List ℕ) {a : Ahead} → a ≡ ahead_of (get_or cursor 0 0) → OneOf (1 ∷ 2 ∷ []) (tag_of ahead-declared.the_type a) → refused_next size (next_in cursor) ≡ Refused ends_too_soon size
 unfolding next_in
-refused_end size cursor {a} e o = rw (← e) (no-symbol-from size a o (get_or cursor 1 0) (get_or cursor 2 0) (get_or cursor 3 0) (apart_in cursor))
+refused_end size cursor {a} e o = rw (← e) (no_symbol_from size a o (get_or cursor 1 0) (get_or cursor 2 0) (get_or cursor 3 0) (apart_in cursor))

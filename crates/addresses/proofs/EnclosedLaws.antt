@@ -20,8 +20,8 @@ use Rattle.grammar.proofs.Symbols.{same_class_lem, each_of}
 use Rattle.grammar.specs.Executable.Trees733.{Class, Atom, GreaterThan, Semicolon, Colon, Lexeme, Sym, of, Phrase, AddressList, empty, idle, angle, group, typed}
 use Rattle.grammar.proofs.Rfc733.Trees.{name_then, atom_colon}
 use Rattle.grammar.specs.Executable.Machine733.{Here, in_typed, in_angle, in_group, list, want, levels_here, levels_at, nameless, fresh, run, judge}
-use Rattle.grammar.proofs.Rfc733.Complete.{begin, done_address, done_list, Clear, complete_done_list, run-angle, run-group}
-use Rattle.grammar.proofs.Rfc733.Readers.{ListEnds, ends_address, ends_list, deep-angle, deep-group, closed-unfit, clear_colon, run_typed}
+use Rattle.grammar.proofs.Rfc733.Complete.{begin, done_address, done_list, Clear, complete_done_list, run_angle, run_group}
+use Rattle.grammar.proofs.Rfc733.Readers.{ListEnds, ends_address, ends_list, deep_angle, deep_group, closed_unfit, clear_colon, run_typed}
 use Rattle.grammar.proofs.Rfc733.TreeRecords.{name_start, name_end, address_end, address_records, list_records}
 use Rattle.addresses.specs.Ties.Steps.{ends_address_next, closes_next, refused_next, opening, closing, enclosure_kind, level_in, enclosed, House, symbols_from, lexeme_at, symbols_on, symbols_ahead, Standing, AddressRead, AddressStops, AddressIs, Opening, Opened, ListRead, ListStops, inner, TypedFirst}
 use Rattle.addresses.specs.declared.Frame.{Frame}
@@ -38,15 +38,15 @@ levels_in Angle h o t = refl
 levels_in Group h o t = refl
 
 -- the machine opens a level
-run-enclosed : (e : Enclosure) (n : ℕ) (h : Here) (o : Option Phrase) (t : Lexeme) (xs ys : List Sym) → xs ≡ name_then o (of (opening e) t ∷ ys) → levels_here h < n → Clear (fresh h) (atom_colon xs)
+run_enclosed : (e : Enclosure) (n : ℕ) (h : Here) (o : Option Phrase) (t : Lexeme) (xs ys : List Sym) → xs ≡ name_then o (of (opening e) t ∷ ys) → levels_here h < n → Clear (fresh h) (atom_colon xs)
     → run n (begin h) xs ≡ run n (list (level_in e h o t) (idle empty)) ys
-run-enclosed Angle n h o t xs ys e l c = ap (run n (begin h)) e ∙ run-angle n h o t ys l
-run-enclosed Group n h o t xs ys e l c = ap (run n (begin h)) e ∙ run-group n h o t ys l (clear_colon h o t xs ys e c)
+run_enclosed Angle n h o t xs ys e l c = ap (run n (begin h)) e ∙ run_angle n h o t ys l
+run_enclosed Group n h o t xs ys e l c = ap (run n (begin h)) e ∙ run_group n h o t ys l (clear_colon h o t xs ys e c)
 
-deep-enclosed : (e : Enclosure) (h : Here) (o : Option Phrase) (t : Lexeme) (xs ys : List Sym) → xs ≡ name_then o (of (opening e) t ∷ ys) → Clear (fresh h) (atom_colon xs)
+deep_enclosed : (e : Enclosure) (h : Here) (o : Option Phrase) (t : Lexeme) (xs ys : List Sym) → xs ≡ name_then o (of (opening e) t ∷ ys) → Clear (fresh h) (atom_colon xs)
     → judge (run (levels_here h + 0) (begin h) xs) ≡ refused too_deep (of (opening e) t ∷ ys)
-deep-enclosed Angle h o t xs ys e c = ap (λ zs. judge (run (levels_here h + 0) (begin h) zs)) e ∙ deep-angle h o t ys
-deep-enclosed Group h o t xs ys e c = ap (λ zs. judge (run (levels_here h + 0) (begin h) zs)) e ∙ deep-group h o t ys (clear_colon h o t xs ys e c)
+deep_enclosed Angle h o t xs ys e c = ap (λ zs. judge (run (levels_here h + 0) (begin h) zs)) e ∙ deep_angle h o t ys
+deep_enclosed Group h o t xs ys e c = ap (λ zs. judge (run (levels_here h + 0) (begin h) zs)) e ∙ deep_group h o t ys (clear_colon h o t xs ys e c)
 
 clear_inside : (e : Enclosure) (h : Here) (o : Option Phrase) (t : Lexeme) (ys : List Sym) → House e o ys → Clear (nameless (level_in e h o t)) (atom_colon ys)
 clear_inside Angle h o t ys v = tt
@@ -54,15 +54,15 @@ clear_inside Group h none t ys v = v
 clear_inside Group h (some p) t ys v = tt
 
 -- the closing mark
-run-close : (e : Enclosure) (n : ℕ) (h : Here) (o : Option Phrase) (t : Lexeme) (l : AddressList) (u : Lexeme) (ys : List Sym)
+run_close : (e : Enclosure) (n : ℕ) (h : Here) (o : Option Phrase) (t : Lexeme) (l : AddressList) (u : Lexeme) (ys : List Sym)
     → run n (done_list (level_in e h o t) l) (of (closing e) u ∷ ys) ≡ run n (done_address h (enclosed e o t l u)) ys
-run-close Angle n h o t l u ys = rw (complete_done_list (in_angle h o t) l)
-run-close Group n h o t l u ys = rw (complete_done_list (in_group h o t) l)
+run_close Angle n h o t l u ys = rw (complete_done_list (in_angle h o t) l)
+run_close Group n h o t l u ys = rw (complete_done_list (in_group h o t) l)
 
 -- any other mark that may stand after a list
-run-other : (e : Enclosure) (n : ℕ) (h : Here) (o : Option Phrase) (t : Lexeme) (l : AddressList) (class : Class) (u : Lexeme) (ys : List Sym) → ListEnds (of class u ∷ ys) → same_class (closing e) class ≡ false
+run_other : (e : Enclosure) (n : ℕ) (h : Here) (o : Option Phrase) (t : Lexeme) (l : AddressList) (class : Class) (u : Lexeme) (ys : List Sym) → ListEnds (of class u ∷ ys) → same_class (closing e) class ≡ false
     → judge (run n (done_list (level_in e h o t) l) (of class u ∷ ys)) ≡ refused unfit (of class u ∷ ys)
-run-other e n h o t l class u ys v f =
+run_other e n h o t l class u ys v f =
     each_of (λ c. same_class (closing e) c ≡ false → judge (run n (done_list (level_in e h o t) l) (of c u ∷ ys)) ≡ refused unfit (of c u ∷ ys)) ends_list (greater e, (semicolon e, tt)) class v f
   where
     greater : (e : Enclosure) → same_class (closing e) GreaterThan ≡ false → judge (run n (done_list (level_in e h o t) l) (of GreaterThan u ∷ ys)) ≡ refused unfit (of GreaterThan u ∷ ys)
@@ -78,10 +78,10 @@ run_unclosed Angle n h o t l = rw (complete_done_list (in_angle h o t) l)
 run_unclosed Group n h o t l = rw (complete_done_list (in_group h o t) l)
 
 -- after the closing mark
-run-behind : (e : Enclosure) (n : ℕ) (h : Here) (o : Option Phrase) (t : Lexeme) (l : AddressList) (u : Lexeme) (class : Class) (v : Lexeme) (ys : List Sym) → ends_address class ≡ false
+run_behind : (e : Enclosure) (n : ℕ) (h : Here) (o : Option Phrase) (t : Lexeme) (l : AddressList) (u : Lexeme) (class : Class) (v : Lexeme) (ys : List Sym) → ends_address class ≡ false
     → judge (run n (done_address h (enclosed e o t l u)) (of class v ∷ ys)) ≡ refused unfit (of class v ∷ ys)
-run-behind Angle n h o t l u class v ys f = ap judge (closed-unfit h n (angle o t l u) class v ys f)
-run-behind Group n h o t l u class v ys f = ap judge (closed-unfit h n (group o t l u) class v ys f)
+run_behind Angle n h o t l u class v ys f = ap judge (closed_unfit h n (angle o t l u) class v ys f)
+run_behind Group n h o t l u class v ys f = ap judge (closed_unfit h n (group o t l u) class v ys f)
 
 -- its record, and those inside
 record_of : (e : Enclosure) (o : Option Phrase) (t : Lexeme) (l : AddressList) (u : Lexeme) (depth parent i : ℕ)
@@ -110,14 +110,14 @@ stored_in table between after i levels r rs n h e f =
 module _ (classes text : List ℕ) where
   -- ---- angle lists and groups
 
-  pub deep-stops : (e : Enclosure) {xs : List Sym} {a b : ℕ} {span : Span} (frame : Frame) → Opening classes text e xs a b span → frame.levels ≡ 0 → AddressStops classes text xs frame too_many_levels a
-  deep-stops e {xs} {a} {b} frame o z =
+  pub deep_stops : (e : Enclosure) {xs : List Sym} {a b : ℕ} {span : Span} (frame : Frame) → Opening classes text e xs a b span → frame.levels ≡ 0 → AddressStops classes text xs frame too_many_levels a
+  deep_stops e {xs} {a} {b} frame o z =
       record {
         why = too_deep;
         rest = symbols_on classes text (opening e) a b o.apart;
         number_is = refl;
         place_is = refl;
-        stops = λ h c. rw z (deep-enclosed e h o.name (lexeme_at classes text (opening e) a b o.apart) xs (symbols_from classes text b) o.yields c);
+        stops = λ h c. rw z (deep_enclosed e h o.name (lexeme_at classes text (opening e) a b o.apart) xs (symbols_from classes text b) o.yields c);
       }
 
   module _ (e : Enclosure) {xs : List Sym} {a b : ℕ} {span : Span} (frame : Frame) (o : Opening classes text e xs a b span) (n : frame.levels ≡ 0 → ⊥) where
@@ -128,14 +128,14 @@ module _ (classes text : List ℕ) where
     comes_in : (h : Here) → Clear (fresh h) (atom_colon xs) → run (levels_here h + frame.levels) (begin h) xs ≡ run (levels_at (level_in e h o.name mark) + (inner classes text frame).levels) (list (level_in e h o.name mark) (idle empty)) (symbols_from classes text b)
     comes_in h c =
         let q : levels_at (level_in e h o.name mark) + (frame.levels - 1) ≡ levels_here h + frame.levels = omega (arith, levels_in e h o.name mark) in
-        rw q (run-enclosed e (levels_here h + frame.levels) h o.name mark xs (symbols_from classes text b) o.yields (omega arith) c)
+        rw q (run_enclosed e (levels_here h + frame.levels) h o.name mark xs (symbols_from classes text b) o.yields (omega arith) c)
 
     clear_in : (h : Here) → Clear (nameless (level_in e h o.name mark)) (atom_colon (symbols_from classes text b))
     clear_in h = clear_inside e h o.name mark (symbols_from classes text b) o.house
 
     -- a refusal in the list
-    pub inside-stops : {number-told place : ℕ} → ListStops classes text b (inner classes text frame) number-told place → AddressStops classes text xs frame number-told place
-    inside-stops s =
+    pub inside_stops : {number-told place : ℕ} → ListStops classes text b (inner classes text frame) number-told place → AddressStops classes text xs frame number-told place
+    inside_stops s =
         record { why = s.why; rest = s.rest; number_is = s.number_is; place_is = s.place_is; stops = λ h c. ap judge (comes_in h c) ∙ s.stops (level_in e h o.name mark) (clear_in h) }
 
     module _ {table between : List ℕ} {ahead : Next} {low free : ℕ} (l : ListRead classes text b (inner classes text frame) table between ahead low free) where
@@ -146,9 +146,9 @@ module _ (classes text : List ℕ) where
           comes_in h c ∙ l.reads (level_in e h o.name mark) (clear_in h) ∙ ap (λ (i : ℕ). run i (done_list (level_in e h o.name mark) l.tree) (symbols_ahead classes text ahead)) q
 
   -- no symbol is left that could close the list
-  never-closed : (e : Enclosure) {xs : List Sym} {a b : ℕ} {span : Span} (frame : Frame) → Opening classes text e xs a b span → (frame.levels ≡ 0 → ⊥) → {table between : List ℕ} {ahead : Next} {low free : ℕ}
+  never_closed : (e : Enclosure) {xs : List Sym} {a b : ℕ} {span : Span} (frame : Frame) → Opening classes text e xs a b span → (frame.levels ≡ 0 → ⊥) → {table between : List ℕ} {ahead : Next} {low free : ℕ}
       → ListRead classes text b (inner classes text frame) table between ahead low free → symbols_ahead classes text ahead ≡ [] → AddressStops classes text xs frame ends_too_soon (length text)
-  never-closed e {xs} {a} {b} frame o n l z =
+  never_closed e {xs} {a} {b} frame o n l z =
       record {
         why = unfinished;
         rest = [];
@@ -168,10 +168,10 @@ module _ (classes text : List ℕ) where
         number_is = refl;
         place_is = refl;
         stops = λ h c. ap judge (comes_through e frame o n l h c)
-            ∙ run-other e (levels_here h + frame.levels) h o.name (lexeme_at classes text (opening e) a b o.apart) l.tree x.class (lexeme_at classes text x.class x.start x.end x.apart) (symbols_from classes text x.end) l.ends f;
+            ∙ run_other e (levels_here h + frame.levels) h o.name (lexeme_at classes text (opening e) a b o.apart) l.tree x.class (lexeme_at classes text x.class x.start x.end x.apart) (symbols_from classes text x.end) l.ends f;
       }
-  unclosed_stops e frame o n Ended l start after f = never-closed e frame o n l refl
-  unclosed_stops e frame o n (Fault number p) l start after f = never-closed e frame o n l refl
+  unclosed_stops e frame o n Ended l start after f = never_closed e frame o n l refl
+  unclosed_stops e frame o n (Fault number p) l start after f = never_closed e frame o n l refl
 
   module _ (e : Enclosure) {xs : List Sym} {a b : ℕ} {span : Span} (frame : Frame) (o : Opening classes text e xs a b span) (n : frame.levels ≡ 0 → ⊥)
       {table between : List ℕ} {class : Class} {i j size low free : ℕ} {apart : Bool} (l : ListRead classes text b (inner classes text frame) table between (found_at class i j size apart) low free) (q : same_class (closing e) class ≡ true) where
@@ -184,27 +184,27 @@ module _ (classes text : List ℕ) where
     comes_behind h c =
         comes_through e frame o n l h c
         ∙ ap (λ (k : Class). run (levels_here h + frame.levels) (done_list (level_in e h o.name (lexeme_at classes text (opening e) a b o.apart)) l.tree) (of k closed_by ∷ symbols_from classes text j)) (sym (same_class_lem (closing e) class q))
-        ∙ run-close e (levels_here h + frame.levels) h o.name (lexeme_at classes text (opening e) a b o.apart) l.tree closed_by (symbols_from classes text j)
+        ∙ run_close e (levels_here h + frame.levels) h o.name (lexeme_at classes text (opening e) a b o.apart) l.tree closed_by (symbols_from classes text j)
 
     -- something after it that does not end the address
-    pub behind-stops : (behind : Next) → NextIs classes text j behind → ends_address_next behind ≡ false → (start : ℕ) (after : List ℕ) → AddressIs classes text xs frame start table after (refused_next (length text) behind)
-    behind-stops (Found y) x f start after =
+    pub behind_stops : (behind : Next) → NextIs classes text j behind → ends_address_next behind ≡ false → (start : ℕ) (after : List ℕ) → AddressIs classes text xs frame start table after (refused_next (length text) behind)
+    behind_stops (Found y) x f start after =
         record {
           why = unfit;
           rest = symbols_ahead classes text (Found y);
           number_is = refl;
           place_is = refl;
           stops = λ h c. ap judge (comes_behind h c ∙ ap (run (levels_here h + frame.levels) _) x.same)
-              ∙ run-behind e (levels_here h + frame.levels) h o.name (lexeme_at classes text (opening e) a b o.apart) l.tree closed_by y.class (lexeme_at classes text y.class y.start y.end y.apart) (symbols_from classes text y.end) f;
+              ∙ run_behind e (levels_here h + frame.levels) h o.name (lexeme_at classes text (opening e) a b o.apart) l.tree closed_by y.class (lexeme_at classes text y.class y.start y.end y.apart) (symbols_from classes text y.end) f;
         }
-    behind-stops Ended x f start after = absurd (true≢false f)
-    behind-stops (Fault number p) x f start after = absurd (true≢false f)
+    behind_stops Ended x f start after = absurd (true≢false f)
+    behind_stops (Fault number p) x f start after = absurd (true≢false f)
 
     -- the address
-    pub enclosed-read : (behind : Next) (after : List ℕ) → NextIs classes text j behind → ends_address_next behind ≡ true → Opened classes text a b span frame
+    pub enclosed_read : (behind : Next) (after : List ℕ) → NextIs classes text j behind → ends_address_next behind ≡ true → Opened classes text a b span frame
         → after ≡ sets between (frame.number * address_record_size) (record_bytes (record_by (enclosure_kind e) (level_limit - frame.levels) frame.parent span.start j span.start span.end))
         → AddressRead classes text xs frame span.start table after behind j free
-    enclosed-read behind after x f p w =
+    enclosed_read behind after x f p w =
         let t = lexeme_at classes text (opening e) a b o.apart in
         let s : Standing classes text i j = l.ahead_ok.1 in
         let its-records : record_by (enclosure_kind e) (level_limit - frame.levels) frame.parent span.start j span.start span.end ∷ list_records l.tree (suc (level_limit - frame.levels)) (suc frame.number) (suc frame.number)
@@ -215,10 +215,10 @@ module _ (classes text : List ℕ) where
           reads = λ h c. comes_behind h c ∙ ap (run (levels_here h + frame.levels) _) x.same;
           ends = ends_next classes text j behind x.ok f;
           ahead_ok = x.ok;
-          last-is = sym (end_of e o.name t l.tree closed_by);
+          last_is = sym (end_of e o.name t l.tree closed_by);
           count = omega (arith, l.count, count_of e o.name t l.tree closed_by);
           stored =
-              stored_in table between after frame.number frame.levels _ (λ d m. list_records l.tree d m m) n p.ready.levels-low l.stored w
+              stored_in table between after frame.number frame.levels _ (λ d m. list_records l.tree d m m) n p.ready.levels_low l.stored w
               ∙ ap (λ rs. sets table (frame.number * address_record_size) (table_bytes rs)) its-records;
           from = omega (arith, p.behind, p.stands.starts, l.from, l.ahead_ok.0, s.starts);
           within = s.within;
@@ -228,49 +228,49 @@ module _ (classes text : List ℕ) where
   -- ---- typed addresses
 
   module _ {start end behind : ℕ} (apart : Bool) {atom : Span} {frame : Frame} (t : TypedFirst classes text start end atom behind frame) where
-    abbrev first-colon : Lexeme
-    first-colon = lexeme_at classes text Colon start end apart
+    abbrev first_colon : Lexeme
+    first_colon = lexeme_at classes text Colon start end apart
 
     abbrev the_atom : Lexeme
-    the_atom = lexeme_at classes text Atom atom.start atom.end t.follows.atom-apart
+    the_atom = lexeme_at classes text Atom atom.start atom.end t.follows.atom_apart
 
-    pub typed-deep : frame.levels ≡ 0 → AddressStops classes text (symbols_on classes text Colon start end apart) frame too_many_levels start
-    typed-deep z =
+    pub typed_deep : frame.levels ≡ 0 → AddressStops classes text (symbols_on classes text Colon start end apart) frame too_many_levels start
+    typed_deep z =
         record {
           why = too_deep;
           rest = symbols_on classes text Colon start end apart;
           number_is = refl;
           place_is = refl;
           stops = λ h c. subst (λ (m : ℕ). judge (run (levels_here h + m) (begin h) (symbols_on classes text Colon start end apart)) ≡ refused too_deep (symbols_on classes text Colon start end apart)) (sym z)
-              (deep-enclosed Group h none first-colon (symbols_on classes text Colon start end apart) (symbols_from classes text end) refl c);
+              (deep_enclosed Group h none first_colon (symbols_on classes text Colon start end apart) (symbols_from classes text end) refl c);
         }
 
     module _ (n : frame.levels ≡ 0 → ⊥) where
       -- the machine comes after the second colon
       comes_typed : (h : Here) → run (levels_here h + frame.levels) (begin h) (symbols_on classes text Colon start end apart)
-          ≡ run (levels_here (in_typed h first-colon the_atom t.follows.colon) + (inner classes text frame).levels) (want h first-colon the_atom t.follows.colon) (symbols_from classes text behind)
+          ≡ run (levels_here (in_typed h first_colon the_atom t.follows.colon) + (inner classes text frame).levels) (want h first_colon the_atom t.follows.colon) (symbols_from classes text behind)
       comes_typed h =
           let q : levels_here h + suc (frame.levels - 1) ≡ levels_here h + frame.levels = omega arith in
           let p : suc (levels_here h) + (frame.levels - 1) ≡ levels_here h + frame.levels = omega arith in
-          ap (λ (ys : List Sym). run (levels_here h + frame.levels) (begin h) (of Colon first-colon ∷ ys)) t.follows.yields
-          ∙ ap (λ (m : ℕ). run m (begin h) (of Colon first-colon ∷ of Atom the_atom ∷ of Colon t.follows.colon ∷ symbols_from classes text behind)) (sym q)
-          ∙ run_typed (frame.levels - 1) first-colon the_atom t.follows.colon (symbols_from classes text behind) h
-          ∙ ap (λ (m : ℕ). run m (want h first-colon the_atom t.follows.colon) (symbols_from classes text behind)) (q ∙ sym p)
+          ap (λ (ys : List Sym). run (levels_here h + frame.levels) (begin h) (of Colon first_colon ∷ ys)) t.follows.yields
+          ∙ ap (λ (m : ℕ). run m (begin h) (of Colon first_colon ∷ of Atom the_atom ∷ of Colon t.follows.colon ∷ symbols_from classes text behind)) (sym q)
+          ∙ run_typed (frame.levels - 1) first_colon the_atom t.follows.colon (symbols_from classes text behind) h
+          ∙ ap (λ (m : ℕ). run m (want h first_colon the_atom t.follows.colon) (symbols_from classes text behind)) (q ∙ sym p)
 
-      want-ends : (k : Class) → ends_address k ≡ true → (u : Lexeme) (ys : List Sym) (h : Here)
-          → judge (run (levels_here (in_typed h first-colon the_atom t.follows.colon) + (inner classes text frame).levels) (want h first-colon the_atom t.follows.colon) (of k u ∷ ys)) ≡ refused unfit (of k u ∷ ys)
-      want-ends k e u ys h =
-          each_of (λ c. judge (run (levels_here (in_typed h first-colon the_atom t.follows.colon) + (inner classes text frame).levels) (want h first-colon the_atom t.follows.colon) (of c u ∷ ys)) ≡ refused unfit (of c u ∷ ys)) ends_address
+      want_ends : (k : Class) → ends_address k ≡ true → (u : Lexeme) (ys : List Sym) (h : Here)
+          → judge (run (levels_here (in_typed h first_colon the_atom t.follows.colon) + (inner classes text frame).levels) (want h first_colon the_atom t.follows.colon) (of k u ∷ ys)) ≡ refused unfit (of k u ∷ ys)
+      want_ends k e u ys h =
+          each_of (λ c. judge (run (levels_here (in_typed h first_colon the_atom t.follows.colon) + (inner classes text frame).levels) (want h first_colon the_atom t.follows.colon) (of c u ∷ ys)) ≡ refused unfit (of c u ∷ ys)) ends_address
           (refl, (refl, (refl, tt))) k e
 
-      typed-ends : symbols_from classes text behind ≡ [] → AddressStops classes text (symbols_on classes text Colon start end apart) frame ends_too_soon (length text)
-      typed-ends e =
+      typed_ends : symbols_from classes text behind ≡ [] → AddressStops classes text (symbols_on classes text Colon start end apart) frame ends_too_soon (length text)
+      typed_ends e =
           record {
             why = unfinished;
             rest = [];
             number_is = refl;
             place_is = refl;
-            stops = λ h c. ap judge (comes_typed h ∙ ap (run _ (want h first-colon the_atom t.follows.colon)) e);
+            stops = λ h c. ap judge (comes_typed h ∙ ap (run _ (want h first_colon the_atom t.follows.colon)) e);
           }
 
       -- what is wanted does not begin
@@ -282,40 +282,40 @@ module _ (classes text : List ℕ) where
             rest = symbols_ahead classes text (Found y);
             number_is = refl;
             place_is = refl;
-            stops = λ h c. ap judge (comes_typed h ∙ ap (run _ (want h first-colon the_atom t.follows.colon)) x.same) ∙ want-ends y.class f (lexeme_at classes text y.class y.start y.end y.apart) (symbols_from classes text y.end) h;
+            stops = λ h c. ap judge (comes_typed h ∙ ap (run _ (want h first_colon the_atom t.follows.colon)) x.same) ∙ want_ends y.class f (lexeme_at classes text y.class y.start y.end y.apart) (symbols_from classes text y.end) h;
           }
-      typed_wanted Ended x start' table after f = typed-ends x.same
-      typed_wanted (Fault number p) x start' table after f = typed-ends x.same
+      typed_wanted Ended x start' table after f = typed_ends x.same
+      typed_wanted (Fault number p) x start' table after f = typed_ends x.same
 
       module _ {class : Class} {i j size : ℕ} {apart' : Bool} (x : NextIs classes text behind (found_at class i j size apart')) where
-        pub typed-stops : {number-told place : ℕ} → AddressStops classes text (symbols_on classes text class i j apart') (inner classes text frame) number-told place
+        pub typed_stops : {number-told place : ℕ} → AddressStops classes text (symbols_on classes text class i j apart') (inner classes text frame) number-told place
             → AddressStops classes text (symbols_on classes text Colon start end apart) frame number-told place
-        typed-stops s =
+        typed_stops s =
             record {
               why = s.why;
               rest = s.rest;
               number_is = s.number_is;
               place_is = s.place_is;
-              stops = λ h c. ap judge (comes_typed h ∙ ap (run _ (want h first-colon the_atom t.follows.colon)) x.same) ∙ s.stops (in_typed h first-colon the_atom t.follows.colon) tt;
+              stops = λ h c. ap judge (comes_typed h ∙ ap (run _ (want h first_colon the_atom t.follows.colon)) x.same) ∙ s.stops (in_typed h first_colon the_atom t.follows.colon) tt;
             }
 
-        pub typed-read : {ahead : Next} {last free : ℕ} (table between after : List ℕ) → AddressRead classes text (symbols_on classes text class i j apart') (inner classes text frame) i table between ahead last free
+        pub typed_read : {ahead : Next} {last free : ℕ} (table between after : List ℕ) → AddressRead classes text (symbols_on classes text class i j apart') (inner classes text frame) i table between ahead last free
             → after ≡ sets between (frame.number * address_record_size) (record_bytes (record_by (kind_number (typed_kind (part text atom.start atom.end))) (level_limit - frame.levels) frame.parent start last atom.start atom.end))
             → AddressRead classes text (symbols_on classes text Colon start end apart) frame start table after ahead last free
-        typed-read {ahead} {last} {free} table between after r w =
+        typed_read {ahead} {last} {free} table between after r w =
             let p : (h : Here) → suc (levels_here h) + (frame.levels - 1) ≡ levels_here h + frame.levels = λ h. omega arith in
             record {
-              tree = typed first-colon the_atom t.follows.colon r.tree;
-              reads = λ h c. comes_typed h ∙ ap (run _ (want h first-colon the_atom t.follows.colon)) x.same ∙ r.reads (in_typed h first-colon the_atom t.follows.colon) tt
-                  ∙ ap (λ (m : ℕ). run m (done_address h (typed first-colon the_atom t.follows.colon r.tree)) (symbols_ahead classes text ahead)) (p h);
+              tree = typed first_colon the_atom t.follows.colon r.tree;
+              reads = λ h c. comes_typed h ∙ ap (run _ (want h first_colon the_atom t.follows.colon)) x.same ∙ r.reads (in_typed h first_colon the_atom t.follows.colon) tt
+                  ∙ ap (λ (m : ℕ). run m (done_address h (typed first_colon the_atom t.follows.colon r.tree)) (symbols_ahead classes text ahead)) (p h);
               ends = r.ends;
               ahead_ok = r.ahead_ok;
-              last-is = r.last-is;
+              last_is = r.last_is;
               count = omega (arith, r.count);
               stored =
-                  rw (← r.last-is)
-                  (stored_in table between after frame.number frame.levels _ (λ d m. address_records r.tree d m m) n t.ready.levels-low r.stored w);
-              from = omega (arith, t.stands.starts, t.follows.from, t.follows.atom-starts, t.follows.end_before, x.ok.0, r.from);
+                  rw (← r.last_is)
+                  (stored_in table between after frame.number frame.levels _ (λ d m. address_records r.tree d m m) n t.ready.levels_low r.stored w);
+              from = omega (arith, t.stands.starts, t.follows.from, t.follows.atom_starts, t.follows.end_before, x.ok.0, r.from);
               within = r.within;
               free_low = r.free_low;
             }

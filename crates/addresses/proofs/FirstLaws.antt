@@ -34,18 +34,18 @@ use Rattle.addresses.specs.Ties.Steps.{free_in, fault_ahead, ListStops, ListIs}
 use Rattle.addresses.specs.Ties.Whole.{once_limit, once_room, ends_within, EndsWithin, IsRefused, WholeIs, TwiceIs, ListedClean, WholeFirst, FaultFirst}
 use Rattle.addresses.proofs.CursorSteps.{found_in}
 use Rattle.addresses.proofs.BodyRecords.{accepted_half}
-use Rattle.addresses.proofs.AnyEdition.{twice_refused, twice_no-room, twice_written}
-use Rattle.addresses.proofs.WholeLaws.{outermost, verdict_listed, verdict_stops, verdict_closed, whole-listed, whole-closed}
+use Rattle.addresses.proofs.AnyEdition.{twice_refused, twice_no_room, twice_written}
+use Rattle.addresses.proofs.WholeLaws.{outermost, verdict_listed, verdict_stops, verdict_closed, whole_listed, whole_closed}
 
 -- the cursor with which a body is entered
 abbrev pub origin : ℕ → List ℕ
 origin at = end_number ∷ at ∷ at ∷ 0 ∷ at ∷ []
 
 -- the numbers of refusals are small
-pub small-number : (why : Refusal) → number why < 256
-small-number unfit = omega arith
-small-number unfinished = omega arith
-small-number too_deep = omega arith
+pub small_number : (why : Refusal) → number why < 256
+small_number unfit = omega arith
+small_number unfinished = omega arith
+small_number too_deep = omega arith
 
 -- no symbol is left, and no fault
 ended_in : (cursor : List ℕ) → ahead_of (get_or cursor 0 0) ≡ End → next_in cursor ≡ Ended
@@ -75,66 +75,66 @@ module _ (classes text : List ℕ) where
         }
 
     -- .. or not
-    within-from : (a : Ahead) → ahead_of (get_or cursor 0 0) ≡ a → OneOf (0 ∷ 2 ∷ []) (tag_of ahead-declared.the_type a) → Faultless classes text at → false ≡ ends_within classes text limit at
-    within-from (Symbol class) e o f = rw (verdict_closed classes text limit at (rw (found_in cursor e) at l.0.read)) refl
-    within-from End e o f = absurd (miss (0 ∷ 2 ∷ []) 1 tt o)
-    within-from Faulty e o f = absurd (never (sym (l.1.same ∙ ap (fault_ahead classes text) (faulty_in cursor e)) ∙ f.none))
+    within_from : (a : Ahead) → ahead_of (get_or cursor 0 0) ≡ a → OneOf (0 ∷ 2 ∷ []) (tag_of ahead-declared.the_type a) → Faultless classes text at → false ≡ ends_within classes text limit at
+    within_from (Symbol class) e o f = rw (verdict_closed classes text limit at (rw (found_in cursor e) at l.0.read)) refl
+    within_from End e o f = absurd (miss (0 ∷ 2 ∷ []) 1 tt o)
+    within_from Faulty e o f = absurd (never (sym (l.1.same ∙ ap (fault_ahead classes text) (faulty_in cursor e)) ∙ f.none))
 
-    pub within-behind : {a : Ahead} → a ≡ ahead_of (get_or cursor 0 0) → OneOf (0 ∷ 2 ∷ []) (tag_of ahead-declared.the_type a) → EndsWithin classes text limit at false
-    within-behind {a} e o = record { clean = within-from a (sym e) o; faulty = λ n p q. refl }
+    pub within_behind : {a : Ahead} → a ≡ ahead_of (get_or cursor 0 0) → OneOf (0 ∷ 2 ∷ []) (tag_of ahead-declared.the_type a) → EndsWithin classes text limit at false
+    within_behind {a} e o = record { clean = within_from a (sym e) o; faulty = λ n p q. refl }
 
-  pub within-stops : (limit at : ℕ) {number-told place : ℕ} → ListStops classes text at (outermost limit) number-told place → EndsWithin classes text limit at false
-  within-stops limit at s = record { clean = λ f. rw (verdict_stops classes text limit at s) refl; faulty = λ n p q. refl }
+  pub within_stops : (limit at : ℕ) {number-told place : ℕ} → ListStops classes text at (outermost limit) number-told place → EndsWithin classes text limit at false
+  within_stops limit at s = record { clean = λ f. rw (verdict_stops classes text limit at s) refl; faulty = λ n p q. refl }
 
   -- ---- the first run
 
   module _ (at : ℕ) {table after cursor : List ℕ} (l : ListIs classes text (origin at) level_limit 0 table after true cursor) where
-    pub first-end : ahead_of (get_or cursor 0 0) ≡ End → ListedClean (answer level_limit) classes text at table after (free_in cursor)
-    first-end e = record { listed = whole-listed classes text (next_in cursor) l.0.read (rw (ended_in cursor e) refl); faultless = clean_end level_limit at l e }
+    pub first_end : ahead_of (get_or cursor 0 0) ≡ End → ListedClean (answer level_limit) classes text at table after (free_in cursor)
+    first_end e = record { listed = whole_listed classes text (next_in cursor) l.0.read (rw (ended_in cursor e) refl); faultless = clean_end level_limit at l e }
 
-    first-from : (a : Ahead) → ahead_of (get_or cursor 0 0) ≡ a → OneOf (0 ∷ 2 ∷ []) (tag_of ahead-declared.the_type a) → Faultless classes text at → IsRefused (answer level_limit) classes text at no_list_goes_on (get_or cursor 1 0)
-    first-from (Symbol class) e o f = whole-closed classes text (rw (found_in cursor e) at l.0.read)
-    first-from End e o f = absurd (miss (0 ∷ 2 ∷ []) 1 tt o)
-    first-from Faulty e o f = absurd (never (sym (l.1.same ∙ ap (fault_ahead classes text) (faulty_in cursor e)) ∙ f.none))
+    first_from : (a : Ahead) → ahead_of (get_or cursor 0 0) ≡ a → OneOf (0 ∷ 2 ∷ []) (tag_of ahead-declared.the_type a) → Faultless classes text at → IsRefused (answer level_limit) classes text at no_list_goes_on (get_or cursor 1 0)
+    first_from (Symbol class) e o f = whole_closed classes text (rw (found_in cursor e) at l.0.read)
+    first_from End e o f = absurd (miss (0 ∷ 2 ∷ []) 1 tt o)
+    first_from Faulty e o f = absurd (never (sym (l.1.same ∙ ap (fault_ahead classes text) (faulty_in cursor e)) ∙ f.none))
 
-    pub first-behind : {a : Ahead} → a ≡ ahead_of (get_or cursor 0 0) → OneOf (0 ∷ 2 ∷ []) (tag_of ahead-declared.the_type a) → Faultless classes text at → IsRefused (answer level_limit) classes text at no_list_goes_on (get_or cursor 1 0)
-    first-behind {a} e o f = first-from a (sym e) o f
+    pub first_behind : {a : Ahead} → a ≡ ahead_of (get_or cursor 0 0) → OneOf (0 ∷ 2 ∷ []) (tag_of ahead-declared.the_type a) → Faultless classes text at → IsRefused (answer level_limit) classes text at no_list_goes_on (get_or cursor 1 0)
+    first_behind {a} e o f = first_from a (sym e) o f
 
   -- ---- the answer
 
   module _ {at : ℕ} (table : List ℕ) where
-    pub first-refused : {number-told place : ℕ} {r : Answer} → (Faultless classes text at → IsRefused (answer level_limit) classes text at number-told place)
+    pub first_refused : {number-told place : ℕ} {r : Answer} → (Faultless classes text at → IsRefused (answer level_limit) classes text at number-told place)
         → r ≡ unless_fault Refused (scan_by classes text at) (Refused number-told place) → FaultFirst (answer level_limit) classes text at table table r
-    first-refused s e =
+    first_refused s e =
         record {
           clean = λ f. rw (e ∙ unless_none Refused (scan_by classes text at) _ f.none) (twice_refused (answer level_limit) classes text table (s f));
           faulty = λ n p q. (e ∙ unless_refused Refused (scan_by classes text at) _ q, refl);
         }
 
     -- a list has no fault
-    listed-first : {dry half after : List ℕ} {n : ℕ} {r : Answer} → ListedClean (answer level_limit) classes text at dry half n → TwiceIs (answer level_limit) classes text at table after r → FaultFirst (answer level_limit) classes text at table after r
-    listed-first l t = record { clean = λ f. t; faulty = λ n p q. absurd (never (q ∙ l.faultless.none)) }
+    listed_first : {dry half after : List ℕ} {n : ℕ} {r : Answer} → ListedClean (answer level_limit) classes text at dry half n → TwiceIs (answer level_limit) classes text at table after r → FaultFirst (answer level_limit) classes text at table after r
+    listed_first l t = record { clean = λ f. t; faulty = λ n p q. absurd (never (q ∙ l.faultless.none)) }
 
-    pub first-no-room : {dry half : List ℕ} {n : ℕ} → ListedClean (answer level_limit) classes text at dry half n → length table / address_record_size < n → FaultFirst (answer level_limit) classes text at table table (NoRoom n)
-    first-no-room l h = listed-first l (twice_no-room (answer level_limit) classes text table l.listed h)
+    pub first_no_room : {dry half : List ℕ} {n : ℕ} → ListedClean (answer level_limit) classes text at dry half n → length table / address_record_size < n → FaultFirst (answer level_limit) classes text at table table (NoRoom n)
+    first_no_room l h = listed_first l (twice_no_room (answer level_limit) classes text table l.listed h)
 
     -- the second run is like the first
     as_whole : {dry half : List ℕ} {n : ℕ} (after : List ℕ) → ListedClean (answer level_limit) classes text at dry half n → (w : Whole) → WholeFirst (answer level_limit) classes text at table after w → WholeIs (answer level_limit) classes text at table after w
     as_whole after l (Listed m) x = x.listed
     as_whole after l (whole.Refused number-told place) x = x l.faultless
 
-    pub first-written : {dry half : List ℕ} {n : ℕ} (after : List ℕ) → ListedClean (answer level_limit) classes text at dry half n → n ≤ length table / address_record_size → (w : Whole) → WholeFirst (answer level_limit) classes text at table after w
+    pub first_written : {dry half : List ℕ} {n : ℕ} (after : List ℕ) → ListedClean (answer level_limit) classes text at dry half n → n ≤ length table / address_record_size → (w : Whole) → WholeFirst (answer level_limit) classes text at table after w
         → FaultFirst (answer level_limit) classes text at table after (Accepted n)
-    first-written after l h w x = listed-first l (twice_written (answer level_limit) classes text table after l.listed h w (as_whole after l w x))
+    first_written after l h w x = listed_first l (twice_written (answer level_limit) classes text table after l.listed h w (as_whole after l w x))
 
     -- one run beside the table, in room for all the records that so short a body can have
-    pub first-copied : (room half : List ℕ) {n : ℕ} {after : List ℕ} → at ≤ length text → length text ≤ at + once_limit → once_room ≡ length room → ListedClean (answer level_limit) classes text at room half n → n ≤ length table / address_record_size
+    pub first_copied : (room half : List ℕ) {n : ℕ} {after : List ℕ} → at ≤ length text → length text ≤ at + once_limit → once_room ≡ length room → ListedClean (answer level_limit) classes text at room half n → n ≤ length table / address_record_size
         → after ≡ sets table 0 (take (n * address_record_size) half) → FaultFirst (answer level_limit) classes text at table after (Accepted n)
-    first-copied room half {n} {after} inside few large l h e =
+    first_copied room half {n} {after} inside few large l h e =
         let k = l.listed.derivation in
         let rs = records k in
-        let c : n ≡ length rs = l.listed.count-is ∙ sym (length-records k) in
+        let c : n ≡ length rs = l.listed.count_is ∙ sym (length-records k) in
         let size : n * address_record_size ≡ length (table_bytes rs) = omega (arith, length-table address_layout rs, c) in
-        let fits : length (table_bytes rs) ≤ length room = omega (arith, size, large, few, accepted_half classes text at level_limit inside l.listed.verdict_is, l.listed.count-is) in
-        first-written after l h (Listed n)
-        record { listed = record { derivation = k; verdict_is = l.listed.verdict_is; count-is = l.listed.count-is; stored = e ∙ rw (l.listed.stored, size) (staged table room (table_bytes rs) fits) }; faultless = l.faultless }
+        let fits : length (table_bytes rs) ≤ length room = omega (arith, size, large, few, accepted_half classes text at level_limit inside l.listed.verdict_is, l.listed.count_is) in
+        first_written after l h (Listed n)
+        record { listed = record { derivation = k; verdict_is = l.listed.verdict_is; count_is = l.listed.count_is; stored = e ∙ rw (l.listed.stored, size) (staged table room (table_bytes rs) fits) }; faultless = l.faultless }

@@ -16,15 +16,15 @@ use Rattle.grammar.specs.Executable.Machine733.{in_list, Level, list, levels_at,
 use Rattle.grammar.proofs.Rfc733.Complete.{done_list, Clear, complete_done_list}
 use Rattle.grammar.proofs.Rfc733.Readers.{AddressEnds, ListEnds, ends_address}
 use Rattle.grammar.proofs.Rfc733.TreeRecords.{list_count, list_records}
-use Rattle.grammar.proofs.RecordLaws.{stored-behind}
+use Rattle.grammar.proofs.RecordLaws.{stored_behind}
 use Rattle.addresses.specs.Ties.Steps.{symbols_from, lexeme_at, symbols_on, symbols_ahead, Comes, AddressRead, AddressStops, ListRead, ListStops}
 use Rattle.addresses.specs.declared.Frame.{Frame}
 use Rattle.addresses.proofs.NextLaws.{NextIs}
 
 -- ---- the machine in a list
 
-run-comma : (n : ℕ) (k : Level) (l : AddressList) (t : Lexeme) (ys : List Sym) → run n (done_list k l) (of Comma t ∷ ys) ≡ run n (list k (idle (comma l t))) ys
-run-comma n k l t ys = rw (complete_done_list k l)
+run_comma : (n : ℕ) (k : Level) (l : AddressList) (t : Lexeme) (ys : List Sym) → run n (done_list k l) (of Comma t ∷ ys) ≡ run n (list k (idle (comma l t))) ys
+run_comma n k l t ys = rw (complete_done_list k l)
 
 -- an address may begin at a place
 abbrev ClearAt : Level → AddressList → List Sym → Type 0
@@ -50,8 +50,8 @@ module _ (classes text : List ℕ) where
     pub within : last ≤ length text
     pub free_low : free ≤ last
 
-  pub list-start : {at : ℕ} {frame : Frame} (table : List ℕ) (ahead : Next) → at ≤ length text → frame.number ≤ at → NextIs classes text at ahead → ListSoFar at frame table table ahead at frame.number
-  list-start {at} {frame} table ahead inside low x =
+  pub list_start : {at : ℕ} {frame : Frame} (table : List ℕ) (ahead : Next) → at ≤ length text → frame.number ≤ at → NextIs classes text at ahead → ListSoFar at frame table table ahead at frame.number
+  list_start {at} {frame} table ahead inside low x =
       record {
         tree = idle empty;
         reads = λ k c. ap (run (levels_at k + frame.levels) (list k (idle empty))) x.same;
@@ -66,11 +66,11 @@ module _ (classes text : List ℕ) where
       }
 
   module _ {at : ℕ} {frame : Frame} {table now : List ℕ} where
-    pub list-comma : {a b size last free : ℕ} {apart : Bool} (ahead : Next) → ListSoFar at frame table now (found_at Comma a b size apart) last free → NextIs classes text b ahead → ListSoFar at frame table now ahead b free
-    list-comma {a} {b} {apart = apart} ahead w x =
+    pub list_comma : {a b size last free : ℕ} {apart : Bool} (ahead : Next) → ListSoFar at frame table now (found_at Comma a b size apart) last free → NextIs classes text b ahead → ListSoFar at frame table now ahead b free
+    list_comma {a} {b} {apart = apart} ahead w x =
         record {
           tree = idle (comma w.tree (lexeme_at classes text Comma a b apart));
-          reads = λ k c. w.reads k c ∙ run-comma (levels_at k + frame.levels) k w.tree (lexeme_at classes text Comma a b apart) (symbols_from classes text b)
+          reads = λ k c. w.reads k c ∙ run_comma (levels_at k + frame.levels) k w.tree (lexeme_at classes text Comma a b apart) (symbols_from classes text b)
               ∙ ap (run (levels_at k + frame.levels) (list k (idle (comma w.tree (lexeme_at classes text Comma a b apart))))) x.same;
           clear = λ k c. tt;
           behind = tt;
@@ -83,10 +83,10 @@ module _ (classes text : List ℕ) where
         }
 
     -- one address more
-    pub list-address : {class : Class} {a b size last free last' free' : ℕ} {apart : Bool} (after : List ℕ) (ahead : Next) → ListSoFar at frame table now (found_at class a b size apart) last free → ends_address class ≡ false
+    pub list_address : {class : Class} {a b size last free last' free' : ℕ} {apart : Bool} (after : List ℕ) (ahead : Next) → ListSoFar at frame table now (found_at class a b size apart) last free → ends_address class ≡ false
         → AddressRead classes text (symbols_on classes text class a b apart) record { levels = frame.levels; parent = frame.parent; number = free } a now after ahead last' free'
         → ListSoFar at frame table after ahead last' free'
-    list-address {class} {a} {b} {free = free} {last' = last'} {free' = free'} {apart = apart} after ahead w f r = by w.tree w.reads w.clear w.behind w.count w.stored
+    list_address {class} {a} {b} {free = free} {last' = last'} {free' = free'} {apart = apart} after ahead w f r = by w.tree w.reads w.clear w.behind w.count w.stored
       where
         by : (l : AddressList)
             → ((k : Level) → Clear (nameless k) (atom_colon (symbols_from classes text at)) → run (levels_at k + frame.levels) (list k (idle empty)) (symbols_from classes text at) ≡ run (levels_at k + frame.levels) (done_list k l) (symbols_on classes text class a b apart))
@@ -101,16 +101,16 @@ module _ (classes text : List ℕ) where
               behind = r.ends;
               ahead_ok = r.ahead_ok;
               count = omega (arith, r.count);
-              stored = rw (stored, count) at r.stored ∙ stored-behind table frame.number p r.tree (level_limit - frame.levels) frame.parent;
+              stored = rw (stored, count) at r.stored ∙ stored_behind table frame.number p r.tree (level_limit - frame.levels) frame.parent;
               from = omega (arith, w.from, w.ahead_ok.0, r.from);
               within = r.within;
               free_low = r.free_low;
             }
         by (full p x) reads clear behind count stored = absurd (true≢false (sym behind ∙ f))
 
-    pub list-stops : {class : Class} {a b size last free number-told place : ℕ} {apart : Bool} → ListSoFar at frame table now (found_at class a b size apart) last free → ends_address class ≡ false
+    pub list_stops : {class : Class} {a b size last free number-told place : ℕ} {apart : Bool} → ListSoFar at frame table now (found_at class a b size apart) last free → ends_address class ≡ false
         → AddressStops classes text (symbols_on classes text class a b apart) record { levels = frame.levels; parent = frame.parent; number = free } number-told place → ListStops classes text at frame number-told place
-    list-stops {class} {a} {b} {apart = apart} w f s =
+    list_stops {class} {a} {b} {apart = apart} w f s =
         record { why = s.why; rest = s.rest; number_is = s.number_is; place_is = s.place_is; stops = λ k c. by k w.tree (w.reads k c) (w.clear k c) w.behind }
       where
         by : (k : Level) (l : AddressList) → run (levels_at k + frame.levels) (list k (idle empty)) (symbols_from classes text at) ≡ run (levels_at k + frame.levels) (done_list k l) (symbols_on classes text class a b apart)
@@ -119,6 +119,6 @@ module _ (classes text : List ℕ) where
         by k (idle p) reads clear behind = ap judge reads ∙ s.stops (in_list k p) clear
         by k (full p x) reads clear behind = absurd (true≢false (sym behind ∙ f))
 
-    pub list-end : {last free : ℕ} (ahead : Next) → ListSoFar at frame table now ahead last free → ListEnds (symbols_ahead classes text ahead) → ListRead classes text at frame table now ahead last free
-    list-end ahead w e =
+    pub list_end : {last free : ℕ} (ahead : Next) → ListSoFar at frame table now ahead last free → ListEnds (symbols_ahead classes text ahead) → ListRead classes text at frame table now ahead last free
+    list_end ahead w e =
         record { tree = w.tree; reads = w.reads; ends = e; ahead_ok = w.ahead_ok; count = w.count; stored = w.stored; from = w.from; within = w.within; free_low = w.free_low }

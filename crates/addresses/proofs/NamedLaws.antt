@@ -18,47 +18,47 @@ use Rattle.records.specs.declared.Span.{Span}
 use Rattle.addresses.specs.declared.Enclosure.{Enclosure}
 use Rattle.addresses.specs.declared.Enclosure.TheVariants.{Angle, Group}
 use Rattle.addresses.proofs.ClassCases.{tag, by_class, is_false}
-use Rattle.addresses.proofs.PhraseLaws.{word_of, word-symbol, word-lexeme, word-lone}
+use Rattle.addresses.proofs.PhraseLaws.{word_of, word_symbol_lem, word_lexeme_lem, word_lone}
 
 -- a symbol after a phrase that is no word and none of the marks of an address
-pub no-mark_found : (classes text : List ℕ) (class : Class) → OneOf (0 ∷ 1 ∷ 4 ∷ 5 ∷ 6 ∷ 8 ∷ 9 ∷ 10 ∷ []) (tag class) → is_word class ≡ false → follows_phrase classes text class ≡ false
-no-mark_found classes text class o e =
+pub no_mark_found : (classes text : List ℕ) (class : Class) → OneOf (0 ∷ 1 ∷ 4 ∷ 5 ∷ 6 ∷ 8 ∷ 9 ∷ 10 ∷ []) (tag class) → is_word class ≡ false → follows_phrase classes text class ≡ false
+no_mark_found classes text class o e =
     let b = by_class (0 ∷ 1 ∷ 4 ∷ 5 ∷ 6 ∷ 8 ∷ 9 ∷ 10 ∷ []) (λ c. either (is_word c) (not (follows_phrase classes text c))) tt class o in
     is_false (follows_phrase classes text class) (rw e at b)
 
 module _ (classes text : List ℕ) where
-  pub no-mark-left : (low : ℕ) (r : Next) → Comes classes text low r → OneOf (1 ∷ 2 ∷ []) (tag_of next-declared.the_type r) → NoMark classes text r
-  no-mark-left low (Found symbol) a o = absurd (miss (1 ∷ 2 ∷ []) 0 tt o)
-  no-mark-left low Ended a o = tt
-  no-mark-left low (Fault number p) a o = tt
+  pub no_mark_left : (low : ℕ) (r : Next) → Comes classes text low r → OneOf (1 ∷ 2 ∷ []) (tag_of next-declared.the_type r) → NoMark classes text r
+  no_mark_left low (Found symbol) a o = absurd (miss (1 ∷ 2 ∷ []) 0 tt o)
+  no_mark_left low Ended a o = tt
+  no_mark_left low (Fault number p) a o = tt
 
   -- the phrase that begins with a word
   abbrev pub phrase_of : (class : Class) (start end : ℕ) (apart : Bool) {lone : Bool} {r : Words} → WordsIs classes text end lone r → Phrase
   phrase_of class start end apart w = w.grow (one (word_of class (lexeme_at classes text class start end apart)))
 
-  pub named-is : (class : Class) {start end : ℕ} (apart : Bool) {lone : Bool} {r : Words} → FirstWord classes text class start end → (w : WordsIs classes text end lone r)
+  pub named_is : (class : Class) {start end : ℕ} (apart : Bool) {lone : Bool} {r : Words} → FirstWord classes text class start end → (w : WordsIs classes text end lone r)
       → Named classes text (symbols_on classes text class start end apart) record { start = start; end = r.end } (phrase_of class start end apart w) r.ahead
-  named-is class {start} {end} apart f w =
+  named_is class {start} {end} apart f w =
       let t = lexeme_at classes text class start end apart in
       let q = one (word_of class t) in
       record {
-        yields = ap (λ (x : Sym). x ∷ symbols_from classes text end) (sym (word-symbol class t f.word)) ∙ w.yields q;
-        start_is = w.start_is q ∙ ap (λ (l : Lexeme). l.start) (word-lexeme class t);
-        end_is = w.end_is q (ap (λ (l : Lexeme). l.end) (word-lexeme class t));
+        yields = ap (λ (x : Sym). x ∷ symbols_from classes text end) (sym (word_symbol_lem class t f.word)) ∙ w.yields q;
+        start_is = w.start_is q ∙ ap (λ (l : Lexeme). l.start) (word_lexeme_lem class t);
+        end_is = w.end_is q (ap (λ (l : Lexeme). l.end) (word_lexeme_lem class t));
       }
 
-  pub named-lone : (class : Class) (start end : ℕ) (apart : Bool) {lone : Bool} {r : Words} → lone ≡ is_quoted class → (w : WordsIs classes text end lone r) → r.lone ≡ lone_quoted (phrase_of class start end apart w)
-  named-lone class start end apart e w = let t = lexeme_at classes text class start end apart in w.lone_is (one (word_of class t)) (e ∙ word-lone class t)
+  pub named_lone : (class : Class) (start end : ℕ) (apart : Bool) {lone : Bool} {r : Words} → lone ≡ is_quoted class → (w : WordsIs classes text end lone r) → r.lone ≡ lone_quoted (phrase_of class start end apart w)
+  named_lone class start end apart e w = let t = lexeme_at classes text class start end apart in w.lone_is (one (word_of class t)) (e ∙ word_lone class t)
 
-  house-named : (e : Enclosure) (p : Phrase) (ys : List Sym) → House e (some p) ys
-  house-named Angle p ys = tt
-  house-named Group p ys = tt
+  house_named : (e : Enclosure) (p : Phrase) (ys : List Sym) → House e (some p) ys
+  house_named Angle p ys = tt
+  house_named Group p ys = tt
 
   -- a phrase before the mark of an enclosed list is its name
-  pub named-opening : (e : Enclosure) {xs : List Sym} {span : Span} {p : Phrase} {a b size : ℕ} {apart : Bool} → Named classes text xs span p (found_at (opening e) a b size apart) → Opening classes text e xs a b span
-  named-opening e {p = p} {b = b} {apart = apart} n =
-      record { name = some p; apart = apart; yields = n.yields; start_is = sym n.start_is; end_is = sym n.end_is; house = house-named e p (symbols_from classes text b) }
+  pub named_opening : (e : Enclosure) {xs : List Sym} {span : Span} {p : Phrase} {a b size : ℕ} {apart : Bool} → Named classes text xs span p (found_at (opening e) a b size apart) → Opening classes text e xs a b span
+  named_opening e {p = p} {b = b} {apart = apart} n =
+      record { name = some p; apart = apart; yields = n.yields; start_is = sym n.start_is; end_is = sym n.end_is; house = house_named e p (symbols_from classes text b) }
 
   -- the mark that stands after a phrase
-  pub named-before : {xs : List Sym} {span : Span} {p : Phrase} {r s : Next} → Named classes text xs span p r → r ≡ s → Named classes text xs span p s
-  named-before {p = p} n e = record { yields = n.yields ∙ ap (λ (a : Next). phrase_then p (symbols_ahead classes text a)) e; start_is = n.start_is; end_is = n.end_is }
+  pub named_before : {xs : List Sym} {span : Span} {p : Phrase} {r s : Next} → Named classes text xs span p r → r ≡ s → Named classes text xs span p s
+  named_before {p = p} n e = record { yields = n.yields ∙ ap (λ (a : Next). phrase_then p (symbols_ahead classes text a)) e; start_is = n.start_is; end_is = n.end_is }

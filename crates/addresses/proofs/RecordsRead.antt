@@ -22,7 +22,7 @@ use Rattle.grammar.proofs.Any.Positions.{SymbolsUpTo, ReadBack, read_back}
 use Rattle.addresses.specs.Believed.Editions.{Edition, edition733, edition822}
 use Rattle.addresses.specs.Believed.Outcome.{Outcome, refusal, derived, outcome}
 use Rattle.addresses.proofs.BodyRecords.{records_half}
-use Rattle.addresses.proofs.Judgements.{ListBodyIn, ListBody, Judged, refused_at, listed, listed-read, judged}
+use Rattle.addresses.proofs.Judgements.{ListBodyIn, ListBody, Judged, refused_at, listed, listed_read, judged}
 
 -- ---- in any edition
 
@@ -38,16 +38,16 @@ takes_822 limit [] u = tt
 takes_822 limit (x ∷ xs) u = (u.0, u.1, takes_822 limit xs u.2)
 
 -- the symbols of a text do not lie past its end
-placed-up-to : {classes text : List ℕ} {end at limit : ℕ} {xs : List (Symbol Class)} → end ≤ limit → Placed classes text end at xs → SymbolsUpTo limit xs
-placed-up-to h none = tt
-placed-up-to h (one a b c q m rest) = (omega arith, omega arith, placed-up-to h rest)
+placed_up_to : {classes text : List ℕ} {end at limit : ℕ} {xs : List (Symbol Class)} → end ≤ limit → Placed classes text end at xs → SymbolsUpTo limit xs
+placed_up_to h none = tt
+placed_up_to h (one a b c q m rest) = (omega arith, omega arith, placed_up_to h rest)
 
 -- the records of a list in a body are read back
-pub body-read_back : {N : Type 0} (edition : Edition N) → TakesInPlace edition → {message : List ℕ} {start end : ℕ} {k : Forest Class N} → ListBodyIn edition message start end k → ReadBack k
-body-read_back edition takes {message} {start} {end} {k} b =
+pub body_read_back : {N : Type 0} (edition : Edition N) → TakesInPlace edition → {message : List ℕ} {start end : ℕ} {k : Forest Class N} → ListBodyIn edition message start end k → ReadBack k
+body_read_back edition takes {message} {start} {end} {k} b =
     let text = take end message in
     let within : length text ≤ message_limit = omega (arith, length-take-le end message b.clean.inside, b.clean.inside, b.clean.short) in
-    let u = takes message_limit _ (placed-up-to within (placed edition.classes text start)) in
+    let u = takes message_limit _ (placed_up_to within (placed edition.classes text start)) in
     read_back k message_limit (omega arith) (rw b.list.derived.yields u)
 
 -- ---- in RFC 733
@@ -55,7 +55,7 @@ body-read_back edition takes {message} {start} {end} {k} b =
 -- the record of each address is read back
 pub record_read : {message : List ℕ} {start end : ℕ} {k : Derivation} → ListBody message start end k → (table : List ℕ) → count k * address_record_size ≤ length table
     → (i : ℕ) → i < count k → record_in (sets table 0 (table_bytes (records k))) i ≡ get_or (records k) i no_record
-record_read b table fits i l = body-read_back edition733 takes_733 b table fits i l (omega (arith, records_half b, b.clean.inside, b.clean.short))
+record_read b table fits i l = body_read_back edition733 takes_733 b table fits i l (omega (arith, records_half b, b.clean.inside, b.clean.short))
 
 -- ---- an accepted body
 
@@ -68,11 +68,11 @@ AcceptedList message start end table n =
 module _ (message : List ℕ) (start end : ℕ) (table : List ℕ) (n : ℕ) (e : (outcome message start end table).answer ≡ Accepted n) where
   by_room : (k : Derivation) → ListBody message start end k → (test : Bool) → ltb (room_for address_record_size table) (count k) ≡ test → AcceptedList message start end table n
   by_room k b true t =
-      let f : (outcome message start end table).answer ≡ NoRoom (count k) = ap (λ (o : Outcome). o.answer) (listed-read b (refusal table) (derived table)) ∙ rw t in
+      let f : (outcome message start end table).answer ≡ NoRoom (count k) = ap (λ (o : Outcome). o.answer) (listed_read b (refusal table) (derived table)) ∙ rw t in
       absurd (let z : ◌≡◌ {A = ℕ} 0 1 = cc in omega arith)
   by_room k b false t =
-      let f : (outcome message start end table).answer ≡ Accepted (count k) = ap (λ (o : Outcome). o.answer) (listed-read b (refusal table) (derived table)) ∙ rw t in
-      let g : (outcome message start end table).table ≡ sets table 0 (table_bytes (records k)) = ap (λ (o : Outcome). o.table) (listed-read b (refusal table) (derived table)) ∙ rw t in
+      let f : (outcome message start end table).answer ≡ Accepted (count k) = ap (λ (o : Outcome). o.answer) (listed_read b (refusal table) (derived table)) ∙ rw t in
+      let g : (outcome message start end table).table ≡ sets table 0 (table_bytes (records k)) = ap (λ (o : Outcome). o.table) (listed_read b (refusal table) (derived table)) ∙ rw t in
       let c : n ≡ count k = cc in
       (k, b, c, omega (arith, ltb-false (room_for address_record_size table) (count k) t), g)
 
@@ -82,5 +82,5 @@ module _ (message : List ℕ) (start end : ℕ) (table : List ℕ) (n : ℕ) (e 
       absurd (let z : ◌≡◌ {A = ℕ} 0 1 = cc in omega arith)
   by_judgement (listed k b) = by_room k b _ refl
 
-  pub accepted-list : AcceptedList message start end table n
-  accepted-list = by_judgement (judged message start end)
+  pub accepted_list : AcceptedList message start end table n
+  accepted_list = by_judgement (judged message start end)

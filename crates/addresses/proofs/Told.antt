@@ -16,7 +16,7 @@ use Rattle.records.specs.Believed.AddressRecords.{address_record_size}
 use Rattle.grammar.specs.Believed.Records.{count}
 use Rattle.grammar.specs.Believed.Rfc733.{Derivation}
 use Rattle.addresses.specs.Believed.Outcome.{Outcome, refusal, derived, outcome}
-use Rattle.addresses.proofs.Judgements.{ListBody, RefusedBody, Judged, refused_at, listed, listed-read, judged}
+use Rattle.addresses.proofs.Judgements.{ListBody, RefusedBody, Judged, refused_at, listed, listed_read, judged}
 
 -- what is read of a list is no refusal
 derived_by : (test : Bool) (n p : ℕ) (one other : Outcome) {m m' : ℕ} → one.answer ≡ NoRoom m → other.answer ≡ Accepted m' → Refused n p ≡ (pick test one other).answer → ⊥
@@ -36,7 +36,7 @@ module _ (message : List ℕ) (start end : ℕ) where
       let j : p ≡ q = cc in
       rw (i, j) f
   refused_by (listed k b) table n p e =
-      absurd (derived_by (ltb (room_for address_record_size table) (count k)) n p _ _ refl refl (e ∙ ap (λ (z : Outcome). z.answer) (listed-read b (refusal table) (derived table))))
+      absurd (derived_by (ltb (room_for address_record_size table) (count k)) n p _ _ refl refl (e ∙ ap (λ (z : Outcome). z.answer) (listed_read b (refusal table) (derived table))))
 
   -- the reader refuses
   pub refused_told : (table : List ℕ) (n p : ℕ) → Refused n p ≡ (outcome message start end table).answer → RefusedBody message start end n p

@@ -14,7 +14,7 @@ use Rattle.octets.specs.declared.answers.Answer.TheVariants.{Accepted, Refused}
 use Rattle.octets.proofs.AnswerLaws.{answered}
 use Rattle.records.specs.Believed.AddressRecords.{table_bytes}
 use Rattle.scanner.specs.Believed.Answers.{body_checked}
-use Rattle.scanner.proofs.BodyChecks.{Ordered, refused-body, clean-body, body_case, when_refused, not_passed, in_its_order}
+use Rattle.scanner.proofs.BodyChecks.{Ordered, refused_body, clean_body, body_case, when_refused, not_passed, in_its_order}
 use Rattle.scanner.specs.declared.Next.{Next}
 use Rattle.scanner.specs.Believed.Answers.{found_at}
 use Rattle.grammar.specs.Believed.Language.{unfit, accepted, refused}
@@ -24,7 +24,7 @@ use Rattle.grammar.specs.Executable.Trees733.{as_forest, Class, Lexeme, Sym, of,
 use Rattle.grammar.proofs.Rfc733.Complete.{done_list, complete_done_list}
 use Rattle.grammar.proofs.Symbols.{each_of}
 use Rattle.grammar.proofs.Rfc733.Readers.{ListEnds, ends_list}
-use Rattle.grammar.proofs.Rfc733.TreeRecords.{tree-records, tree-count}
+use Rattle.grammar.proofs.Rfc733.TreeRecords.{tree_records, tree_count}
 use Rattle.addresses.specs.Believed.Editions.{edition733}
 use Rattle.addresses.specs.Believed.Outcome.{Outcome, AnsweredBy, refusal, outcome}
 use Rattle.addresses.specs.Believed.Condition3.{Condition3}
@@ -59,20 +59,20 @@ module _ (classes text : List ℕ) where
     pub verdict_closed : {last free a b size : ℕ} {apart : Bool} {class : Class} {table after : List ℕ} → ListRead classes text at (outermost limit) table after (found_at class a b size apart) last free → answer limit (symbols_from classes text at) ≡ refused unfit (symbols_on classes text class a b apart)
     verdict_closed {a = a} {b = b} {apart = apart} {class = class} l = ap as_forests (ap judge (subst (λ (n : ℕ). run n (list top (idle empty)) (symbols_from classes text at) ≡ run n (done_list top l.tree) (of class (lexeme_at classes text class a b apart) ∷ symbols_from classes text b)) (zero-add limit) (l.reads top tt)) ∙ not_closed limit l.tree class (lexeme_at classes text class a b apart) (symbols_from classes text b) l.ends)
 
-  pub whole-listed : {at last free : ℕ} {table after : List ℕ} (ahead : Next) → ListRead classes text at (outermost level_limit) table after ahead last free → symbols_ahead classes text ahead ≡ [] → IsListed (answer level_limit) classes text at table after free
-  whole-listed {at} {table = table} ahead l e =
+  pub whole_listed : {at last free : ℕ} {table after : List ℕ} (ahead : Next) → ListRead classes text at (outermost level_limit) table after ahead last free → symbols_ahead classes text ahead ≡ [] → IsListed (answer level_limit) classes text at table after free
+  whole_listed {at} {table = table} ahead l e =
       record {
         derivation = as_forest l.tree;
         verdict_is = verdict_listed level_limit at ahead l e;
-        count-is = omega (arith, l.count, tree-count l.tree);
-        stored = l.stored ∙ ap (λ rs. sets table 0 (table_bytes rs)) (sym (tree-records l.tree));
+        count_is = omega (arith, l.count, tree_count l.tree);
+        stored = l.stored ∙ ap (λ rs. sets table 0 (table_bytes rs)) (sym (tree_records l.tree));
       }
 
-  pub whole-stops : {at number-told place : ℕ} → ListStops classes text at (outermost level_limit) number-told place → IsRefused (answer level_limit) classes text at number-told place
-  whole-stops {at} s = record { why = s.why; rest = s.rest; verdict_is = verdict_stops level_limit at s; number_is = s.number_is; place_is = s.place_is }
+  pub whole_stops : {at number-told place : ℕ} → ListStops classes text at (outermost level_limit) number-told place → IsRefused (answer level_limit) classes text at number-told place
+  whole_stops {at} s = record { why = s.why; rest = s.rest; verdict_is = verdict_stops level_limit at s; number_is = s.number_is; place_is = s.place_is }
 
-  pub whole-closed : {at last free a b size : ℕ} {apart : Bool} {class : Class} {table after : List ℕ} → ListRead classes text at (outermost level_limit) table after (found_at class a b size apart) last free → IsRefused (answer level_limit) classes text at no_list_goes_on a
-  whole-closed {at} l = record { why = unfit; rest = _; verdict_is = verdict_closed level_limit at l; number_is = refl; place_is = refl }
+  pub whole_closed : {at last free a b size : ℕ} {apart : Bool} {class : Class} {table after : List ℕ} → ListRead classes text at (outermost level_limit) table after (found_at class a b size apart) last free → IsRefused (answer level_limit) classes text at no_list_goes_on a
+  whole_closed {at} l = record { why = unfit; rest = _; verdict_is = verdict_closed level_limit at l; number_is = refl; place_is = refl }
 
 -- ---- condition 3
 
@@ -90,18 +90,18 @@ promised message start end table o e =
     (a, settles message start end table o.answer o.table a)
 
 -- a body that the checks refuse
-pub unfit-promised : (message : List ℕ) (start end : ℕ) (table : List ℕ) {n p : ℕ} → Refused n p ≡ body_checked Refused message start end (Accepted 0) → Promised message start end table (Refused n p) table
-unfit-promised message start end table {n} {p} e = promised message start end table (refusal table n p) (not_passed message start end (refusal table) _ e)
+pub unfit_promised : (message : List ℕ) (start end : ℕ) (table : List ℕ) {n p : ℕ} → Refused n p ≡ body_checked Refused message start end (Accepted 0) → Promised message start end table (Refused n p) table
+unfit_promised message start end table {n} {p} e = promised message start end table (refusal table n p) (not_passed message start end (refusal table) _ e)
 
 -- a body that they pass: what is told first is its first fault, and then what is decided
-pub first-promised : (message : List ℕ) (start end : ℕ) (table after : List ℕ) (r : Answer) → Ordered message start end
+pub first_promised : (message : List ℕ) (start end : ℕ) (table after : List ℕ) (r : Answer) → Ordered message start end
     → FaultFirst (answer level_limit) class_table (take end message) start table after r → Promised message start end table r after
-first-promised message start end table after r o x =
+first_promised message start end table after r o x =
     elim (body_case message start end) [
-      | refused-body n p e ↦
+      | refused_body n p e ↦
           let q = x.faulty n p (e ∙ in_its_order message start end Refused _ o) in
           rw (q.0, q.1) (promised message start end table (refusal table n p) (when_refused message start end (refusal table) _ e))
-      | clean-body c ↦
+      | clean_body c ↦
           let y = any.twice_outcome edition733 (answer level_limit) message start end c.short c.ordered c.inside c.faultless (x.clean (record { none = c.faultless })) in
           (y, settles message start end table r after y)
     ]

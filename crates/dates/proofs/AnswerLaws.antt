@@ -20,17 +20,17 @@ use Rattle.dates.specs.declared.form.Reading.{Reading}
 use Rattle.dates.specs.declared.DateAnswer.{DateAnswer}
 use Rattle.dates.specs.declared.DateAnswer.TheVariants.{Refused}
 use Rattle.dates.proofs.PartLaws.{left_here}
-use Rattle.dates.proofs.GrammarLaws.{reads-right, unique}
+use Rattle.dates.proofs.GrammarLaws.{reads_right, unique}
 
 -- what is read of parts settles them
 settled : (l : List Part) (start : ℕ) → Settled l start (reading_answer start (reading_of l))
 settled l start =
-    let x = reads-right l in
+    let x = reads_right l in
     record {
-      one-date = unique l;
+      one_date = unique l;
       possible = λ w value d e. rw (x.read w d, e);
       impossible = λ w d e. rw (x.read w d, e);
-      no-date = λ n. rw (x.unread n);
+      no_date = λ n. rw (x.unread n);
     }
 
 module _ (message : List ℕ) (start end : ℕ) (h : length message ≤ message_limit) (k : start ≤ end) (l : end ≤ length message) where

@@ -106,9 +106,9 @@ module _ (month : ℕ) (h : month < 12) where
   in_year false = omega (arith, leb→le (get_or (before false) month 0) 365 (at (short 365) (before false) 0 tt month h))
 
   -- the days before a month stand in the table
-  pub before-month : (year : ℕ) (leap_year : Bool) → leap year ≡ leap_year → (get_or (before leap_year) month 0 ≡ days_before_month year month) × (get_or (before leap_year) month 0 < 366)
+  pub before_month : (year : ℕ) (leap_year : Bool) → leap year ≡ leap_year → (get_or (before leap_year) month 0 ≡ days_before_month year month) × (get_or (before leap_year) month 0 < 366)
   unfolding days_before_month
-  before-month year leap_year e = (summed leap_year ∙ ap (λ (t : Bool). sum (take month (month_lengths t))) (sym e), in_year leap_year)
+  before_month year leap_year e = (summed leap_year ∙ ap (λ (t : Bool). sum (take month (month_lengths t))) (sym e), in_year leap_year)
 
   at_most_31 : (leap_year : Bool) → get_or (month_lengths leap_year) month 0 ≤ 31
   at_most_31 true = leb→le _ _ (at (short 31) (month_lengths true) 0 tt month h)
@@ -119,9 +119,9 @@ unfolding month_length
 length-of year month leap_year e = ap (λ (t : Bool). get_or (month_lengths t) month 0) (sym e)
 
 -- there are twelve
-pub no-month : (year month : ℕ) → 12 ≤ month → 0 ≡ month_length year month
+pub no_month : (year month : ℕ) → 12 ≤ month → 0 ≡ month_length year month
 unfolding month_length
-no-month year month h = sym (get_or-eq_default (month_lengths (leap year)) 0 h)
+no_month year month h = sym (get_or-eq_default (month_lengths (leap year)) 0 h)
 
 pub length-small : (year month : ℕ) → month < 12 → month_length year month ≤ 31
 unfolding month_length

@@ -18,7 +18,7 @@ use Rattle.octets.specs.Believed.Choice.{pick}
 use Rattle.octets.specs.Believed.Classes.{letter, digit}
 use Rattle.octets.specs.Believed.Text.{part}
 use Rattle.octets.proofs.Tables.{at}
-use Rattle.octets.proofs.Parts.{part-cons, part_none, part_length}
+use Rattle.octets.proofs.Parts.{part_cons, part_none, part_length}
 use Rattle.dates.specs.Believed.Names.{place, zone_minutes}
 use Rattle.dates.specs.Believed.Parts.{Part}
 use Rattle.dates.specs.Believed.Grammar.{decimal_from, decimal}
@@ -29,10 +29,10 @@ use Rattle.dates.specs.Ties.Steps.{PartIs, DigitRunIs, NamedIs}
 
 module _ (text : List ℕ) (v p stop : ℕ) where
   pub decimal_step : p < stop → stop ≤ length text → decimal_from v (part text p stop) ≡ decimal_from (v * 10 + (get_or text p 0 - 48)) (part text (p + 1) stop)
-  decimal_step h w = ap (λ (l : List ℕ). decimal_from v l) (part-cons text p stop h w)
+  decimal_step h w = ap (λ (l : List ℕ). decimal_from v l) (part_cons text p stop h w)
 
-  pub decimal-end : stop ≤ p → decimal_from v (part text p stop) ≡ v
-  decimal-end h = ap (λ (l : List ℕ). decimal_from v l) (part_none text p stop h)
+  pub decimal_end : stop ≤ p → decimal_from v (part text p stop) ≡ v
+  decimal_end h = ap (λ (l : List ℕ). decimal_from v l) (part_none text p stop h)
 
 pub grows : (v x n : ℕ) → v < 1000 ^ n → x < 256 → v * 10 + x < 1000 ^ (n + 1)
 grows v x n h k = let e : 1000 ^ (n + 1) ≡ 1000 ^ n * 1000 = rw add-one (pow-suc 1000 n) in omega arith
@@ -47,7 +47,7 @@ module _ {classes text : List ℕ} {l : List Part} {cursor : List ℕ} (x : Part
   unfolding digits_of up_to_six decimal
   no_digits n =
       let e = ne_eqb (get_or cursor 0 0) digit n in
-      record { count-is = rw (x.token.key-is, e); value_is = rw (x.token.key-is, e); small = omega arith; next = λ a b. absurd (omega arith) }
+      record { count_is = rw (x.token.key_is, e); value_is = rw (x.token.key_is, e); small = omega arith; next = λ a b. absurd (omega arith) }
 
   -- a run of digits, of which at most six have a value
   pub some_digits : {next : List ℕ} → get_or cursor 0 0 ≡ digit → (v : ℕ) → v ≡ pick (ltb 6 (get_or cursor 2 0 - get_or cursor 1 0)) 0 (decimal (part text (get_or cursor 1 0) (get_or cursor 2 0))) → v < 1000000000000000000
@@ -55,19 +55,19 @@ module _ {classes text : List ℕ} {l : List Part} {cursor : List ℕ} (x : Part
   unfolding digits_of up_to_six
   some_digits e v m s f =
       let t = x.token in
-      let d : digits_of l ≡ part text (get_or cursor 1 0) (get_or cursor 2 0) = rw (t.key-is, eq-eqb (get_or cursor 0 0) digit e, t.bytes-are) in
+      let d : digits_of l ≡ part text (get_or cursor 1 0) (get_or cursor 2 0) = rw (t.key_is, eq-eqb (get_or cursor 0 0) digit e, t.bytes_are) in
       let n : length (part text (get_or cursor 1 0) (get_or cursor 2 0)) ≡ get_or cursor 2 0 - get_or cursor 1 0 = part_length text (get_or cursor 1 0) (get_or cursor 2 0) (omega (arith, t.spot.order, t.spot.inside)) in
-      record { count-is = rw d n; value_is = rw (d, n) (sym m); small = s; next = λ a b. f b }
+      record { count_is = rw d n; value_is = rw (d, n) (sym m); small = s; next = λ a b. f b }
 
   module _ (names : List (List ℕ)) where
     pub no_letters : (get_or cursor 0 0 ≡ letter → ⊥) → (n : ℕ) → length names ≡ n → NamedIs classes text names l cursor n
     unfolding named
-    no_letters k n e = record { place_is = rw (x.token.key-is, ne_eqb (get_or cursor 0 0) letter k) e; next = rw (le-ltb n (length names) (omega arith)) x }
+    no_letters k n e = record { place_is = rw (x.token.key_is, ne_eqb (get_or cursor 0 0) letter k) e; next = rw (le-ltb n (length names) (omega arith)) x }
 
     -- the place of a name, in the table or past it
     pub a_name : {next : List ℕ} → get_or cursor 0 0 ≡ letter → (n : ℕ) → n ≡ place names (part text (get_or cursor 1 0) (get_or cursor 2 0)) → PartIs classes text (pick (ltb n (length names)) (after l) l) next → NamedIs classes text names l next n
     unfolding named
-    a_name k n e y = record { place_is = rw (x.token.key-is, eq-eqb (get_or cursor 0 0) letter k, x.token.bytes-are) (sym e); next = y }
+    a_name k n e y = record { place_is = rw (x.token.key_is, eq-eqb (get_or cursor 0 0) letter k, x.token.bytes_are) (sym e); next = y }
 
   pub all_done : get_or cursor 0 0 ≡ 1 → done l ≡ true
   unfolding done
@@ -75,7 +75,7 @@ module _ {classes text : List ℕ} {l : List Part} {cursor : List ℕ} (x : Part
 
 pub not_done : {classes text : List ℕ} {l : List Part} {cursor : List ℕ} → PartIs classes text l cursor → (get_or cursor 0 0 ≡ 1 → ⊥) → done l ≡ false
 unfolding done first_key
-not_done {l = []} x n = absurd (n (sym x.token.key-is))
+not_done {l = []} x n = absurd (n (sym x.token.key_is))
 not_done {l = p ∷ l} x n = refl
 
 -- ---- the zone

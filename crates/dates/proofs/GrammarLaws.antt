@@ -14,7 +14,7 @@ use Rattle.octets.specs.Believed.Classes.{letter, digit}
 use Rattle.octets.specs.Believed.Octets.{plus_byte, comma_byte, minus_byte, colon_byte}
 use Rattle.dates.specs.Believed.Names.{day_names, month_names, zone_names, zone_minutes, place, ahead, behind}
 use Rattle.dates.specs.Believed.Parts.{Part}
-use Rattle.dates.specs.Believed.Grammar.{num, offset_of, Digits, Name, DayNameIs, day_name, no_day_name, DashIs, dash, no-dash, DayIs, one-digit, two_digits, MonthIs, month, YearIs, short_year, full_year, HourIs, four, six, two_two, two_four, four_two, two_two_two, ZoneIs, zone-name, dashed_name, east, west, DateIs, date}
+use Rattle.dates.specs.Believed.Grammar.{num, offset_of, Digits, Name, DayNameIs, day_name, no_day_name, DashIs, dash, no_dash, DayIs, one_digit, two_digits, MonthIs, month, YearIs, short_year, full_year, HourIs, four, six, two_two, two_four, four_two, two_two_two, ZoneIs, zone_name, dashed_name, east, west, DateIs, date}
 use Rattle.dates.specs.Executable.Form.{first_key, first_bytes, after, done, digits_of, up_to_six, named, Hour, no_hour, hour, second_from, second_after, minute_from, minute_after, hour_from, hour_of, Zoned, no_zone, zoned, zone_from, zone_named, signed_from, zone_signed, zone_of, end_after, zone_after, hour_after, past_dash, year_from, year_after, month_from, month_after, day_from, day_after, reading_from, reading_of, ReadsRight}
 use Rattle.dates.specs.declared.form.Offset.{Offset}
 use Rattle.dates.specs.declared.form.Offset.TheVariants.{Minutes}
@@ -24,35 +24,35 @@ use Rattle.dates.specs.declared.form.Reading.TheVariants.{Wrong, Right}
 
 -- ---- what the grammar derives is read
 
-read-zone : {l : List Part} {offset : Offset} → ZoneIs l offset → zone_of l ≡ zoned offset []
+read_zone : {l : List Part} {offset : Offset} → ZoneIs l offset → zone_of l ≡ zoned offset []
 unfolding zone_of zone_signed zone_named named up_to_six digits_of first_key first_bytes after
-read-zone (zone-name n) = rw (n.run, n.called, lt-ltb _ _ n.known)
-read-zone (dashed_name e n) = rw (e, n.run, n.called, lt-ltb _ _ n.known)
-read-zone (east e d) = rw (e, d.run, d.many)
-read-zone (west e d) = rw (e, d.run, d.many)
+read_zone (zone_name n) = rw (n.run, n.called, lt-ltb _ _ n.known)
+read_zone (dashed_name e n) = rw (e, n.run, n.called, lt-ltb _ _ n.known)
+read_zone (east e d) = rw (e, d.run, d.many)
+read_zone (west e d) = rw (e, d.run, d.many)
 
 -- a zone does not start with a colon
-zone-starts : {l : List Part} {offset : Offset} → ZoneIs l offset → eqb (first_key l) colon_byte ≡ false
+zone_starts : {l : List Part} {offset : Offset} → ZoneIs l offset → eqb (first_key l) colon_byte ≡ false
 unfolding first_key
-zone-starts (zone-name n) = rw n.run
-zone-starts (dashed_name e n) = rw e
-zone-starts (east e d) = rw e
-zone-starts (west e d) = rw e
+zone_starts (zone_name n) = rw n.run
+zone_starts (dashed_name e n) = rw e
+zone_starts (east e d) = rw e
+zone_starts (west e d) = rw e
 
-read-hour : {l r : List Part} {h m s : ℕ} → HourIs l h m s r → eqb (first_key r) colon_byte ≡ false → hour_of l ≡ hour h m s r
+read_hour : {l r : List Part} {h m s : ℕ} → HourIs l h m s r → eqb (first_key r) colon_byte ≡ false → hour_of l ≡ hour h m s r
 unfolding hour_of minute_after second_after up_to_six digits_of first_key first_bytes after
-read-hour (four d) c = rw (d.run, d.many, c)
-read-hour (six d) c = rw (d.run, d.many)
-read-hour (two_two d e f) c = rw (d.run, d.many, e, f.run, f.many, c)
-read-hour (two_four d e f) c = rw (d.run, d.many, e, f.run, f.many)
-read-hour (four_two d e f) c = rw (d.run, d.many, e, f.run, f.many)
-read-hour (two_two_two d e f g k) c = rw (d.run, d.many, e, f.run, f.many, g, k.run, k.many)
+read_hour (four d) c = rw (d.run, d.many, c)
+read_hour (six d) c = rw (d.run, d.many)
+read_hour (two_two d e f) c = rw (d.run, d.many, e, f.run, f.many, c)
+read_hour (two_four d e f) c = rw (d.run, d.many, e, f.run, f.many)
+read_hour (four_two d e f) c = rw (d.run, d.many, e, f.run, f.many)
+read_hour (two_two_two d e f g k) c = rw (d.run, d.many, e, f.run, f.many, g, k.run, k.many)
 
 module _ (name d m : ℕ) where
-  read-end : {l r : List Part} {y h mi s : ℕ} {offset : Offset} → HourIs l h mi s r → ZoneIs r offset
+  read_end : {l r : List Part} {y h mi s : ℕ} {offset : Offset} → HourIs l h mi s r → ZoneIs r offset
       → hour_after name d m y l ≡ Right (record { name = name; day = d; month = m; year = y; hour = h; minute = mi; second = s; zone = offset })
   unfolding hour_after done
-  read-end h z = rw (read-hour h (zone-starts z), read-zone z)
+  read_end h z = rw (read_hour h (zone_starts z), read_zone z)
 
   read_year : {l r : List Part} {y : ℕ} → YearIs l y r → year_after name d m l ≡ hour_after name d m y r
   unfolding year_after up_to_six digits_of first_key first_bytes after
@@ -65,27 +65,27 @@ unfolding first_key
 year_starts (short_year e) = rw e.run
 year_starts (full_year e) = rw e.run
 
-month-starts : {l r : List Part} {m : ℕ} → MonthIs l m r → eqb (first_key l) minus_byte ≡ false
+month_starts : {l r : List Part} {m : ℕ} → MonthIs l m r → eqb (first_key l) minus_byte ≡ false
 unfolding first_key
-month-starts (month e) = rw e.run
+month_starts (month e) = rw e.run
 
-read-dash : {l r : List Part} → DashIs l r → eqb (first_key r) minus_byte ≡ false → past_dash l ≡ r
+read_dash : {l r : List Part} → DashIs l r → eqb (first_key r) minus_byte ≡ false → past_dash l ≡ r
 unfolding past_dash first_key after
-read-dash (dash e) c = rw e
-read-dash no-dash c = rw c
+read_dash (dash e) c = rw e
+read_dash no_dash c = rw c
 
-read-month : (name d : ℕ) {l r : List Part} {m : ℕ} → MonthIs l m r → month_after name d l ≡ year_after name d m (past_dash r)
+read_month : (name d : ℕ) {l r : List Part} {m : ℕ} → MonthIs l m r → month_after name d l ≡ year_after name d m (past_dash r)
 unfolding month_after named first_key first_bytes after
-read-month name d (month n) = rw (n.run, n.called, lt-ltb _ _ n.known)
+read_month name d (month n) = rw (n.run, n.called, lt-ltb _ _ n.known)
 
 read_day : (name : ℕ) {l r : List Part} {d : ℕ} → DayIs l d r → day_after name l ≡ month_after name d (past_dash r)
 unfolding day_after up_to_six digits_of first_key first_bytes after
-read_day name (one-digit e) = rw (e.run, e.many)
+read_day name (one_digit e) = rw (e.run, e.many)
 read_day name (two_digits e) = rw (e.run, e.many)
 
 day_starts : {l r : List Part} {d : ℕ} → DayIs l d r → reading_of l ≡ day_after (length day_names) l
 unfolding reading_of named first_key first_bytes
-day_starts (one-digit e) = rw e.run
+day_starts (one_digit e) = rw e.run
 day_starts (two_digits e) = rw e.run
 
 read_day_name : {l r q : List Part} {name d : ℕ} → DayNameIs l name r → DayIs r d q → reading_of l ≡ day_after name r
@@ -96,8 +96,8 @@ read_day_name no_day_name x = day_starts x
 -- a derivation is read as its date
 complete : {l : List Part} {w : Written} → DateIs l w → reading_of l ≡ Right w
 complete (date {name = name} {d = d} {m = m} n x f g k y h z) =
-    read_day_name n x ∙ read_day name x ∙ ap (λ (l : List Part). month_after name d l) (read-dash f (month-starts g)) ∙ read-month name d g
-    ∙ ap (λ (l : List Part). year_after name d m l) (read-dash k (year_starts y)) ∙ read_year name d m y ∙ read-end name d m h z
+    read_day_name n x ∙ read_day name x ∙ ap (λ (l : List Part). month_after name d l) (read_dash f (month_starts g)) ∙ read_month name d g
+    ∙ ap (λ (l : List Part). year_after name d m l) (read_dash k (year_starts y)) ∙ read_year name d m y ∙ read_end name d m h z
 
 -- ---- what is read the grammar derives
 
@@ -167,10 +167,10 @@ abbrev ZoneOk : List Part → Zoned → Type 0
 ZoneOk l no_zone = Unit {0}
 ZoneOk l (zoned offset r) = r ≡ [] → ZoneIs l offset
 
-zone-name_ok : (l q : List Part) → ((p : Part) (z : ℕ) → q ≡ p ∷ [] → Name zone_names z p → ZoneIs l (Minutes (get_or zone_minutes z (pos 0)))) → ZoneOk l (zone_named q)
+zone_name_ok : (l q : List Part) → ((p : Part) (z : ℕ) → q ≡ p ∷ [] → Name zone_names z p → ZoneIs l (Minutes (get_or zone_minutes z (pos 0)))) → ZoneOk l (zone_named q)
 unfolding zone_named named first_key first_bytes after
-zone-name_ok l [] f = tt
-zone-name_ok l (p ∷ r) f =
+zone_name_ok l [] f = tt
+zone_name_ok l (p ∷ r) f =
     pick_eq (λ n. ZoneOk l (zone_from n r)) p.key letter
     (λ e. pick_lt (ZoneOk l) (place zone_names p.bytes) 43 (λ h w. f p (place zone_names p.bytes) (ap (λ (x : List Part). p ∷ x) w) record { run = e; called = refl; known = h }) tt) tt
 
@@ -191,8 +191,8 @@ zone_ok (s ∷ r) =
     (pick_eq (ZoneOk (s ∷ r)) s.key minus_byte
     (λ e. pick_eq (ZoneOk (s ∷ r)) (first_key r) digit
     (λ g. signed_ok (s ∷ r) r behind (λ p w d. subst (λ (x : List Part). ZoneIs (s ∷ x) (offset_of behind (num p))) (sym w) (west e d)))
-    (zone-name_ok (s ∷ r) r (λ p z w n. subst (λ (x : List Part). ZoneIs (s ∷ x) (Minutes (get_or zone_minutes z (pos 0)))) (sym w) (dashed_name e n))))
-    (zone-name_ok (s ∷ r) (s ∷ r) (λ p z w n. subst (λ (x : List Part). ZoneIs x (Minutes (get_or zone_minutes z (pos 0)))) (sym w) (zone-name n))))
+    (zone_name_ok (s ∷ r) r (λ p z w n. subst (λ (x : List Part). ZoneIs (s ∷ x) (Minutes (get_or zone_minutes z (pos 0)))) (sym w) (dashed_name e n))))
+    (zone_name_ok (s ∷ r) (s ∷ r) (λ p z w n. subst (λ (x : List Part). ZoneIs x (Minutes (get_or zone_minutes z (pos 0)))) (sym w) (zone_name n))))
 
 abbrev ReadingOk : List Part → Reading → Type 0
 ReadingOk l Wrong = Unit {0}
@@ -212,13 +212,13 @@ end_ok l name d m y q f = go (hour_of q) (hour_ok q)
     last h mi s r x offset [] z = f h mi s offset r x (z refl)
     last h mi s r x offset (a ∷ p) z = tt
 
-    after-hour : (h mi s : ℕ) (r : List Part) → HourIs q h mi s r → (z : Zoned) → ZoneOk r z → ReadingOk l (end_after name d m y h mi s z)
-    after-hour h mi s r x no_zone z = tt
-    after-hour h mi s r x (zoned offset p) z = last h mi s r x offset p z
+    after_hour : (h mi s : ℕ) (r : List Part) → HourIs q h mi s r → (z : Zoned) → ZoneOk r z → ReadingOk l (end_after name d m y h mi s z)
+    after_hour h mi s r x no_zone z = tt
+    after_hour h mi s r x (zoned offset p) z = last h mi s r x offset p z
 
     go : (x : Hour) → HourOk q x → ReadingOk l (zone_after name d m y x)
     go no_hour x = tt
-    go (hour h mi s r) x = after-hour h mi s r x (zone_of r) (zone_ok r)
+    go (hour h mi s r) x = after_hour h mi s r x (zone_of r) (zone_ok r)
 
 year_ok : (l : List Part) (name d m : ℕ) (q : List Part) → ((y : ℕ) (r : List Part) → YearIs q y r → Ends l name d m y r) → ReadingOk l (year_after name d m q)
 unfolding year_after digits_of first_key first_bytes after
@@ -230,8 +230,8 @@ year_ok l name d m (p ∷ r) f =
 
 dash_ok : (l : List Part) → DashIs l (past_dash l)
 unfolding past_dash first_key after
-dash_ok [] = no-dash
-dash_ok (p ∷ r) = pick_eq (λ q. DashIs (p ∷ r) q) p.key minus_byte (λ e. dash e) no-dash
+dash_ok [] = no_dash
+dash_ok (p ∷ r) = pick_eq (λ q. DashIs (p ∷ r) q) p.key minus_byte (λ e. dash e) no_dash
 
 month_ok : (l : List Part) (name d : ℕ) (q : List Part)
     → ((m : ℕ) (r : List Part) → MonthIs q m r → (p : List Part) → DashIs r p → (y : ℕ) (z : List Part) → YearIs p y z → Ends l name d m y z) → ReadingOk l (month_after name d q)
@@ -252,7 +252,7 @@ day_ok l name (p ∷ r) x = pick_eq (λ b. ReadingOk l (day_from name b r)) p.ke
     day_is e a b =
         rw (worth {p = p} record { run = e; many = refl } (omega arith))
         (elim (dec_lt (length p.bytes) 2) [
-          | yes h ↦ one-digit {p = p} record { run = e; many = omega arith }
+          | yes h ↦ one_digit {p = p} record { run = e; many = omega arith }
           | no h ↦ two_digits {p = p} record { run = e; many = omega arith }
         ])
 
@@ -294,8 +294,8 @@ not_read l n = go (reading_of l) (λ w e. n w (sound l w e))
     go Wrong n = refl
     go (Right w) n = absurd (n w refl)
 
-pub reads-right : ReadsRight
-reads-right l = record { derived = sound l; read = λ w x. complete x; underived = refused l; unread = not_read l }
+pub reads_right : ReadsRight
+reads_right l = record { derived = sound l; read = λ w x. complete x; underived = refused l; unread = not_read l }
 
 -- parts write one date
 pub unique : (l : List Part) (w v : Written) → DateIs l w → DateIs l v → w ≡ v

@@ -11,10 +11,10 @@ use lib.Signed.{mag}
 use mir.Syntax.{w16, w64}
 use mir.Val.{SFits}
 use Rattle.octets.specs.Believed.Choice.{both}
-use Rattle.octets.proofs.ChoiceLaws.{both-parts}
+use Rattle.octets.proofs.ChoiceLaws.{both_parts}
 use Rattle.dates.specs.Believed.Calendar.{month_length}
 use Rattle.dates.specs.Believed.Answers.{day_exists, time_exists, seconds}
-use Rattle.dates.proofs.CalendarLaws.{no-month, length-small}
+use Rattle.dates.proofs.CalendarLaws.{no_month, length-small}
 
 -- ---- days
 
@@ -22,20 +22,20 @@ module _ (year month day : ℕ) where
   pub record InCalendar : Type 0 where
     pub from : 1900 ≤ year
     pub to : year ≤ 9999
-    pub month-is : month < 12
+    pub month_is : month < 12
     pub first : 1 ≤ day
     pub last : day ≤ 31
 
   pub in_calendar : day_exists year month day ≡ true → InCalendar
   unfolding day_exists
   in_calendar e =
-      let a = both-parts (both (leb 1900 year) (leb year 9999)) _ e in
-      let y = both-parts (leb 1900 year) _ a.0 in
-      let d = both-parts (leb 1 day) _ a.1 in
+      let a = both_parts (both (leb 1900 year) (leb year 9999)) _ e in
+      let y = both_parts (leb 1900 year) _ a.0 in
+      let d = both_parts (leb 1 day) _ a.1 in
       let one : 1 ≤ day = leb-true _ _ d.0 in
       let most : day ≤ month_length year month = leb-true _ _ d.1 in
-      let m : month < 12 = elim (dec_lt month 12) [ yes h ↦ h | no h ↦ absurd (omega (arith, no-month year month (omega arith))) ] in
-      record { from = leb-true _ _ y.0; to = leb-true _ _ y.1; month-is = m; first = one; last = omega (arith, length-small year month m) }
+      let m : month < 12 = elim (dec_lt month 12) [ yes h ↦ h | no h ↦ absurd (omega (arith, no_month year month (omega arith))) ] in
+      record { from = leb-true _ _ y.0; to = leb-true _ _ y.1; month_is = m; first = one; last = omega (arith, length-small year month m) }
 
 -- ---- times
 
@@ -43,14 +43,14 @@ module _ (hour minute second : ℕ) where
   pub record InDay : Type 0 where
     pub hours : hour ≤ 23
     pub minutes : minute ≤ 59
-    pub seconds-are : second ≤ 59
+    pub seconds_are : second ≤ 59
 
   pub in_day : time_exists hour minute second ≡ true → InDay
   unfolding time_exists
   in_day e =
-      let a = both-parts (leb hour 23) _ e in
-      let b = both-parts (leb minute 59) _ a.1 in
-      record { hours = leb-true _ _ a.0; minutes = leb-true _ _ b.0; seconds-are = leb-true _ _ b.1 }
+      let a = both_parts (leb hour 23) _ e in
+      let b = both_parts (leb minute 59) _ a.1 in
+      record { hours = leb-true _ _ a.0; minutes = leb-true _ _ b.0; seconds_are = leb-true _ _ b.1 }
 
 -- ---- how large a signed sum or product can be
 

@@ -10,8 +10,8 @@ use lib.Dec.{leb}
 use lib.ListN.{length, drop, get_or, drop_of_length-le}
 use Rattle.octets.specs.Believed.Choice.{pick}
 use Rattle.octets.specs.Believed.Text.{part}
-use Rattle.octets.proofs.ChoiceLaws.{both-parts}
-use Rattle.octets.proofs.Parts.{from-here}
+use Rattle.octets.proofs.ChoiceLaws.{both_parts}
+use Rattle.octets.proofs.Parts.{from_here}
 use Rattle.dates.specs.Believed.Names.{called, place}
 use Rattle.dates.specs.Ties.Steps.{rows, ascend}
 
@@ -32,8 +32,8 @@ module _ (size start : ℕ) (ends : List ℕ) (i : ℕ) (h : i < length ends) wh
   pub row : ascend size start (drop i ends) ≡ true → Row
   unfolding ascend
   row e =
-      let a = both-parts (leb start (get_or ends i 0)) _ (sym (ap (λ (l : List ℕ). ascend size start l) (from-here ends i 0 h)) ∙ e) in
-      let b = both-parts (leb (get_or ends i 0) size) _ a.1 in
+      let a = both_parts (leb start (get_or ends i 0)) _ (sym (ap (λ (l : List ℕ). ascend size start l) (from_here ends i 0 h)) ∙ e) in
+      let b = both_parts (leb (get_or ends i 0) size) _ a.1 in
       record { order = leb-true _ _ a.0; within = leb-true _ _ b.0; others = b.1 }
 
 module _ (text : List ℕ) (start : ℕ) (ends name : List ℕ) (i : ℕ) (h : i < length ends) where
@@ -42,7 +42,7 @@ module _ (text : List ℕ) (start : ℕ) (ends name : List ℕ) (i : ℕ) (h : i
 
   one : from start i ≡ pick (called (part text start (get_or ends i 0)) name) 0 (suc (from (get_or ends i 0) (i + 1)))
   unfolding rows place
-  one = ap (λ (l : List ℕ). place (rows text start l) name) (from-here ends i 0 h)
+  one = ap (λ (l : List ℕ). place (rows text start l) name) (from_here ends i 0 h)
 
   -- the row that is called so
   pub row_found : called (part text start (get_or ends i 0)) name ≡ true → i + from start i ≡ i
@@ -53,6 +53,6 @@ module _ (text : List ℕ) (start : ℕ) (ends name : List ℕ) (i : ℕ) (h : i
   row_other e = rw (one, e) (omega arith)
 
 -- none is
-pub rows-over : (text : List ℕ) (start : ℕ) (ends name : List ℕ) (i : ℕ) → length ends ≤ i → i + place (rows text start (drop i ends)) name ≡ i
+pub rows_over : (text : List ℕ) (start : ℕ) (ends name : List ℕ) (i : ℕ) → length ends ≤ i → i + place (rows text start (drop i ends)) name ≡ i
 unfolding rows place
-rows-over text start ends name i h = rw (drop_of_length-le ends h) (add-zero i)
+rows_over text start ends name i h = rw (drop_of_length-le ends h) (add-zero i)

@@ -13,7 +13,7 @@ use Rattle.octets.specs.Believed.Choice.{pick, both}
 use Rattle.octets.specs.Believed.Octets.{minus_byte}
 use Rattle.octets.specs.Believed.Text.{part}
 use Rattle.octets.proofs.ChoiceLaws.{both_false}
-use Rattle.octets.proofs.Parts.{part-cons, part_none, part-drop, part-take}
+use Rattle.octets.proofs.Parts.{part_cons, part_none, part-drop, part-take}
 use Rattle.scanner.specs.Believed.Scanning.{Scanned, ended, fault_at, scan_by}
 use Rattle.scanner.specs.declared.Class.{Class}
 use Rattle.scanner.specs.declared.Class.TheVariants.{Atom, Quoted, At, LessThan, GreaterThan, Comma, Semicolon, Colon, Stray, Dot, Literal}
@@ -40,17 +40,17 @@ some_part classes b e = go (get_or classes b 0) (is_run (get_or classes b 0)) re
 -- ---- bytes of one key
 
 module _ (classes : List ℕ) (key : ℕ) (text : List ℕ) (at end : ℕ) where
-  pub span-end : end ≤ at → span classes key (part text at end) ≡ 0
+  pub span_end : end ≤ at → span classes key (part text at end) ≡ 0
   unfolding span
-  span-end h = ap (λ (l : List ℕ). span classes key l) (part_none text at end h)
+  span_end h = ap (λ (l : List ℕ). span classes key l) (part_none text at end h)
 
-  pub span-other : at < end → end ≤ length text → (key_of classes (get_or text at 0) ≡ key → ⊥) → span classes key (part text at end) ≡ 0
+  pub span_other : at < end → end ≤ length text → (key_of classes (get_or text at 0) ≡ key → ⊥) → span classes key (part text at end) ≡ 0
   unfolding span
-  span-other h w n = ap (λ (l : List ℕ). span classes key l) (part-cons text at end h w) ∙ rw (ne_eqb _ _ n)
+  span_other h w n = ap (λ (l : List ℕ). span classes key l) (part_cons text at end h w) ∙ rw (ne_eqb _ _ n)
 
   pub span_same : at < end → end ≤ length text → key_of classes (get_or text at 0) ≡ key → span classes key (part text at end) ≡ suc (span classes key (part text (at + 1) end))
   unfolding span
-  span_same h w n = ap (λ (l : List ℕ). span classes key l) (part-cons text at end h w) ∙ rw (eq-eqb _ _ n)
+  span_same h w n = ap (λ (l : List ℕ). span classes key l) (part_cons text at end h w) ∙ rw (eq-eqb _ _ n)
 
 -- ---- a run and what follows it
 
@@ -70,11 +70,11 @@ module _ (classes : List ℕ) where
   alone key b [] e = refl
   alone key b (p ∷ r) e = rw e
 
-  runs-run : (key b : ℕ) (l : List ℕ) → key_of classes b ≡ key → is_run key ≡ true
+  runs_run : (key b : ℕ) (l : List ℕ) → key_of classes b ≡ key → is_run key ≡ true
       → runs classes (b ∷ l) ≡ record { key = key; bytes = b ∷ take (span classes key l) l } ∷ runs classes (drop (span classes key l) l)
   unfolding runs span
-  runs-run key b [] k e = rw k
-  runs-run key b (x ∷ l) k e = rw k (go (eqb (key_of classes x) key) refl (λ f. runs-run key x l (eqb-true _ _ f) e))
+  runs_run key b [] k e = rw k
+  runs_run key b (x ∷ l) k e = rw k (go (eqb (key_of classes x) key) refl (λ f. runs_run key x l (eqb-true _ _ f) e))
     where
       go : (t : Bool) → eqb (key_of classes x) key ≡ t
           → (eqb (key_of classes x) key ≡ true → runs classes (x ∷ l) ≡ record { key = key; bytes = x ∷ take (span classes key l) l } ∷ runs classes (drop (span classes key l) l))
@@ -93,9 +93,9 @@ module _ (classes text : List ℕ) (at end key : ℕ) (h : at < end) (w : end �
   unfolding first_key first_bytes after
   token stop e a b =
       record {
-        key-is = rw e;
-        bytes-are = rw e;
-        rest-is = rw e;
+        key_is = rw e;
+        bytes_are = rw e;
+        rest_is = rw e;
         last = λ z. absurd (some_part classes (get_or text at 0) (k ∙ z));
         order = a;
         spot = record { order = b; inside = w };
@@ -103,7 +103,7 @@ module _ (classes text : List ℕ) (at end key : ℕ) (h : at < end) (w : end �
 
   whole : (n : ℕ) → at + 1 + n ≤ end → get_or text at 0 ∷ take n (part text (at + 1) end) ≡ part text at (at + 1 + n)
   whole n l =
-      ap (λ (r : List ℕ). get_or text at 0 ∷ r) (part-take text (at + 1) end n l) ∙ sym (part-cons text at (at + 1 + n) (omega arith) (omega arith))
+      ap (λ (r : List ℕ). get_or text at 0 ∷ r) (part-take text (at + 1) end n l) ∙ sym (part_cons text at (at + 1 + n) (omega arith) (omega arith))
 
   pub first_run : (stop : ℕ) → is_run key ≡ true → RunEnds classes text (at + 1) end key stop
       → TokenIs classes text (left classes text at end) (record { key = key; start = at; stop = stop; end = end })
@@ -113,14 +113,14 @@ module _ (classes text : List ℕ) (at end key : ℕ) (h : at < end) (w : end �
       let l : at + 1 + n ≤ end = omega (arith, s.is, s.within) in
       token stop
       (rw
-      (part-cons text at end h w, runs-run classes key (get_or text at 0) (part text (at + 1) end) k r, whole n l, part-drop text (at + 1) end n, s.is))
+      (part_cons text at end h w, runs_run classes key (get_or text at 0) (part text (at + 1) end) k r, whole n l, part-drop text (at + 1) end n, s.is))
       (omega (arith, s.from)) s.within
 
-  pub first-single : is_run key ≡ false → TokenIs classes text (left classes text at end) (record { key = key; start = at; stop = at + 1; end = end })
+  pub first_single : is_run key ≡ false → TokenIs classes text (left classes text at end) (record { key = key; start = at; stop = at + 1; end = end })
   unfolding left runs
-  first-single r =
-      let one : part text at (at + 1) ≡ get_or text at 0 ∷ [] = part-cons text at (at + 1) (omega arith) (omega arith) ∙ rw (part_none text (at + 1) (at + 1) (omega arith)) in
-      token (at + 1) (rw (part-cons text at end h w, k, alone classes key (get_or text at 0) (runs classes (part text (at + 1) end)) r, one)) (omega arith) (omega arith)
+  first_single r =
+      let one : part text at (at + 1) ≡ get_or text at 0 ∷ [] = part_cons text at (at + 1) (omega arith) (omega arith) ∙ rw (part_none text (at + 1) (at + 1) (omega arith)) in
+      token (at + 1) (rw (part_cons text at end h w, k, alone classes key (get_or text at 0) (runs classes (part text (at + 1) end)) r, one)) (omega arith) (omega arith)
 
 -- ---- the first part after a symbol
 
@@ -149,40 +149,40 @@ module _ (classes text : List ℕ) (start end : ℕ) where
   symbol Literal = (λ o. absurd (miss (0 ∷ 2 ∷ 3 ∷ 4 ∷ 5 ∷ 6 ∷ 7 ∷ 8 ∷ 9 ∷ []) 10 tt o), λ o. refl)
 
 module _ (classes text : List ℕ) (at end : ℕ) (h : end ≤ at) where
-  no-part : end ≤ length text → parts classes (scan_by classes text end) ≡ [] → TokenIs classes text (left classes text at end) (record { key = no_part; start = end; stop = end; end = end })
+  no_part_lem : end ≤ length text → parts classes (scan_by classes text end) ≡ [] → TokenIs classes text (left classes text at end) (record { key = no_part; start = end; stop = end; end = end })
   unfolding first_key first_bytes after
-  no-part w e =
+  no_part_lem w e =
       let l : left classes text at end ≡ [] = left_here classes text at end h ∙ e in
       let r : left classes text end end ≡ [] = left_here classes text end end (omega arith) ∙ e in
       record {
-        key-is = rw l;
-        bytes-are = rw (l, part_none text end end (omega arith));
-        rest-is = rw (l, r);
+        key_is = rw l;
+        bytes_are = rw (l, part_none text end end (omega arith));
+        rest_is = rw (l, r);
         last = λ z. l;
         order = omega arith;
         spot = record { order = omega arith; inside = w };
       }
 
-  pub part-ended : end ≤ length text → scan_by classes text end ≡ ended → TokenIs classes text (left classes text at end) (record { key = no_part; start = end; stop = end; end = end })
+  pub part_ended : end ≤ length text → scan_by classes text end ≡ ended → TokenIs classes text (left classes text at end) (record { key = no_part; start = end; stop = end; end = end })
   unfolding parts
-  part-ended w e = no-part w (ap (λ (x : Scanned). parts classes x) e)
+  part_ended w e = no_part_lem w (ap (λ (x : Scanned). parts classes x) e)
 
-  pub part-fault : {number p : ℕ} → end ≤ length text → scan_by classes text end ≡ fault_at number p → TokenIs classes text (left classes text at end) (record { key = no_part; start = end; stop = end; end = end })
+  pub part_fault : {number p : ℕ} → end ≤ length text → scan_by classes text end ≡ fault_at number p → TokenIs classes text (left classes text at end) (record { key = no_part; start = end; stop = end; end = end })
   unfolding parts
-  part-fault w e = no-part w (ap (λ (x : Scanned). parts classes x) e)
+  part_fault w e = no_part_lem w (ap (λ (x : Scanned). parts classes x) e)
 
-  pub part-quoted : {class : Class} {start stop : ℕ} → SymbolAt classes text end class start stop → OneOf (1 ∷ 10 ∷ []) (tag_of the_type class)
+  pub part_quoted : {class : Class} {start stop : ℕ} → SymbolAt classes text end class start stop → OneOf (1 ∷ 10 ∷ []) (tag_of the_type class)
       → TokenIs classes text (left classes text at end) (record { key = other_part; start = stop; stop = stop; end = stop })
   unfolding first_key first_bytes after parts
-  part-quoted {class} {start} {stop} x o =
+  part_quoted {class} {start} {stop} x o =
       let l : left classes text at end ≡ record { key = other_part; bytes = [] } ∷ left classes text stop stop =
       left_here classes text at end h ∙ ap (λ (s : Scanned). parts classes s) x.same
       ∙ ap (λ (r : List Part). r ++ parts classes (scan_by classes text stop)) ((symbol classes text start stop class).1 o)
       ∙ ap (λ (r : List Part). record { key = other_part; bytes = [] } ∷ r) (sym (left_here classes text stop stop (omega arith))) in
       record {
-        key-is = rw l;
-        bytes-are = rw (l, part_none text stop stop (omega arith));
-        rest-is = rw l;
+        key_is = rw l;
+        bytes_are = rw (l, part_none text stop stop (omega arith));
+        rest_is = rw l;
         last = λ z. absurd (omega arith);
         order = omega arith;
         spot = record { order = omega arith; inside = x.within };
@@ -207,29 +207,29 @@ each_cursor P f (a ∷ b ∷ c ∷ []) l = absurd (omega arith)
 each_cursor P f (a ∷ b ∷ c ∷ d ∷ x ∷ xs) l = absurd (omega arith)
 
 module _ {classes text : List ℕ} {l : List Part} where
-  pub put-ahead : (cursor : List ℕ) → length cursor ≡ cursor_size → {key start stop end : ℕ} {next : List ℕ} → next ≡ placed key start stop end cursor
+  pub put_ahead : (cursor : List ℕ) → length cursor ≡ cursor_size → {key start stop end : ℕ} {next : List ℕ} → next ≡ placed key start stop end cursor
       → TokenIs classes text l (record { key = key; start = start; stop = stop; end = end }) → PartIs classes text l next
-  put-ahead cursor s {key} {start} {stop} {end} e x =
+  put_ahead cursor s {key} {start} {stop} {end} e x =
       rw e (each_cursor (λ c. PartIs classes text l (placed key start stop end c)) (λ a b c d. record { sized = refl; token = x }) cursor s)
 
 -- the cursor tells which parts it holds
-pub held-is : {classes text : List ℕ} {l : List Part} {cursor : List ℕ} → PartIs classes text l cursor → held classes text cursor ≡ l
+pub held_is : {classes text : List ℕ} {l : List Part} {cursor : List ℕ} → PartIs classes text l cursor → held classes text cursor ≡ l
 unfolding held first_key first_bytes after
-held-is {l = []} {cursor = cursor} x = rw (eq-eqb (get_or cursor 0 0) no_part (sym x.token.key-is))
-held-is {l = p ∷ r} {cursor = cursor} x =
+held_is {l = []} {cursor = cursor} x = rw (eq-eqb (get_or cursor 0 0) no_part (sym x.token.key_is))
+held_is {l = p ∷ r} {cursor = cursor} x =
     let t = x.token in
-    rw (ne_eqb (get_or cursor 0 0) no_part (λ e. let z : ◌≡◌ {A = ℕ} 0 1 = cc (t.last e) in omega arith), ← t.key-is, ← t.bytes-are, ← t.rest-is)
+    rw (ne_eqb (get_or cursor 0 0) no_part (λ e. let z : ◌≡◌ {A = ℕ} 0 1 = cc (t.last e) in omega arith), ← t.key_is, ← t.bytes_are, ← t.rest_is)
 
 pub holding : {classes text : List ℕ} {l : List Part} {cursor : List ℕ} → PartIs classes text l cursor → Holds classes text cursor
-holding x = rw (held-is x) x
+holding x = rw (held_is x) x
 
 -- what is told of the parts that a cursor holds is told of the parts that are ahead of it
 module _ {classes text : List ℕ} {l : List Part} {cursor next : List ℕ} (x : PartIs classes text l cursor) where
   pub digits_ahead : {n : DigitRun} → DigitRunIs classes text (held classes text cursor) next n → DigitRunIs classes text l next n
-  digits_ahead y = rw (held-is x) at y
+  digits_ahead y = rw (held_is x) at y
 
-  pub mark-ahead : {mark : ℕ} {r : Bool} → PastIs classes text (held classes text cursor) mark next r → PastIs classes text l mark next r
-  mark-ahead y = rw (held-is x) at y
+  pub mark_ahead : {mark : ℕ} {r : Bool} → PastIs classes text (held classes text cursor) mark next r → PastIs classes text l mark next r
+  mark_ahead y = rw (held_is x) at y
 
 module _ {classes text : List ℕ} {l : List Part} {cursor : List ℕ} where
   -- past a mark, or before what is no mark
@@ -255,15 +255,15 @@ module _ (classes text : List ℕ) (at : ℕ) where
   abbrev start : List ℕ
   start = other_part ∷ at ∷ at ∷ at ∷ []
 
-  pub from-spot : at ≤ length text → Holds classes text start × (left classes text at at ≡ after (held classes text start))
+  pub from_spot : at ≤ length text → Holds classes text start × (left classes text at at ≡ after (held classes text start))
   unfolding held first_key first_bytes after
-  from-spot h = (
+  from_spot h = (
     record {
       sized = refl;
       token = record {
-        key-is = refl;
-        bytes-are = refl;
-        rest-is = refl;
+        key_is = refl;
+        bytes_are = refl;
+        rest_is = refl;
         last = λ e. absurd (omega arith);
         order = omega arith;
         spot = record { order = omega arith; inside = h };

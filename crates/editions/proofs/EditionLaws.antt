@@ -55,15 +55,15 @@ module _ (edition : ℕ) (message : List ℕ) (start end : ℕ) (table : List �
         of822 = λ q h. any.settles edition822 2 read decides (omega arith) message start end table r after (by_equal a (sym (is_822 q))) h;
       }
 
-  never-deep : (r : Answer) (after : List ℕ) → AnsweredBy (outcome_of edition message start end table) r after → NeverTooDeep edition r
-  never-deep r after a e q = shallow message start end table (sym (ap number_of (by_equal a (sym (is_822 e))).answer-is) ∙ q)
+  never_deep : (r : Answer) (after : List ℕ) → AnsweredBy (outcome_of edition message start end table) r after → NeverTooDeep edition r
+  never_deep r after a e q = shallow message start end table (sym (ap number_of (by_equal a (sym (is_822 e))).answer_is) ∙ q)
 
   -- the three promises of the entry point
   abbrev pub Promised : Answer → List ℕ → Type 0
   Promised r after = AnsweredBy (outcome_of edition message start end table) r after × (Condition3Of edition message start end table r after × NeverTooDeep edition r)
 
   by_outcome : {r : Answer} {after : List ℕ} {o : Outcome} → AnsweredBy o r after → outcome_of edition message start end table ≡ o → Promised r after
-  by_outcome {r} {after} a q = let b = by_equal a q in (b, (settles_of r after b, never-deep r after b))
+  by_outcome {r} {after} a q = let b = by_equal a q in (b, (settles_of r after b, never_deep r after b))
 
   pub promised_733 : {r : Answer} {after : List ℕ} → edition ≡ 733 → AnsweredBy (outcome message start end table) r after → Promised r after
   promised_733 e a = by_outcome a (is_733 e)
@@ -73,8 +73,8 @@ module _ (edition : ℕ) (message : List ℕ) (start end : ℕ) (table : List �
 
   -- of an unknown edition: 1 comes first, and no empty body at 0 is out of order
   module _ (e : edition ≡ 733 → ⊥) (f : edition ≡ 822 → ⊥) where
-    is-refused : {n p : ℕ} → Refused n p ≡ body_checked Refused message 0 0 (Accepted 0) → outcome_of edition message start end table ≡ refusal table n p
-    is-refused {n} {p} g =
+    is_refused : {n p : ℕ} → Refused n p ≡ body_checked Refused message 0 0 (Accepted 0) → outcome_of edition message start end table ≡ refusal table n p
+    is_refused {n} {p} g =
         elim (dec_lt message_limit (length message)) [
           | yes h ↦
               let q : Refused n p ≡ Refused message_too_long message_limit = g ∙ too_long Refused message 0 0 (Accepted 0) h in
@@ -84,8 +84,8 @@ module _ (edition : ℕ) (message : List ℕ) (start end : ℕ) (table : List �
           | no h ↦ absurd (let q : Refused n p ≡ Accepted 0 = g ∙ in_order Refused message 0 0 (Accepted 0) (omega arith) (omega arith) (omega arith) in let z : ◌≡◌ {A = ℕ} 0 1 = cc in omega arith)
         ]
 
-    pub refused-promised : {n p : ℕ} → Refused n p ≡ body_checked Refused message 0 0 (Accepted 0) → Promised (Refused n p) table
-    refused-promised g = by_outcome {o = refusal table _ _} (answered refl refl) (is-refused g)
+    pub refused_promised : {n p : ℕ} → Refused n p ≡ body_checked Refused message 0 0 (Accepted 0) → Promised (Refused n p) table
+    refused_promised g = by_outcome {o = refusal table _ _} (answered refl refl) (is_refused g)
 
     pub unknown_promised : length message ≤ message_limit → Promised (Refused edition_unknown 0) table
     unknown_promised h = by_outcome {o = refusal table _ _} (answered refl refl) (is_unknown h e f)

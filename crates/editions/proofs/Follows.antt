@@ -173,8 +173,8 @@ last_step {c} {a} {b} {g} {x} c₀ xs r t =
     let n : length (xs ++ (r ∷ [])) ≡ suc (length xs) = omega (arith, length-append xs (r ∷ [])) in
     rw n (ap (λ rs. some (walked_by c a b g x rs)) (set_at xs r t.end))
 
-box-ends : (xs : List AddressRecord) (r s : AddressRecord) (e : ℕ) → set_end (length xs) e ((xs ++ (r ∷ [])) ++ (s ∷ [])) ≡ (xs ++ (with_end r e ∷ [])) ++ (s ∷ [])
-box-ends xs r s e = set_keep (length xs) e (xs ++ (r ∷ [])) (s ∷ []) (omega (arith, length-append xs (r ∷ []))) ∙ ap (λ rs. rs ++ (s ∷ [])) (set_at xs r e)
+box_ends : (xs : List AddressRecord) (r s : AddressRecord) (e : ℕ) → set_end (length xs) e ((xs ++ (r ∷ [])) ++ (s ∷ [])) ≡ (xs ++ (with_end r e ∷ [])) ++ (s ∷ [])
+box_ends xs r s e = set_keep (length xs) e (xs ++ (r ∷ [])) (s ∷ []) (omega (arith, length-append xs (r ∷ []))) ∙ ap (λ rs. rs ++ (s ∷ [])) (set_at xs r e)
 
 set_spec : (i e : ℕ) (s : Spec) (depth parent : ℕ) (rs : List AddressRecord) → i < length rs → set_end i e (add_spec s depth parent rs) ≡ add_spec s depth parent (set_end i e rs)
 set_spec i e (spec l t m) depth parent rs h = set_keep i e rs (spec_record l (end_of_domain m) depth parent ∷ []) h
@@ -221,9 +221,9 @@ mutual
       set-box i e b 1 parent (add_box_slot s parent rs) (omega (arith, longer_place s parent rs)) ∙ ap (add_box b 1 parent) (set-place s i e parent rs h)
 
 -- ";" ends the group's record
-group-ends : (r : Slot Address) (p : Phrase) (c : Lexeme) (l : Listed Mailbox) (u : Lexeme)
+group_ends : (r : Slot Address) (p : Phrase) (c : Lexeme) (l : Listed Mailbox) (u : Lexeme)
     → set_end (length (placed r)) u.end (add_boxes l (suc (length (placed r))) (opens_group p c.end (placed r))) ≡ add_address (group p c l u) (placed r)
-group-ends r p c l u =
+group_ends r p c l u =
     set_boxes l (length (placed r)) u.end (suc (length (placed r))) (opens_group p c.end (placed r)) (omega (arith, length-append (placed r) (named_record 3 p c.end 0 0 ∷ [])))
     ∙ ap (add_boxes l (suc (length (placed r)))) (set_at (placed r) (named_record 3 p c.end 0 0) u.end)
 
@@ -237,23 +237,23 @@ Follows s [] = Unit {0}
 Follows s (x ∷ others) = Goes s x.class x.to × Follows s others
 
 -- "@" begins the mailbox's record, at the depth of its place
-at-depth : (c g x : ℕ) (rs : List AddressRecord) (l : Local) (t : Lexeme) {depth : ℕ} → one_if g + one_if x ≡ depth
+at_depth : (c g x : ℕ) (rs : List AddressRecord) (l : Local) (t : Lexeme) {depth : ℕ} → one_if g + one_if x ≡ depth
     → some (walked_by c (local_start l) (local_end l) g x (rs ++ (spec_record l t.end (one_if g + one_if x) (parent_of g x) ∷ []))) ≡ some (walked_by c (local_start l) (local_end l) g x (rs ++ (spec_record l t.end depth (parent_of g x) ∷ [])))
-at-depth c g x rs l t e = rw e
+at_depth c g x rs l t e = rw e
 
 follows : (s : State) → Follows s (arrows s)
 follows (place (in_list r)) = (λ t a b. (0, 0, refl), (λ t a b. (0, 0, refl), (λ t a b. (a, b, refl), tt)))
-follows (place (in_group r p c empty)) = (λ t a b. (0, 0, refl), (λ t a b. (0, 0, refl), (λ t a b. (a, b, refl), (λ t a b. (a, b, ap (λ rs. some (walked_by 21 a b 0 0 rs)) (group-ends r p c (idle empty) t)), tt))))
-follows (place (in_group r p c (comma v o))) = (λ t a b. (0, 0, refl), (λ t a b. (0, 0, refl), (λ t a b. (a, b, refl), (λ t a b. (a, b, ap (λ rs. some (walked_by 21 a b 0 0 rs)) (group-ends r p c (idle (comma v o)) t)), tt))))
+follows (place (in_group r p c empty)) = (λ t a b. (0, 0, refl), (λ t a b. (0, 0, refl), (λ t a b. (a, b, refl), (λ t a b. (a, b, ap (λ rs. some (walked_by 21 a b 0 0 rs)) (group_ends r p c (idle empty) t)), tt))))
+follows (place (in_group r p c (comma v o))) = (λ t a b. (0, 0, refl), (λ t a b. (0, 0, refl), (λ t a b. (a, b, refl), (λ t a b. (a, b, ap (λ rs. some (walked_by 21 a b 0 0 rs)) (group_ends r p c (idle (comma v o)) t)), tt))))
 follows (word (in_list r) w) = (λ t a b. (0, 0, refl), (λ t a b. (0, 0, refl), (λ t a b. (0, 0, refl), (λ t a b. ((word_lexeme w).start, (word_lexeme w).end, refl), (λ t a b. ((word_lexeme w).start, (word_lexeme w).end, refl), (λ t a b. ((word_lexeme w).start, (word_lexeme w).end, refl), tt))))))
 follows (word (in_group r p c s) w) = (λ t a b. (0, 0, refl), (λ t a b. (0, 0, refl), (λ t a b. (0, 0, refl), (λ t a b. ((word_lexeme w).start, (word_lexeme w).end, refl), (λ t a b. ((word_lexeme w).start, (word_lexeme w).end, refl), tt)))))
 follows (phrase (in_list r) q) = (λ t a b. (0, 0, refl), (λ t a b. (0, 0, refl), (λ t a b. (phrase_start q, phrase_end q, refl), (λ t a b. (phrase_start q, phrase_end q, refl), tt))))
 follows (phrase (in_group r p c s) q) = (λ t a b. (0, 0, refl), (λ t a b. (0, 0, refl), (λ t a b. (phrase_start q, phrase_end q, refl), tt)))
-follows (local (bare_in h) l) = (λ t a b. (0, 0, refl), (λ t a b. (local_start l, local_end l, at-depth 5 (group_number h) 0 (here_records h) l t (omega arith)), tt))
-follows (local (angle_in o) (one_word w)) = (λ t a b. (0, 0, refl), (λ t a b. ((word_lexeme w).start, (word_lexeme w).end, at-depth 11 (group_number (here_of o)) (angle_number o) (open_records o) (one_word w) t (omega arith)), tt))
-follows (local (angle_in o) (more_word l i w)) = (λ t a b. (0, 0, refl), (λ t a b. (local_start l, (word_lexeme w).end, at-depth 11 (group_number (here_of o)) (angle_number o) (open_records o) (more_word l i w) t (omega arith)), tt))
-follows (local (route_in o y) (one_word w)) = (λ t a b. (0, 0, refl), (λ t a b. ((word_lexeme w).start, (word_lexeme w).end, at-depth 11 (group_number (here_of o)) (angle_number o) (open_records o) (one_word w) t (omega arith)), tt))
-follows (local (route_in o y) (more_word l i w)) = (λ t a b. (0, 0, refl), (λ t a b. (local_start l, (word_lexeme w).end, at-depth 11 (group_number (here_of o)) (angle_number o) (open_records o) (more_word l i w) t (omega arith)), tt))
+follows (local (bare_in h) l) = (λ t a b. (0, 0, refl), (λ t a b. (local_start l, local_end l, at_depth 5 (group_number h) 0 (here_records h) l t (omega arith)), tt))
+follows (local (angle_in o) (one_word w)) = (λ t a b. (0, 0, refl), (λ t a b. ((word_lexeme w).start, (word_lexeme w).end, at_depth 11 (group_number (here_of o)) (angle_number o) (open_records o) (one_word w) t (omega arith)), tt))
+follows (local (angle_in o) (more_word l i w)) = (λ t a b. (0, 0, refl), (λ t a b. (local_start l, (word_lexeme w).end, at_depth 11 (group_number (here_of o)) (angle_number o) (open_records o) (more_word l i w) t (omega arith)), tt))
+follows (local (route_in o y) (one_word w)) = (λ t a b. (0, 0, refl), (λ t a b. ((word_lexeme w).start, (word_lexeme w).end, at_depth 11 (group_number (here_of o)) (angle_number o) (open_records o) (one_word w) t (omega arith)), tt))
+follows (local (route_in o y) (more_word l i w)) = (λ t a b. (0, 0, refl), (λ t a b. (local_start l, (word_lexeme w).end, at_depth 11 (group_number (here_of o)) (angle_number o) (open_records o) (more_word l i w) t (omega arith)), tt))
 follows (local_dot (bare_in h) l i) = (λ t a b. (0, 0, refl), (λ t a b. (0, 0, refl), tt))
 follows (local_dot (angle_in o) l i) = (λ t a b. (0, 0, refl), (λ t a b. (0, 0, refl), tt))
 follows (local_dot (route_in o r) l i) = (λ t a b. (0, 0, refl), (λ t a b. (0, 0, refl), tt))
@@ -262,9 +262,9 @@ follows (at (of_spec (angle_in o) l i)) = (λ t a b. (a, b, last_step 11 (open_r
 follows (at (of_spec (route_in o r) l i)) = (λ t a b. (a, b, last_step 11 (open_records o) (spec_record l i.end (suc (depth_here (here_of o))) (angle_number o)) t), (λ t a b. (a, b, last_step 11 (open_records o) (spec_record l i.end (suc (depth_here (here_of o))) (angle_number o)) t), tt))
 follows (at (of_hop o f i)) = (λ t a b. (a, b, refl), (λ t a b. (a, b, refl), tt))
 follows (domain (of_spec (bare_in (in_list r)) l i) m) = (λ t a b. (a, b, refl), (λ t a b. (a, b, refl), tt))
-follows (domain (of_spec (bare_in (in_group r p c s)) l i) m) = (λ t a b. (a, b, refl), (λ t a b. (a, b, refl), (λ t a b. (a, b, ap (λ rs. some (walked_by 21 a b 0 0 rs)) (group-ends r p c (full s (bare (spec l i m))) t)), tt)))
-follows (domain (of_spec (angle_in (less h q u)) l i) m) = (λ t a b. (a, b, refl), (λ t a b. (a, b, ap (λ rs. some (walked_by 20 a b (group_number h) 0 rs)) (box-ends (here_records h) (named_record 2 q u.end (depth_here h) (group_number h)) (spec_record l (end_of_domain m) (suc (depth_here h)) (suc (length (here_records h)))) t.end)), tt))
-follows (domain (of_spec (route_in (less h q u) y) l i) m) = (λ t a b. (a, b, refl), (λ t a b. (a, b, ap (λ rs. some (walked_by 20 a b (group_number h) 0 rs)) (box-ends (here_records h) (named_record 2 q u.end (depth_here h) (group_number h)) (spec_record l (end_of_domain m) (suc (depth_here h)) (suc (length (here_records h)))) t.end)), tt))
+follows (domain (of_spec (bare_in (in_group r p c s)) l i) m) = (λ t a b. (a, b, refl), (λ t a b. (a, b, refl), (λ t a b. (a, b, ap (λ rs. some (walked_by 21 a b 0 0 rs)) (group_ends r p c (full s (bare (spec l i m))) t)), tt)))
+follows (domain (of_spec (angle_in (less h q u)) l i) m) = (λ t a b. (a, b, refl), (λ t a b. (a, b, ap (λ rs. some (walked_by 20 a b (group_number h) 0 rs)) (box_ends (here_records h) (named_record 2 q u.end (depth_here h) (group_number h)) (spec_record l (end_of_domain m) (suc (depth_here h)) (suc (length (here_records h)))) t.end)), tt))
+follows (domain (of_spec (route_in (less h q u) y) l i) m) = (λ t a b. (a, b, refl), (λ t a b. (a, b, ap (λ rs. some (walked_by 20 a b (group_number h) 0 rs)) (box_ends (here_records h) (named_record 2 q u.end (depth_here h) (group_number h)) (spec_record l (end_of_domain m) (suc (depth_here h)) (suc (length (here_records h)))) t.end)), tt))
 follows (domain (of_hop o f i) m) = (λ t a b. (a, b, refl), (λ t a b. (a, b, refl), (λ t a b. (a, b, refl), tt)))
 follows (domain_dot (of_spec (bare_in h) l i) m j) = (λ t a b. (a, b, last_step 7 (here_records h) (spec_record l (end_of_domain m) (depth_here h) (group_number h)) t), (λ t a b. (a, b, last_step 7 (here_records h) (spec_record l (end_of_domain m) (depth_here h) (group_number h)) t), tt))
 follows (domain_dot (of_spec (angle_in o) l i) m j) = (λ t a b. (a, b, last_step 13 (open_records o) (spec_record l (end_of_domain m) (suc (depth_here (here_of o))) (angle_number o)) t), (λ t a b. (a, b, last_step 13 (open_records o) (spec_record l (end_of_domain m) (suc (depth_here (here_of o))) (angle_number o)) t), tt))
@@ -275,7 +275,7 @@ follows (hop o (first_at g)) = (λ t a b. (a, b, refl), (λ t a b. (a, b, refl),
 follows (hop o (next_at h u g)) = (λ t a b. (a, b, refl), (λ t a b. (a, b, refl), (λ t a b. (a, b, refl), tt)))
 follows (route o r) = (λ t a b. (0, 0, refl), (λ t a b. (0, 0, refl), tt))
 follows (boxed (in_list r) m) = (λ t a b. (a, b, refl), tt)
-follows (boxed (in_group r p c s) m) = (λ t a b. (a, b, refl), (λ t a b. (a, b, ap (λ rs. some (walked_by 21 a b 0 0 rs)) (group-ends r p c (full s m) t)), tt))
+follows (boxed (in_group r p c s) m) = (λ t a b. (a, b, refl), (λ t a b. (a, b, ap (λ rs. some (walked_by 21 a b 0 0 rs)) (group_ends r p c (full s m) t)), tt))
 follows (closed r x) = (λ t a b. (a, b, refl), tt)
 
 -- ---- where no arrow goes on the loop stops
@@ -345,10 +345,10 @@ abbrev Agrees : Option State → Option Walked → Type 0
 Agrees none o = o ≡ none
 Agrees (some s) o = (a : ℕ) × (b : ℕ) × (o ≡ some (walked_in s a b))
 
-look-follows : (s : State) (a b : ℕ) (x : Sym) (others : List (Arrow Class State)) → Follows s others → Quiet (look same_class others x) (step_from (walked_in s a b) x)
+look_follows : (s : State) (a b : ℕ) (x : Sym) (others : List (Arrow Class State)) → Follows s others → Quiet (look same_class others x) (step_from (walked_in s a b) x)
     → Agrees (look same_class others x) (step_from (walked_in s a b) x)
-look-follows s a b x [] f q = q
-look-follows s a b x (y ∷ others) f q = by (same_class y.class x.class) refl q (look-follows s a b x others f.1)
+look_follows s a b x [] f q = q
+look_follows s a b x (y ∷ others) f q = by (same_class y.class x.class) refl q (look_follows s a b x others f.1)
   where
     by : (same : Bool) → same_class y.class x.class ≡ same → Quiet (pick same (some (y.to x.lexeme)) (look same_class others x)) (step_from (walked_in s a b) x)
         → (Quiet (look same_class others x) (step_from (walked_in s a b) x) → Agrees (look same_class others x) (step_from (walked_in s a b) x))
@@ -359,7 +359,7 @@ look-follows s a b x (y ∷ others) f q = by (same_class y.class x.class) refl q
     by false e w rest = rest w
 
 pub agrees : (s : State) (a b : ℕ) (x : Sym) → Agrees (look same_class (arrows s) x) (step_from (walked_in s a b) x)
-agrees s a b x = look-follows s a b x (arrows s) (follows s) (quiet_at s a b x.lexeme x.class)
+agrees s a b x = look_follows s a b x (arrows s) (follows s) (quiet_at s a b x.lexeme x.class)
 
 -- the loop
 abbrev pub Matches : Result Class State → WalkEnd → Type 0

@@ -22,8 +22,8 @@ use Rattle.grammar.proofs.Rfc822.Condition3 as rules822
 use Rattle.addresses.specs.Believed.Editions.{Edition, edition733, edition822}
 use Rattle.addresses.specs.Believed.Outcome.{read_in, body_read}
 use Rattle.addresses.proofs.Judgements as judged-by
-use Rattle.addresses.proofs.Judgements.{listed-read_in, judged_in}
-use Rattle.addresses.proofs.RecordsRead.{TakesInPlace, takes_733, takes_822, body-read_back}
+use Rattle.addresses.proofs.Judgements.{listed_read_in, judged_in}
+use Rattle.addresses.proofs.RecordsRead.{TakesInPlace, takes_733, takes_822, body_read_back}
 use Rattle.editions.specs.Believed.Outcome.{read_of}
 
 -- whatever is answered of a refusal or of a derivation, of this body it is this
@@ -50,7 +50,7 @@ module _ (edition : ℕ) (message : List ℕ) (start end : ℕ) where
   by_rules {N} ed least answer_of right below takes same =
       elim (judged_in ed least answer_of right below message start end) [
         | judged-by.refused_at n p f ↦ refused_at n p (λ A refuse derive. same A refuse derive ∙ f A refuse (derive N))
-        | judged-by.listed k b ↦ listed k (body-read_back ed takes b) (λ A refuse derive. same A refuse derive ∙ listed-read_in ed least answer_of right below b refuse (derive N))
+        | judged-by.listed k b ↦ listed k (body_read_back ed takes b) (λ A refuse derive. same A refuse derive ∙ listed_read_in ed least answer_of right below b refuse (derive N))
       ]
 
   by_tests : (a b c : Bool) → ltb message_limit (length message) ≡ a → eqb edition 733 ≡ b → eqb edition 822 ≡ c → JudgedOf edition message start end

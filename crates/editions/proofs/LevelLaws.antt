@@ -38,14 +38,14 @@ checked table true b o s = λ e. absurd (omega (arith, e))
 checked table false true o s = λ e. absurd (omega (arith, e))
 checked table false false o s = s
 
-no-fault : (n : ℕ) → is_fault n ≡ true → n ≡ too_many_levels → ⊥
-no-fault n h e = true≢false (sym h ∙ ap is_fault e)
+no_fault : (n : ℕ) → is_fault n ≡ true → n ≡ too_many_levels → ⊥
+no_fault n h e = true≢false (sym h ∙ ap is_fault e)
 
 scanned : (table : List ℕ) (s : Scanned) (o : Outcome) → Numbered s → Shallow o.answer → Shallow (unless_fault (refusal table) s o).answer
 unfolding unless_fault
 scanned table ended o n h = h
 scanned table (next x rest) o n h = scanned table rest o n h
-scanned table (fault_at number p) o n h = no-fault number n
+scanned table (fault_at number p) o n h = no_fault number n
 
 -- a list is accepted, or there is too little room for it
 listed : (table : List ℕ) (k : Forest Class Nonterminal) (t : Bool) → ltb (room_for address_record_size table) (count k) ≡ t → Shallow (derived table k).answer

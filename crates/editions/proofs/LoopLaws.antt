@@ -52,14 +52,14 @@ module _ (classes text : List ℕ) where
   abbrev besides : Symbol → Besides
   besides f = record { meaning = (word_of f).lexeme.meaning; apart = f.apart }
 
-  next-words : {p : ℕ} {f : Symbol} → NextIs classes text p (Found f) → words p ≡ word_of f ∷ words f.end
-  next-words x = ap taken_in822 x.same
+  next_words : {p : ℕ} {f : Symbol} → NextIs classes text p (Found f) → words p ≡ word_of f ∷ words f.end
+  next_words x = ap taken_in822 x.same
 
   run_step : (f g : Walked) (x : Sym) (xs : List Sym) → step_from f x ≡ some g → walk_from f (x ∷ xs) ≡ walk_from g xs
   run_step f g x xs e = rw e
 
-  run-stop : (f : Walked) (x : Sym) (xs : List Sym) → step_from f x ≡ none → walk_from f (x ∷ xs) ≡ stops (x ∷ xs)
-  run-stop f x xs e = rw e
+  run_stop : (f : Walked) (x : Sym) (xs : List Sym) → step_from f x ≡ none → walk_from f (x ∷ xs) ≡ stops (x ∷ xs)
+  run_stop f x xs e = rw e
 
   pub come_on : {at p : ℕ} {f : Symbol} {lent table after : List ℕ} {w v : Walk} → Come at lent table p w → NextIs classes text p (Found f)
       → Goes w (class_in822 f.class f.start f.end) f.start f.end table after v → Come at lent after f.end v
@@ -69,40 +69,40 @@ module _ (classes text : List ℕ) where
         rs = ss;
         holds = h;
         fine = g.fine;
-        same = c.same ∙ ap (walk_from (walked_of w c.rs)) (next-words x) ∙ run_step (walked_of w c.rs) (walked_of v ss) (word_of f) (words f.end) q;
+        same = c.same ∙ ap (walk_from (walked_of w c.rs)) (next_words x) ∙ run_step (walked_of w c.rs) (walked_of v ss) (word_of f) (words f.end) q;
         few = omega (arith, g.few, c.few, x.ok.0, x.ok.1.starts);
         inside = x.ok.1.within;
       }
 
-  pub stop-at : {at p : ℕ} {f : Symbol} {lent table after : List ℕ} {w : Walk} → Come at lent table p w → NextIs classes text p (Found f)
+  pub stop_at : {at p : ℕ} {f : Symbol} {lent table after : List ℕ} {w : Walk} → Come at lent table p w → NextIs classes text p (Found f)
       → Stops w (class_in822 f.class f.start f.end) f.start f.end table after → IsRefused verdict822 classes text at no_list_goes_on f.start
-  stop-at {at} {f = f} {lent = lent} {w = w} c x g =
+  stop_at {at} {f = f} {lent = lent} {w = w} c x g =
       let t = word_of f in
       record {
         why = unfit;
         rest = t ∷ words f.end;
         verdict_is = loop_stopped level_limit 0 0 (words at) (t ∷ words f.end)
-            (c.same ∙ ap (walk_from (walked_of w c.rs)) (next-words x) ∙ run-stop (walked_of w c.rs) t (words f.end) (g.stops (besides f) c.rs lent c.holds));
+            (c.same ∙ ap (walk_from (walked_of w c.rs)) (next_words x) ∙ run_stop (walked_of w c.rs) t (words f.end) (g.stops (besides f) c.rs lent c.holds));
         number_is = refl;
         place_is = refl;
       }
 
-  at-end : {at p : ℕ} {lent table : List ℕ} {w : Walk} → (c : Come at lent table p w) → symbols_from classes text p ≡ [] → walk_from (walked_in start 0 0) (words at) ≡ ends (walked_of w c.rs)
-  at-end {w = w} c e = c.same ∙ ap (λ (xs : List Sym). walk_from (walked_of w c.rs) (taken_in822 xs)) e
+  at_end_lem : {at p : ℕ} {lent table : List ℕ} {w : Walk} → (c : Come at lent table p w) → symbols_from classes text p ≡ [] → walk_from (walked_in start 0 0) (words at) ≡ ends (walked_of w c.rs)
+  at_end_lem {w = w} c e = c.same ∙ ap (λ (xs : List Sym). walk_from (walked_of w c.rs) (taken_in822 xs)) e
 
-  pub end-listed : {at p : ℕ} {lent table : List ℕ} {w : Walk} → Come at lent table p w → symbols_from classes text p ≡ [] → both (ends_at w.place) (no_group w.group) ≡ true → IsListed verdict822 classes text at lent table w.free
-  end-listed {at} {lent = lent} {w = w} c e d =
-      let (k, v, r) = loop_listed level_limit 0 0 (words at) (walked_of w c.rs) (at-end c e) d in
+  pub end_listed : {at p : ℕ} {lent table : List ℕ} {w : Walk} → Come at lent table p w → symbols_from classes text p ≡ [] → both (ends_at w.place) (no_group w.group) ≡ true → IsListed verdict822 classes text at lent table w.free
+  end_listed {at} {lent = lent} {w = w} c e d =
+      let (k, v, r) = loop_listed level_limit 0 0 (words at) (walked_of w c.rs) (at_end_lem c e) d in
       record {
         derivation = k;
         verdict_is = v;
-        count-is = sym c.holds.counted ∙ ap length r ∙ length-records k;
+        count_is = sym c.holds.counted ∙ ap length r ∙ length-records k;
         stored = c.holds.stored ∙ ap (λ (rs : List AddressRecord). sets lent 0 (table_bytes rs)) r;
       }
 
   pub end_unfinished : {at p : ℕ} {lent table : List ℕ} {w : Walk} → Come at lent table p w → symbols_from classes text p ≡ [] → both (ends_at w.place) (no_group w.group) ≡ false → IsRefused verdict822 classes text at ends_too_soon (length text)
   end_unfinished {at} {w = w} c e d =
-      let (rest, v) = loop_unfinished level_limit 0 0 (words at) (walked_of w c.rs) (at-end c e) d in
+      let (rest, v) = loop_unfinished level_limit 0 0 (words at) (walked_of w c.rs) (at_end_lem c e) d in
       let q : rest ≡ [] = (rw v at (decides.right level_limit (omega arith) (words at))).0 in
       record { why = unfinished; rest = rest; verdict_is = v; number_is = refl; place_is = rw q }
 
@@ -119,8 +119,8 @@ stop_long x = ap length x.kept
 pub at_sign : (class : Class) (s e : ℕ) → class ≡ At → e ≡ s + 1 → At ≡ class_in822 class s e
 at_sign class s e h k = rw (h, eq-eqb e (s + 1) k)
 
-pub at-atom : (class : Class) (s e : ℕ) → class ≡ At → (e ≡ s + 1 → ⊥) → Atom ≡ class_in822 class s e
-at-atom class s e h k = rw (h, ne_eqb e (s + 1) k)
+pub at_atom : (class : Class) (s e : ℕ) → class ≡ At → (e ≡ s + 1 → ⊥) → Atom ≡ class_in822 class s e
+at_atom class s e h k = rw (h, ne_eqb e (s + 1) k)
 
-pub other-class : (class : Class) (s e : ℕ) → OneOf (0 ∷ 1 ∷ 3 ∷ 4 ∷ 5 ∷ 6 ∷ 7 ∷ 8 ∷ 9 ∷ 10 ∷ []) (tag class) → class ≡ class_in822 class s e
-other-class class s e o = rw (by_class_not (0 ∷ 1 ∷ 3 ∷ 4 ∷ 5 ∷ 6 ∷ 7 ∷ 8 ∷ 9 ∷ 10 ∷ []) (same_class At) tt class o)
+pub other_class : (class : Class) (s e : ℕ) → OneOf (0 ∷ 1 ∷ 3 ∷ 4 ∷ 5 ∷ 6 ∷ 7 ∷ 8 ∷ 9 ∷ 10 ∷ []) (tag class) → class ≡ class_in822 class s e
+other_class class s e o = rw (by_class_not (0 ∷ 1 ∷ 3 ∷ 4 ∷ 5 ∷ 6 ∷ 7 ∷ 8 ∷ 9 ∷ 10 ∷ []) (same_class At) tt class o)

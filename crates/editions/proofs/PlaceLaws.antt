@@ -21,8 +21,8 @@ column_at place j h l = cell_at columns (λ i k. get_or (cells (row_at i)) k no)
 next_cell : (r : Row) (n : ℕ) → get_or (cells r) (n + 2) no ≡ get_or r.next n no
 next_cell r n = let k : n + 2 ≡ suc (suc n) = omega arith in ap (λ (i : ℕ). get_or (cells r) i no) k
 
-pub next-at : (place : ℕ) (class : Class) (n : ℕ) → place < slot_count → n ≡ class_number class → n < 11 → get_or place_table (place * columns + (n + 2)) 0 ≡ next_place place class
-next-at place class n h e l = column_at place (n + 2) h (omega arith) ∙ next_cell (row_at place) n ∙ ap (λ (i : ℕ). get_or (row_at place).next i no) e
+pub next_at : (place : ℕ) (class : Class) (n : ℕ) → place < slot_count → n ≡ class_number class → n < 11 → get_or place_table (place * columns + (n + 2)) 0 ≡ next_place place class
+next_at place class n h e l = column_at place (n + 2) h (omega arith) ∙ next_cell (row_at place) n ∙ ap (λ (i : ℕ). get_or (row_at place).next i no) e
 
 effect_back : (e : Effect) → effect_from (effect_number e) ≡ e
 effect_back nothing = refl
@@ -85,6 +85,6 @@ pub parent_zero : (g n : ℕ) → n ≡ 0 → g ≡ parent_of g n
 parent_zero g zero e = refl
 parent_zero g (suc n) e = absurd (omega arith)
 
-pub parent-more : (g n : ℕ) → (n ≡ 0 → ⊥) → n ≡ parent_of g n
-parent-more g zero e = absurd (e refl)
-parent-more g (suc n) e = refl
+pub parent_more : (g n : ℕ) → (n ≡ 0 → ⊥) → n ≡ parent_of g n
+parent_more g zero e = absurd (e refl)
+parent_more g (suc n) e = refl

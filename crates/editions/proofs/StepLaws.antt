@@ -13,7 +13,7 @@ use Rattle.records.specs.Ties.Ends.{set_end}
 use Rattle.scanner.specs.Believed.Symbols.{Lexeme}
 use Rattle.scanner.specs.declared.Class.{Class}
 use Rattle.editions.specs.Ties.Places.{Walked, walked_by, slot_count, next_place, effect_of, refuse, effect, step_from, add_record, close_record, open_group}
-use Rattle.records.proofs.EndLaws.{end-stored}
+use Rattle.records.proofs.EndLaws.{end_stored}
 use Rattle.records.proofs.TableLaws.{stored_last}
 use Rattle.editions.specs.declared.Walk.{Walk}
 use Rattle.editions.specs.declared.Stepped.{Stepped}
@@ -32,7 +32,7 @@ open_more (suc g) c f t e = refl
 -- a symbol leads to a place, and coming to it has the effect with this number
 pub record Leads (w : Walk) (class : Class) (next k : ℕ) : Type 0 where
   pub fine : Fine w
-  pub next-is : next ≡ next_place w.place class
+  pub next_is : next ≡ next_place w.place class
   pub effect_is : effect_from k ≡ effect_of next
   pub low : k < 9 → next < slot_count
 
@@ -45,7 +45,7 @@ module _ {w : Walk} {class : Class} {next k : ℕ} (x : Leads w class next k) (s
   Does n rs m o = effect (effect_from n) next (walked_of w rs) (lexeme m) ≡ o
 
   known : (n : ℕ) → k ≡ n → (rs : List AddressRecord) (m : Besides) {o : Option Walked} → Does n rs m o → step_from (walked_of w rs) (symbol_of class start end m) ≡ o
-  known n q rs m d = let e : effect_from n ≡ effect_of next = rw q at x.effect_is in rw (← x.next-is, ← e) d
+  known n q rs m d = let e : effect_from n ≡ effect_of next = rw q at x.effect_is in rw (← x.next_is, ← e) d
 
   -- ---- the records stay
 
@@ -99,7 +99,7 @@ module _ {w : Walk} {class : Class} {next k : ℕ} (x : Leads w class next k) (s
   ended : (number : ℕ) {after : List ℕ} → (number ≡ 0 → ⊥) → number ≤ w.free → after ≡ sets table ((number - 1) * address_record_size + end_offset) (bytes_of number_width end) → (v : Walk) → v.free ≡ w.free → (rs : List AddressRecord) (lent : List ℕ)
       → Holds w rs lent table → Holds v (set_end (number - 1) end rs) lent after
   ended number z l a v n rs lent h =
-      record { counted = set-length (number - 1) end rs ∙ h.counted ∙ sym n; stored = a ∙ rw h.stored (end-stored lent rs (number - 1) end (omega (arith, h.counted))) }
+      record { counted = set-length (number - 1) end rs ∙ h.counted ∙ sym n; stored = a ∙ rw h.stored (end_stored lent rs (number - 1) end (omega (arith, h.counted))) }
 
   closes : (n number group angle : ℕ) → n < 9 → number ≤ w.free → group ≤ w.free → angle ≤ w.free → ((rs : List AddressRecord) (m : Besides) → length rs ≡ w.free → Does n rs m (close_record number group angle next (walked_of w rs) (lexeme m)))
       → k ≡ n → (after : List ℕ) {then : Walk} (r : Stepped) → then ≡ walk_by next w.name.start w.name.end group angle w.free → CloseIs number end then table after r → StepIs w class start end table after r
@@ -118,21 +118,21 @@ module _ {w : Walk} {class : Class} {next k : ℕ} (x : Leads w class next k) (s
   closes n number group angle l f g i d q after Off e (z, a) =
       record { kept = a; stops = λ m rs lent h. known n q rs m (d rs m h.counted ∙ ap (λ (j : ℕ). close_record j group angle next (walked_of w rs) (lexeme m)) z) }
 
-  pub closes-mailbox : k ≡ 4 → (after : List ℕ) {then : Walk} (r : Stepped) → then ≡ walk_by next w.name.start w.name.end w.group w.angle w.free → CloseIs w.free end then table after r → StepIs w class start end table after r
-  closes-mailbox q after r =
+  pub closes_mailbox : k ≡ 4 → (after : List ℕ) {then : Walk} (r : Stepped) → then ≡ walk_by next w.name.start w.name.end w.group w.angle w.free → CloseIs w.free end then table after r → StepIs w class start end table after r
+  closes_mailbox q after r =
       closes 4 w.free w.group w.angle (omega arith) (omega arith) x.fine.group x.fine.angle (λ rs m l. ap (λ (j : ℕ). close_record j w.group w.angle next (walked_of w rs) (lexeme m)) l) q after r
 
-  pub closes-angle : k ≡ 6 → (after : List ℕ) {then : Walk} (r : Stepped) → then ≡ walk_by next w.name.start w.name.end w.group 0 w.free → CloseIs w.angle end then table after r → StepIs w class start end table after r
-  closes-angle q after r = closes 6 w.angle w.group 0 (omega arith) x.fine.angle x.fine.group (omega arith) (λ rs m l. refl) q after r
+  pub closes_angle : k ≡ 6 → (after : List ℕ) {then : Walk} (r : Stepped) → then ≡ walk_by next w.name.start w.name.end w.group 0 w.free → CloseIs w.angle end then table after r → StepIs w class start end table after r
+  closes_angle q after r = closes 6 w.angle w.group 0 (omega arith) x.fine.angle x.fine.group (omega arith) (λ rs m l. refl) q after r
 
-  pub closes-group : k ≡ 8 → (after : List ℕ) {then : Walk} (r : Stepped) → then ≡ walk_by next w.name.start w.name.end 0 w.angle w.free → CloseIs w.group end then table after r → StepIs w class start end table after r
-  closes-group q after r = closes 8 w.group 0 w.angle (omega arith) x.fine.group (omega arith) x.fine.angle (λ rs m l. refl) q after r
+  pub closes_group : k ≡ 8 → (after : List ℕ) {then : Walk} (r : Stepped) → then ≡ walk_by next w.name.start w.name.end 0 w.angle w.free → CloseIs w.group end then table after r → StepIs w class start end table after r
+  closes_group q after r = closes 8 w.group 0 w.angle (omega arith) x.fine.group (omega arith) x.fine.angle (λ rs m l. refl) q after r
 
   -- ---- nowhere
 
   -- a group in a group
-  pub stops-group : (w.group ≡ 0 → ⊥) → k ≡ 7 → Stops w class start end table table
-  stops-group z q = record { kept = refl; stops = λ m rs lent h. known 7 q rs m (open_more w.group next (walked_of w rs) (lexeme m) z) }
+  pub stops_group : (w.group ≡ 0 → ⊥) → k ≡ 7 → Stops w class start end table table
+  stops_group z q = record { kept = refl; stops = λ m rs lent h. known 7 q rs m (open_more w.group next (walked_of w rs) (lexeme m) z) }
 
-  pub stops-none : effect_from k ≡ refuse → Stops w class start end table table
-  stops-none q = record { kept = refl; stops = λ m rs lent h. let e : refuse ≡ effect_of next = sym q ∙ x.effect_is in rw (← x.next-is, ← e) }
+  pub stops_none : effect_from k ≡ refuse → Stops w class start end table table
+  stops_none q = record { kept = refl; stops = λ m rs lent h. let e : refuse ≡ effect_of next = sym q ∙ x.effect_is in rw (← x.next_is, ← e) }

@@ -14,14 +14,14 @@ use Rattle.grammar.specs.Executable.Trees822.{Class, Sym, bare, spec, empty, com
 use Rattle.grammar.specs.Executable.Machine822.{in_list, in_group, bare_in, angle_in, route_in, first_at, next_at, of_spec, of_hop, State, place, word, phrase, local, local_dot, at, domain, domain_dot, opened, hop, route, boxed, closed, run, finish, start, read}
 use Rattle.editions.specs.Ties.Places.{Walked, WalkEnd, ends, stops, walk_from, may_end}
 use Rattle.editions.proofs.Follows.{walked_in, Matches, matches}
-use Rattle.editions.proofs.WalkRecords.{list-records}
+use Rattle.editions.proofs.WalkRecords.{list_records_lem}
 
 abbrev DoneIs : Option (Forest Class Nonterminal) → Walked → Type 0
 DoneIs none f = may_end f ≡ false
 DoneIs (some k) f = (may_end f ≡ true) × (f.records ≡ records k)
 
 done : (s : State) (a b : ℕ) → DoneIs (finish s) (walked_in s a b)
-done (place (in_list r)) a b = (refl, sym (list-records (idle r)))
+done (place (in_list r)) a b = (refl, sym (list_records_lem (idle r)))
 done (place (in_group r p c empty)) a b = refl
 done (place (in_group r p c (comma l t))) a b = refl
 done (word h w) a b = refl
@@ -38,7 +38,7 @@ done (at (of_spec (bare_in h) l t)) a b = refl
 done (at (of_spec (angle_in o) l t)) a b = refl
 done (at (of_spec (route_in o r) l t)) a b = refl
 done (at (of_hop o f t)) a b = refl
-done (domain (of_spec (bare_in (in_list r)) l t) m) a b = (refl, sym (list-records (full r (box (bare (spec l t m))))))
+done (domain (of_spec (bare_in (in_list r)) l t) m) a b = (refl, sym (list_records_lem (full r (box (bare (spec l t m))))))
 done (domain (of_spec (bare_in (in_group r p c s)) l t) m) a b = refl
 done (domain (of_spec (angle_in o) l t) m) a b = refl
 done (domain (of_spec (route_in o r) l t) m) a b = refl
@@ -51,9 +51,9 @@ done (opened o) a b = refl
 done (hop o (first_at g)) a b = refl
 done (hop o (next_at h u g)) a b = refl
 done (route o r) a b = refl
-done (boxed (in_list r) m) a b = (refl, sym (list-records (full r (box m))))
+done (boxed (in_list r) m) a b = (refl, sym (list_records_lem (full r (box m))))
 done (boxed (in_group r p c s) m) a b = refl
-done (closed r x) a b = (refl, sym (list-records (full r x)))
+done (closed r x) a b = (refl, sym (list_records_lem (full r x)))
 
 -- ---- the verdict
 

@@ -21,18 +21,18 @@ mode_small after_at = omega arith
 mode_small at_node = omega arith
 mode_small after_address = omega arith
 
-pub class-small : (c : Class) → class_number c < end_column
-class-small Atom = omega arith
-class-small Quoted = omega arith
-class-small At = omega arith
-class-small LessThan = omega arith
-class-small GreaterThan = omega arith
-class-small Comma = omega arith
-class-small Semicolon = omega arith
-class-small Colon = omega arith
-class-small Stray = omega arith
-class-small Dot = omega arith
-class-small Literal = omega arith
+pub class_small : (c : Class) → class_number c < end_column
+class_small Atom = omega arith
+class_small Quoted = omega arith
+class_small At = omega arith
+class_small LessThan = omega arith
+class_small GreaterThan = omega arith
+class_small Comma = omega arith
+class_small Semicolon = omega arith
+class_small Colon = omega arith
+class_small Stray = omega arith
+class_small Dot = omega arith
+class_small Literal = omega arith
 
 -- ---- the table, entry by entry
 
@@ -54,45 +54,45 @@ unfolding action_table
 column_at m j h =
     cell_at columns (λ i k. entry (get_or (cells (row_of (get_or modes i at_place))) k no)) (omega arith) action_table tt (mode_number m) j h (omega (arith, mode_small m)) ∙ ap (λ n. entry (get_or (cells (row_of n)) j no)) (mode_at m)
 
-class-at : (r : Row) (c : Class) → get_or (cells r) (class_number c) no ≡ on_class r c
-class-at r Atom = refl
-class-at r Quoted = refl
-class-at r At = refl
-class-at r LessThan = refl
-class-at r GreaterThan = refl
-class-at r Comma = refl
-class-at r Semicolon = refl
-class-at r Colon = refl
-class-at r Stray = refl
-class-at r Dot = refl
-class-at r Literal = refl
+class_at_lem : (r : Row) (c : Class) → get_or (cells r) (class_number c) no ≡ on_class r c
+class_at_lem r Atom = refl
+class_at_lem r Quoted = refl
+class_at_lem r At = refl
+class_at_lem r LessThan = refl
+class_at_lem r GreaterThan = refl
+class_at_lem r Comma = refl
+class_at_lem r Semicolon = refl
+class_at_lem r Colon = refl
+class_at_lem r Stray = refl
+class_at_lem r Dot = refl
+class_at_lem r Literal = refl
 
 -- what is done in a mode at a symbol of a class
 pub entry_at : (m : Mode) (c : Class) → get_or action_table (mode_number m * columns + class_number c) 0 ≡ entry (action_of m c)
-entry_at m c = column_at m (class_number c) (omega (arith, class-small c)) ∙ ap entry (class-at (row_of m) c)
+entry_at m c = column_at m (class_number c) (omega (arith, class_small c)) ∙ ap entry (class_at_lem (row_of m) c)
 
 -- .. and at the end of the text
-pub end-entry : (m : Mode) → get_or action_table (mode_number m * columns + end_column) 0 ≡ entry (row_of m).end
-end-entry m = column_at m end_column (omega arith)
+pub end_entry : (m : Mode) → get_or action_table (mode_number m * columns + end_column) 0 ≡ entry (row_of m).end
+end_entry m = column_at m end_column (omega arith)
 
 -- ---- what is done, by its number
 
 abbrev act_at : ℕ → Act
 act_at n = get_or (refuses ∷ begins ∷ adds ∷ passes ∷ opens ∷ opens_named ∷ turns_typed ∷ ends_at_comma ∷ closes ∷ ends_and_closes ∷ finishes ∷ ends_and_finishes ∷ []) n refuses
 
-act-at : (d : Act) → act_at (act_number d) ≡ d
-act-at refuses = refl
-act-at begins = refl
-act-at adds = refl
-act-at passes = refl
-act-at opens = refl
-act-at opens_named = refl
-act-at turns_typed = refl
-act-at ends_at_comma = refl
-act-at closes = refl
-act-at ends_and_closes = refl
-act-at finishes = refl
-act-at ends_and_finishes = refl
+act_at_lem : (d : Act) → act_at (act_number d) ≡ d
+act_at_lem refuses = refl
+act_at_lem begins = refl
+act_at_lem adds = refl
+act_at_lem passes = refl
+act_at_lem opens = refl
+act_at_lem opens_named = refl
+act_at_lem turns_typed = refl
+act_at_lem ends_at_comma = refl
+act_at_lem closes = refl
+act_at_lem ends_and_closes = refl
+act_at_lem finishes = refl
+act_at_lem ends_and_finishes = refl
 
-pub act-is : (d e : Act) → act_number d ≡ act_number e → d ≡ e
-act-is d e p = sym (act-at d) ∙ ap act_at p ∙ act-at e
+pub act_is : (d e : Act) → act_number d ≡ act_number e → d ≡ e
+act_is d e p = sym (act_at_lem d) ∙ ap act_at p ∙ act_at_lem e

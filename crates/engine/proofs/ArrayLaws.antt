@@ -19,9 +19,9 @@ entry_agrees {level = level} a h e =
     record {
       number_is = a.same (place_of level 0) (omega arith) ∙ e.number_is;
       start_is = a.same (place_of level 1) (omega arith) ∙ e.start_is;
-      kind-is = a.same (place_of level 2) (omega arith) ∙ e.kind-is;
-      first-is = a.same (place_of level 3) (omega arith) ∙ e.first-is;
-      last-is = a.same (place_of level 4) (omega arith) ∙ e.last-is;
+      kind_is = a.same (place_of level 2) (omega arith) ∙ e.kind_is;
+      first_is = a.same (place_of level 3) (omega arith) ∙ e.first_is;
+      last_is = a.same (place_of level 4) (omega arith) ∙ e.last_is;
     }
 
 mutual
@@ -41,9 +41,9 @@ entry_as {stack} level' number' start' kind' first' last' e l n s k f a =
     record {
       number_is = ap (λ z. get_or stack (place_of z 0) 0) (sym l) ∙ e.number_is ∙ n;
       start_is = ap (λ z. get_or stack (place_of z 1) 0) (sym l) ∙ e.start_is ∙ s;
-      kind-is = ap (λ z. get_or stack (place_of z 2) 0) (sym l) ∙ e.kind-is ∙ k;
-      first-is = ap (λ z. get_or stack (place_of z 3) 0) (sym l) ∙ e.first-is ∙ f;
-      last-is = ap (λ z. get_or stack (place_of z 4) 0) (sym l) ∙ e.last-is ∙ a;
+      kind_is = ap (λ z. get_or stack (place_of z 2) 0) (sym l) ∙ e.kind_is ∙ k;
+      first_is = ap (λ z. get_or stack (place_of z 3) 0) (sym l) ∙ e.first_is ∙ f;
+      last_is = ap (λ z. get_or stack (place_of z 4) 0) (sym l) ∙ e.last_is ∙ a;
     }
 
 -- ---- the numbers of a level are put
@@ -56,25 +56,25 @@ abbrev pub named : List ℕ → ℕ → ℕ → ℕ → ℕ → List ℕ
 named stack level kind first last = set (set (set stack (place_of level 2) kind) (place_of level 3) first) (place_of level 4) last
 
 module _ (stack : List ℕ) (level kind first last : ℕ) (n : place_of level level_size ≤ length stack) where
-  named-below : (j : ℕ) → j < place_of level 2 → get_or (named stack level kind first last) j 0 ≡ get_or stack j 0
-  named-below j h =
+  named_below : (j : ℕ) → j < place_of level 2 → get_or (named stack level kind first last) j 0 ≡ get_or stack j 0
+  named_below j h =
       under (set (set stack (place_of level 2) kind) (place_of level 3) first) (place_of level 4) j last (omega arith)
       ∙ under (set stack (place_of level 2) kind) (place_of level 3) j first (omega arith) ∙ under stack (place_of level 2) j kind (omega arith)
 
   pub named_under : Agrees (level * level_size) stack (named stack level kind first last)
-  named_under = record { same = λ j h. named-below j (omega arith) }
+  named_under = record { same = λ j h. named_below j (omega arith) }
 
   -- the number and the start stay
-  pub named-entry : {number start : ℕ} → get_or stack (place_of level 0) 0 ≡ number → get_or stack (place_of level 1) 0 ≡ start → Entry (named stack level kind first last) level number start kind first last
-  named-entry p q =
+  pub named_entry : {number start : ℕ} → get_or stack (place_of level 0) 0 ≡ number → get_or stack (place_of level 1) 0 ≡ start → Entry (named stack level kind first last) level number start kind first last
+  named_entry p q =
       record {
-        number_is = named-below (place_of level 0) (omega arith) ∙ p;
-        start_is = named-below (place_of level 1) (omega arith) ∙ q;
-        kind-is = under (set (set stack (place_of level 2) kind) (place_of level 3) first) (place_of level 4) (place_of level 2) last (omega arith)
+        number_is = named_below (place_of level 0) (omega arith) ∙ p;
+        start_is = named_below (place_of level 1) (omega arith) ∙ q;
+        kind_is = under (set (set stack (place_of level 2) kind) (place_of level 3) first) (place_of level 4) (place_of level 2) last (omega arith)
             ∙ under (set stack (place_of level 2) kind) (place_of level 3) (place_of level 2) first (omega arith) ∙ get_or-set_same stack (place_of level 2) kind 0 (omega arith);
-        first-is = under (set (set stack (place_of level 2) kind) (place_of level 3) first) (place_of level 4) (place_of level 3) last (omega arith)
+        first_is = under (set (set stack (place_of level 2) kind) (place_of level 3) first) (place_of level 4) (place_of level 3) last (omega arith)
             ∙ get_or-set_same (set stack (place_of level 2) kind) (place_of level 3) first 0 (simp length-set (omega arith));
-        last-is = get_or-set_same (set (set stack (place_of level 2) kind) (place_of level 3) first) (place_of level 4) last 0 (simp length-set (omega arith));
+        last_is = get_or-set_same (set (set stack (place_of level 2) kind) (place_of level 3) first) (place_of level 4) last 0 (simp length-set (omega arith));
       }
 
 -- its number and start
@@ -92,12 +92,12 @@ module _ (stack : List ℕ) (level number start kind first last : ℕ) (n : plac
   pub pushed_under : Agrees (level * level_size) stack (pushed stack level number start kind first last)
   pushed_under =
       record {
-        same = λ j h. named-below (started stack level number start) level kind first last longer j (omega arith)
+        same = λ j h. named_below (started stack level number start) level kind first last longer j (omega arith)
             ∙ under (set stack (place_of level 0) number) (place_of level 1) j start (omega arith) ∙ under stack (place_of level 0) j number (omega arith);
       }
 
   pub pushed_entry : Entry (pushed stack level number start kind first last) level number start kind first last
   pushed_entry =
-      named-entry (started stack level number start) level kind first last longer
+      named_entry (started stack level number start) level kind first last longer
       (under (set stack (place_of level 0) number) (place_of level 1) (place_of level 0) start (omega arith) ∙ get_or-set_same stack (place_of level 0) number 0 (omega arith))
       (get_or-set_same (set stack (place_of level 0) number) (place_of level 1) start 0 (simp length-set (omega arith)))

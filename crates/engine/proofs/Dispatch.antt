@@ -15,20 +15,20 @@ use Rattle.engine.specs.Ties.Actions.{mode_number, mode_room, Act, refuses, begi
 use Rattle.engine.specs.Ties.Stands.{mode_of, parent_at, stored_list, Stands}
 use Rattle.engine.specs.Ties.Turns.{is_angle, kind_if, level_if, end_if, Ended, Closed, GoesTo, StopsBy, Opening, AtClose, AtTyped, Turning, Finishing, FinishedList, Unfinished}
 use Rattle.engine.specs.declared.Engine.{Engine}
-use Rattle.engine.proofs.ActionLaws.{mode_small, act-is}
+use Rattle.engine.proofs.ActionLaws.{mode_small, act_is}
 use Rattle.engine.proofs.LevelLaws.{close_free}
-use Rattle.engine.proofs.MachineLaws.{Does, does, EndsAndFinishes, DoesAtEnd, does_at-end}
-use Rattle.engine.proofs.TurnLaws.{engine_by, passed, kind-below, begin_open, goes_begin, goes_add, goes_pass, ended_free, ended-comma, ended-close, list_close}
+use Rattle.engine.proofs.MachineLaws.{Does, does, EndsAndFinishes, DoesAtEnd, does_at_end}
+use Rattle.engine.proofs.TurnLaws.{engine_by, passed, kind_below, begin_open, goes_begin, goes_add, goes_pass, ended_free, ended_comma, ended_close, list_close}
 
-pub entry-act : (a : Action) (n : ℕ) → n ≡ entry a → n / mode_room ≡ act_number a.act
-entry-act a n e = let h = mode_small a.next in omega arith
+pub entry_act : (a : Action) (n : ℕ) → n ≡ entry a → n / mode_room ≡ act_number a.act
+entry_act a n e = let h = mode_small a.next in omega arith
 
 entry_next : (a : Action) (n : ℕ) → n ≡ entry a → n % mode_room ≡ mode_number a.next
 entry_next a n e = let h = mode_small a.next in omega arith
 
 -- what the machine does, by the act of the entry
 pub acts_as : {action : ℕ} (s : State) (c : Class) (t : Lexeme) → action ≡ entry (action_of (mode_of s) c) → (d : Act) → action / mode_room ≡ act_number d → Does d (action_of (mode_of s) c).next level_limit s c t
-acts_as {action} s c t i d q = rw (act-is (action_of (mode_of s) c).act d (sym (entry-act (action_of (mode_of s) c) action i) ∙ q)) at (does level_limit t s c)
+acts_as {action} s c t i d q = rw (act_is (action_of (mode_of s) c).act d (sym (entry_act (action_of (mode_of s) c) action i) ∙ q)) at (does level_limit t s c)
 
 module _ {text lent stack table : List ℕ} {s : State} {t : Lexeme} {e : Engine} {action : ℕ} {c : Class} {from to : ℕ} (x : Turning text lent s t e action c from to stack table) where
   abbrev a : Action
@@ -37,26 +37,26 @@ module _ {text lent stack table : List ℕ} {s : State} {t : Lexeme} {e : Engine
   does_as : (d : Act) → action / mode_room ≡ act_number d → Does d a.next level_limit s c t
   does_as d q = acts_as s c t x.action_is d q
 
-  next-is : action % mode_room ≡ mode_number a.next
-  next-is = entry_next a action x.action_is
+  next_is : action % mode_room ≡ mode_number a.next
+  next_is = entry_next a action x.action_is
 
   pub turn_refuses : action / mode_room ≡ act_number refuses → StopsBy (step_on level_limit s c t) no_list_goes_on stack stack
   turn_refuses q = record { why = unfit; steps = does_as refuses q; number_is = refl; kept = refl }
 
   pub turn_begins : action / mode_room ≡ act_number begins → GoesTo text lent (step_on level_limit s c t) to (engine_by (action % mode_room) e.depth e.free from to to) stack table
-  turn_begins q = let b = does_as begins q in goes_begin x.follows b.here b.word b.at x.stands b.is b.steps (next-is ∙ sym (ap mode_number b.mode_is))
+  turn_begins q = let b = does_as begins q in goes_begin x.follows b.here b.word b.at x.stands b.is b.steps (next_is ∙ sym (ap mode_number b.mode_is))
 
   pub turn_adds : action / mode_room ≡ act_number adds → GoesTo text lent (step_on level_limit s c t) to (engine_by (action % mode_room) e.depth e.free e.start to to) stack table
-  turn_adds q = let b = does_as adds q in goes_add x.follows b.here b.sofar b.word b.at x.stands b.is b.steps (next-is ∙ sym (ap mode_number b.mode_is))
+  turn_adds q = let b = does_as adds q in goes_add x.follows b.here b.sofar b.word b.at x.stands b.is b.steps (next_is ∙ sym (ap mode_number b.mode_is))
 
   pub turn_passes : action / mode_room ≡ act_number passes → GoesTo text lent (step_on level_limit s c t) to (passed e (action % mode_room) to) stack table
-  turn_passes q = let b = does_as passes q in goes_pass x.follows b.keeps x.stands b.steps (next-is ∙ sym (ap mode_number b.mode_is))
+  turn_passes q = let b = does_as passes q in goes_pass x.follows b.keeps x.stands b.steps (next_is ∙ sym (ap mode_number b.mode_is))
 
   shorter : to ≤ message_limit
   shorter = omega (arith, x.follows.within, x.stands.ordered.short)
 
-  kind-is : {kind : ℕ} → kind ≡ kind_if (is_angle c) → kind < 256
-  kind-is k = omega (arith, kind-below (is_angle c))
+  kind_is : {kind : ℕ} → kind ≡ kind_if (is_angle c) → kind < 256
+  kind_is k = omega (arith, kind_below (is_angle c))
 
   -- a level to be opened
   pub record OpensBy (e' : Engine) (kind : ℕ) : Type 0 where
@@ -77,10 +77,10 @@ module _ {text lent stack table : List ℕ} {s : State} {t : Lexeme} {e : Engine
           free_is = o.1;
           stored = o.2;
           start_is = x.follows.start_is;
-          name-is = x.follows.start_is;
-          kind-is = k;
-          next-is = next-is ∙ sym (ap mode_number b.mode_is);
-          fits = record { free_low = omega (arith, x.stands.room, x.follows.from, x.follows.starts); start-low = omega (arith, x.follows.starts); name-low = omega (arith, x.follows.starts); kind-low = kind-is k; short = shorter };
+          name_is = x.follows.start_is;
+          kind_is = k;
+          next_is = next_is ∙ sym (ap mode_number b.mode_is);
+          fits = record { free_low = omega (arith, x.stands.room, x.follows.from, x.follows.starts); start_low = omega (arith, x.follows.starts); name_low = omega (arith, x.follows.starts); kind_low = kind_is k; short = shorter };
           within = x.follows.within;
           short = x.stands.ordered.short;
           tall = x.stands.ordered.tall;
@@ -88,8 +88,8 @@ module _ {text lent stack table : List ℕ} {s : State} {t : Lexeme} {e : Engine
         steps = b.steps;
       }
 
-  pub turn_opens-named : action / mode_room ≡ act_number opens_named → (kind : ℕ) → kind ≡ kind_if (is_angle c) → OpensBy e kind
-  turn_opens-named q kind k =
+  pub turn_opens_named : action / mode_room ≡ act_number opens_named → (kind : ℕ) → kind ≡ kind_if (is_angle c) → OpensBy e kind
+  turn_opens_named q kind k =
       let b = does_as opens_named q in
       let y : Stands text lent (phrase b.here b.name) e stack table = rw b.at at x.stands in
       record {
@@ -100,14 +100,14 @@ module _ {text lent stack table : List ℕ} {s : State} {t : Lexeme} {e : Engine
           free_is = y.free_is;
           stored = y.stored;
           start_is = y.current.0.start_is;
-          name-is = y.current.0.name-is;
-          kind-is = k;
-          next-is = next-is ∙ sym (ap mode_number b.mode_is);
+          name_is = y.current.0.name_is;
+          kind_is = k;
+          next_is = next_is ∙ sym (ap mode_number b.mode_is);
           fits = record {
             free_low = omega (arith, x.stands.room, x.follows.from, x.follows.starts);
-            start-low = omega (arith, x.stands.ordered.start-low, x.follows.from, x.follows.starts);
-            name-low = omega (arith, x.stands.ordered.name-low, x.follows.from, x.follows.starts);
-            kind-low = kind-is k;
+            start_low = omega (arith, x.stands.ordered.start_low, x.follows.from, x.follows.starts);
+            name_low = omega (arith, x.stands.ordered.name_low, x.follows.from, x.follows.starts);
+            kind_low = kind_is k;
             short = shorter;
           };
           within = x.follows.within;
@@ -132,7 +132,7 @@ module _ {text lent stack table : List ℕ} {s : State} {t : Lexeme} {e : Engine
         here = b.here;
         colon = b.colon;
         atom = b.atom;
-        at = record { stands = rw b.at at x.stands; next-is = next-is ∙ sym (ap mode_number b.mode_is); from = omega (arith, x.follows.from, x.follows.starts); within = x.follows.within };
+        at = record { stands = rw b.at at x.stands; next_is = next_is ∙ sym (ap mode_number b.mode_is); from = omega (arith, x.follows.from, x.follows.starts); within = x.follows.within };
         steps = b.steps;
       }
 
@@ -156,9 +156,9 @@ module _ {text lent stack table : List ℕ} {s : State} {t : Lexeme} {e : Engine
   ends_by finishes h f y = absurd y
   ends_by ends_and_finishes h f y = absurd y
 
-  -- an act after `turnsTyped` that is not `closes` ends an address
+  -- an act after `turns_typed` that is not `closes` ends an address
   pub turn_ends : act_number turns_typed < action / mode_room → (action / mode_room ≡ act_number closes → ⊥) → EndsBy
-  turn_ends h f = let n = entry-act a action x.action_is in ends_by a.act (omega arith) (λ e. f (n ∙ e)) (does level_limit t s c)
+  turn_ends h f = let n = entry_act a action x.action_is in ends_by a.act (omega arith) (λ e. f (n ∙ e)) (does level_limit t s c)
 
   comma_by : (d : Act) → act_number turns_typed < act_number d → (act_number d ≡ act_number closes → ⊥) → (act_number d ≡ act_number ends_and_closes → ⊥) → Does d a.next level_limit s c t → act_number d ≡ act_number ends_at_comma
   comma_by refuses h f g y = absurd (omega arith)
@@ -175,14 +175,14 @@ module _ {text lent stack table : List ℕ} {s : State} {t : Lexeme} {e : Engine
   comma_by ends_and_finishes h f g y = absurd y
 
   -- .. and one that is neither ends it at a comma
-  pub at-comma : act_number turns_typed < action / mode_room → (action / mode_room ≡ act_number closes → ⊥) → (action / mode_room ≡ act_number ends_and_closes → ⊥) → action / mode_room ≡ act_number ends_at_comma
-  at-comma h f g = let n = entry-act a action x.action_is in n ∙ comma_by a.act (omega arith) (λ e. f (n ∙ e)) (λ e. g (n ∙ e)) (does level_limit t s c)
+  pub at_comma : act_number turns_typed < action / mode_room → (action / mode_room ≡ act_number closes → ⊥) → (action / mode_room ≡ act_number ends_and_closes → ⊥) → action / mode_room ≡ act_number ends_at_comma
+  at_comma h f g = let n = entry_act a action x.action_is in n ∙ comma_by a.act (omega arith) (λ e. f (n ∙ e)) (λ e. g (n ∙ e)) (does level_limit t s c)
 
   pub turn_comma : {after : List ℕ} {left : ℕ} → action / mode_room ≡ act_number ends_at_comma → ((h : Here) (y : Address) → Ended s h y → Closed lent (close h y) after left)
       → GoesTo text lent (step_on level_limit s c t) to (engine_by (action % mode_room) left (e.free + 1) to to to) stack after
   turn_comma q f =
       let b = does_as ends_at_comma q in
-      rw b.steps (ended-comma c s b.here b.address x.stands x.follows b.ended (f b.here b.address b.ended) (next-is ∙ sym (ap mode_number b.mode_is)))
+      rw b.steps (ended_comma c s b.here b.address x.stands x.follows b.ended (f b.here b.address b.ended) (next_is ∙ sym (ap mode_number b.mode_is)))
 
   -- a level to be closed
   pub record ClosesBy (depth free kind : ℕ) (stack' table' : List ℕ) : Type 0 where
@@ -197,18 +197,18 @@ module _ {text lent stack table : List ℕ} {s : State} {t : Lexeme} {e : Engine
       record {
         level = b.level;
         sofar = b.sofar;
-        at = list_close c b.level b.sofar (rw b.at at x.stands) x.follows (is_angle c) k (next-is ∙ sym (ap mode_number b.mode_is));
+        at = list_close c b.level b.sofar (rw b.at at x.stands) x.follows (is_angle c) k (next_is ∙ sym (ap mode_number b.mode_is));
         steps = b.steps;
       }
 
-  pub turn_ended-closes : {after : List ℕ} {left : ℕ} → action / mode_room ≡ act_number ends_and_closes → (kind : ℕ) → kind ≡ kind_if (is_angle c) → ((h : Here) (y : Address) → Ended s h y → Closed lent (close h y) after left)
+  pub turn_ended_closes : {after : List ℕ} {left : ℕ} → action / mode_room ≡ act_number ends_and_closes → (kind : ℕ) → kind ≡ kind_if (is_angle c) → ((h : Here) (y : Address) → Ended s h y → Closed lent (close h y) after left)
       → ClosesBy left (e.free + 1) kind stack after
-  turn_ended-closes q kind k f =
+  turn_ended_closes q kind k f =
       let b = does_as ends_and_closes q in
       record {
         level = (close b.here b.address).level;
         sofar = (close b.here b.address).sofar;
-        at = ended-close c s b.here b.address x.stands x.follows b.ended (f b.here b.address b.ended) (is_angle c) k (next-is ∙ sym (ap mode_number b.mode_is));
+        at = ended_close c s b.here b.address x.stands x.follows b.ended (f b.here b.address b.ended) (is_angle c) k (next_is ∙ sym (ap mode_number b.mode_is));
         steps = b.steps;
       }
 
@@ -222,7 +222,7 @@ open_whole (in_group h o t) l f = refl
 -- a list that is finished
 finished_list : (lent table : List ℕ) (s : State) (k : Level) (l : AddressList) (n depth : ℕ) → finish s ≡ whole k l → depth ≡ levels_at k → depth ≡ 0 → n ≡ parent_at k + list_count l
     → table ≡ stored_list lent k l → FinishedList lent s table n
-finished_list lent table s top l n depth w d z c e = record { tree = l; is = w; count-is = omega (arith, c); stored = e }
+finished_list lent table s top l n depth w d z c e = record { tree = l; is = w; count_is = omega (arith, c); stored = e }
 finished_list lent table s (in_angle h o t) l n depth w d z c e = absurd (omega arith)
 finished_list lent table s (in_group h o t) l n depth w d z c e = absurd (omega arith)
 
@@ -231,13 +231,13 @@ module _ {text lent stack table : List ℕ} {s : State} {e : Engine} {action : �
   z = (row_of (mode_of s)).end
 
   pub ends_as : (d : Act) → action / mode_room ≡ act_number d → DoesAtEnd d s
-  ends_as d q = rw (act-is z.act d (sym (entry-act z action x.action_is) ∙ q)) at (does_at-end s)
+  ends_as d q = rw (act_is z.act d (sym (entry_act z action x.action_is) ∙ q)) at (does_at_end s)
 
   pub end_refused : action / mode_room ≡ act_number refuses → Unfinished text s ends_too_soon (length text)
   end_refused q = record { is = ends_as refuses q; number_is = refl; place_is = refl }
 
-  pub end-listed : action / mode_room ≡ act_number finishes → e.depth ≡ 0 → FinishedList lent s table e.free
-  end-listed q d =
+  pub end_listed : action / mode_room ≡ act_number finishes → e.depth ≡ 0 → FinishedList lent s table e.free
+  end_listed q d =
       let b = ends_as finishes q in
       let y : Stands text lent (list b.level b.sofar) e stack table = rw b.at at x.stands in
       finished_list lent table s b.level b.sofar e.free e.depth (ap finish b.at) y.depth_is d y.free_is y.stored
@@ -264,23 +264,23 @@ module _ {text lent stack table : List ℕ} {s : State} {e : Engine} {action : �
 
   pub ends_last : (action / mode_room ≡ act_number refuses → ⊥) → (action / mode_room ≡ act_number finishes → ⊥) → EndsAndFinishes s
   ends_last f g =
-      let n = entry-act z action x.action_is in
-      rw (last_end z.act (λ h. f (n ∙ h)) (λ h. g (n ∙ h)) (does_at-end s)) at (does_at-end s)
+      let n = entry_act z action x.action_is in
+      rw (last_end z.act (λ h. f (n ∙ h)) (λ h. g (n ∙ h)) (does_at_end s)) at (does_at_end s)
 
-  pub end-ends : (action / mode_room ≡ act_number refuses → ⊥) → (action / mode_room ≡ act_number finishes → ⊥) → (h : Here) × (y : Address) × Ended s h y
-  end-ends f g = let b = ends_last f g in (b.here, b.address, b.ended)
+  pub end_ends : (action / mode_room ≡ act_number refuses → ⊥) → (action / mode_room ≡ act_number finishes → ⊥) → (h : Here) × (y : Address) × Ended s h y
+  end_ends f g = let b = ends_last f g in (b.here, b.address, b.ended)
 
   module _ {after : List ℕ} {left : ℕ} (f : action / mode_room ≡ act_number refuses → ⊥) (g : action / mode_room ≡ act_number finishes → ⊥) (closed : (h : Here) (y : Address) → Ended s h y → Closed lent (close h y) after left) where
-    pub end-ended-listed : left ≡ 0 → FinishedList lent s after (e.free + 1)
-    end-ended-listed d =
+    pub end_ended_listed : left ≡ 0 → FinishedList lent s after (e.free + 1)
+    end_ended_listed d =
         let b = ends_last f g in
         let c = closed b.here b.address b.ended in
         let fr = ended_free s b.here b.address x.stands b.ended in
         finished_list lent after s (close b.here b.address).level (close b.here b.address).sofar (e.free + 1) left b.is c.depth_is d
         (omega (arith, close_free b.here b.address, fr.0, fr.1)) c.stored
 
-    pub end-ended_open : (left ≡ 0 → ⊥) → Unfinished text s ends_too_soon (length text)
-    end-ended_open d =
+    pub end_ended_open : (left ≡ 0 → ⊥) → Unfinished text s ends_too_soon (length text)
+    end_ended_open d =
         let b = ends_last f g in
         let c = closed b.here b.address b.ended in
         record { is = b.is ∙ open_whole (close b.here b.address).level (close b.here b.address).sofar (λ h. d (c.depth_is ∙ h)); number_is = refl; place_is = refl }

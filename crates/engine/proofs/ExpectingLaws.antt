@@ -19,11 +19,11 @@ use Rattle.engine.specs.Ties.Stands.{mode_of, HoldsLevel, stored_address, Stands
 use Rattle.engine.specs.Ties.Turns.{is_angle, kind_if, KindIs, level_if, end_if, OpenHere, SomeHere, Finishing}
 use Rattle.engine.specs.Ties.Expecting.{SomeStands, UnderTypedIs}
 use Rattle.engine.specs.declared.Engine.{Engine}
-use Rattle.engine.proofs.LevelLaws.{kind_of_level, level-kind, close-holds, close-depth}
+use Rattle.engine.proofs.LevelLaws.{kind_of_level, level_kind, close_holds, close_depth}
 use Rattle.engine.proofs.MachineLaws.{Does, does, EndsAndFinishes}
-use Rattle.engine.proofs.TurnLaws.{level-depth, begin_open, ended_open}
-use Rattle.engine.proofs.CodeLaws.{ClosingOn, closing-start, closing-stays, typed-top, closing-more}
-use Rattle.engine.proofs.Dispatch.{entry-act, acts_as, ends_as, ends_last}
+use Rattle.engine.proofs.TurnLaws.{level_depth, begin_open, ended_open}
+use Rattle.engine.proofs.CodeLaws.{ClosingOn, closing_start, closing_stays, typed_top, closing_more}
+use Rattle.engine.proofs.Dispatch.{entry_act, acts_as, ends_as, ends_last}
 
 -- ---- under the typed levels
 
@@ -34,17 +34,17 @@ pub record UnderOn (stack : List ℕ) (h : Here) (a : Address) (left : ℕ) : Ty
 
 module _ {stack : List ℕ} (h : Here) (a : Address) where
   pub under_start : {depth : ℕ} → OpenHere stack h depth → UnderOn stack h a depth
-  under_start o = record { table = stored_address [] h a; closing = closing-start (record { is_open = o; end_is = refl; stored = refl }) }
+  under_start o = record { table = stored_address [] h a; closing = closing_start (record { is_open = o; end_is = refl; stored = refl }) }
 
   pub under_stays : {left kind : ℕ} → KindIs stack left kind → kind < 5 → UnderOn stack h a left → left ≡ levels_at (close h a).level
-  under_stays m k u = (closing-stays h a m k u.closing).depth_is
+  under_stays m k u = (closing_stays h a m k u.closing).depth_is
 
   pub under_more : {left kind : ℕ} → KindIs stack left kind → 5 ≤ kind → UnderOn stack h a left → UnderOn stack h a (left - 1)
-  under_more m k u = record { table = _; closing = closing-more h a (typed-top h a m k u.closing) _ refl }
+  under_more m k u = record { table = _; closing = closing_more h a (typed_top h a m k u.closing) _ refl }
 
 -- they are no more than the limit
 pub under_low : {stack : List ℕ} {depth left : ℕ} → SomeHere stack depth → UnderTypedIs stack depth left → left ≤ level_limit
-under_low z u = omega (arith, u z.here (quoted anywhere) z.is_open, close-depth z.here (quoted anywhere), z.is_open.depth_is, z.is_open.deep)
+under_low z u = omega (arith, u z.here (quoted anywhere) z.is_open, close_depth z.here (quoted anywhere), z.is_open.depth_is, z.is_open.deep)
 
 -- ---- marks that close
 
@@ -57,7 +57,7 @@ same_kind (in_group h o v) l true = refl
 same_kind (in_group h o v) l false = refl
 
 closes_if : {stack : List ℕ} {depth kind n : ℕ} (k : Level) (l : AddressList) (b : Bool) → HoldsLevel stack k → depth ≡ levels_at k → kind ≡ kind_if b → KindIs stack depth n → eqb n kind ≡ goes (end_if b k l anywhere)
-closes_if {stack} {depth} k l b x d q e = rw (e.is ∙ level-kind stack depth k x d, q) (same_kind k l b)
+closes_if {stack} {depth} k l b x d q e = rw (e.is ∙ level_kind stack depth k x d, q) (same_kind k l b)
 
 -- ---- a symbol, by its act
 
@@ -80,13 +80,13 @@ module _ {stack : List ℕ} {e : Engine} {action : ℕ} (c : Class) (x : SomeSta
   could_open q =
       let b = does_as opens q in
       let o = begin_open b.here (rw b.at at x.stands) in
-      opens_if e.depth (level_if (is_angle c) b.here none anywhere) (omega (arith, level-depth b.here none anywhere (is_angle c), o.0.depth_is)) ∙ sym (ap goes b.steps)
+      opens_if e.depth (level_if (is_angle c) b.here none anywhere) (omega (arith, level_depth b.here none anywhere (is_angle c), o.0.depth_is)) ∙ sym (ap goes b.steps)
 
   pub could_open_named : action / mode_room ≡ act_number opens_named → ltb e.depth level_limit ≡ takes level_limit x.state c
   could_open_named q =
       let b = does_as opens_named q in
       let y : Stands x.text x.lent (phrase b.here b.name) e stack x.table = rw b.at at x.stands in
-      opens_if e.depth (level_if (is_angle c) b.here (some b.name) anywhere) (omega (arith, level-depth b.here (some b.name) anywhere (is_angle c), y.depth_is)) ∙ sym (ap goes b.steps)
+      opens_if e.depth (level_if (is_angle c) b.here (some b.name) anywhere) (omega (arith, level_depth b.here (some b.name) anywhere (is_angle c), y.depth_is)) ∙ sym (ap goes b.steps)
 
   pub could_close : {kind n : ℕ} → action / mode_room ≡ act_number closes → kind ≡ kind_if (is_angle c) → KindIs stack e.depth n → eqb n kind ≡ takes level_limit x.state c
   could_close q k f =
@@ -102,7 +102,7 @@ module _ {stack : List ℕ} {e : Engine} {action : ℕ} (c : Class) (x : SomeSta
       let b = does_as ends_and_closes q in
       let o = ended_open x.state b.here b.address x.stands b.ended in
       let spot = close b.here b.address in
-      closes_if spot.level spot.sofar (is_angle c) (close-holds stack b.here b.address o.holds) (u b.here b.address o) k f ∙ sym (ap goes b.steps)
+      closes_if spot.level spot.sofar (is_angle c) (close_holds stack b.here b.address o.holds) (u b.here b.address o) k f ∙ sym (ap goes b.steps)
 
   goes_on : (d : Act) → (act_number d ≡ act_number refuses → ⊥) → (act_number d ≡ act_number opens → ⊥) → (act_number d ≡ act_number opens_named → ⊥) → (act_number d ≡ act_number closes → ⊥) → (act_number d ≡ act_number ends_and_closes → ⊥)
       → Does d (action_of (mode_of x.state) c).next level_limit x.state c anywhere → takes level_limit x.state c ≡ true
@@ -124,7 +124,7 @@ module _ {stack : List ℕ} {e : Engine} {action : ℕ} (c : Class) (x : SomeSta
       → (action / mode_room ≡ act_number ends_and_closes → ⊥) → true ≡ takes level_limit x.state c
   could_else f g h j k =
       let a = action_of (mode_of x.state) c in
-      let n = entry-act a action i in
+      let n = entry_act a action i in
       sym (goes_on a.act (λ q. f (n ∙ q)) (λ q. g (n ∙ q)) (λ q. h (n ∙ q)) (λ q. j (n ∙ q)) (λ q. k (n ∙ q)) (does level_limit anywhere x.state c))
 
 -- ---- the end, by its act
@@ -154,11 +154,11 @@ module _ {stack : List ℕ} {e : Engine} {action : ℕ} (x : SomeStands stack e)
     is_open : OpenHere stack b.here e.depth
     is_open = ended_open x.state b.here b.address x.stands b.ended
 
-    pub end-here : SomeHere stack e.depth
-    end-here = record { here = b.here; is_open = is_open }
+    pub end_here : SomeHere stack e.depth
+    end_here = record { here = b.here; is_open = is_open }
 
-    pub end-address : {left : ℕ} → UnderTypedIs stack e.depth left → eqb left 0 ≡ is_some (finish x.state)
-    end-address u = let spot = close b.here b.address in whole_if spot.level spot.sofar (u b.here b.address is_open) ∙ sym (ap is_some b.is)
+    pub end_address : {left : ℕ} → UnderTypedIs stack e.depth left → eqb left 0 ≡ is_some (finish x.state)
+    end_address u = let spot = close b.here b.address in whole_if spot.level spot.sofar (u b.here b.address is_open) ∙ sym (ap is_some b.is)
 
 -- ---- all of them
 

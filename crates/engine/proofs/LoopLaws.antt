@@ -20,16 +20,16 @@ use Rattle.grammar.specs.Executable.Machines.{ended, stopped, at_end, stands_by}
 use Rattle.grammar.specs.Executable.Trees733.{Class, Atom, as_forest}
 use Rattle.grammar.specs.Executable.Machine733.{State, step_on, step, run, judge, as_forests, answer}
 use Rattle.grammar.specs.Executable.Machine733 as machine
-use Rattle.grammar.proofs.Rfc733.TreeRecords.{tree-records, tree-count}
+use Rattle.grammar.proofs.Rfc733.TreeRecords.{tree_records, tree_count}
 use Rattle.addresses.specs.Ties.Steps.{symbols_from, symbols_ahead, lexeme_at}
 use Rattle.addresses.specs.Ties.Whole.{Body, WholeIs}
-use Rattle.addresses.proofs.NextLaws.{NextIs, next-is}
+use Rattle.addresses.proofs.NextLaws.{NextIs, next_is}
 use Rattle.engine.specs.Ties.Actions.{mode_number, columns, end_column, mode_count, entry, row_of, action_of, action_table}
 use Rattle.engine.specs.Ties.Stands.{mode_of, stack_size, Stands}
 use Rattle.engine.specs.Ties.Turns.{Follows, GoesTo, StopsBy, Turning, Finishing, FinishedIs}
 use Rattle.engine.specs.Ties.Expecting.{stop_of, StopsAtEnd, StopsAtSymbol}
 use Rattle.engine.specs.declared.Engine.{Engine}
-use Rattle.engine.proofs.ActionLaws.{mode_small, entry_at, end-entry}
+use Rattle.engine.proofs.ActionLaws.{mode_small, entry_at, end_entry}
 use Rattle.grammar.specs.declared.Whole.{Whole}
 use Rattle.grammar.specs.declared.Whole.TheVariants.{Listed, Refused}
 
@@ -39,16 +39,16 @@ module _ {text lent : List ℕ} {s : State} {e : Engine} {stack table : List ℕ
   pub mode_low : e.mode < mode_count
   mode_low = omega (arith, x.mode_is, mode_small (mode_of s))
 
-  entry-on : {actions : List ℕ} {action : ℕ} (column : ℕ) → actions ≡ action_table → action ≡ get_or actions (e.mode * columns + column) 0 → action ≡ get_or action_table (mode_number (mode_of s) * columns + column) 0
-  entry-on column q i = i ∙ ap (λ l. get_or l (e.mode * columns + column) 0) q ∙ ap (λ n. get_or action_table (n * columns + column) 0) x.mode_is
+  entry_on : {actions : List ℕ} {action : ℕ} (column : ℕ) → actions ≡ action_table → action ≡ get_or actions (e.mode * columns + column) 0 → action ≡ get_or action_table (mode_number (mode_of s) * columns + column) 0
+  entry_on column q i = i ∙ ap (λ l. get_or l (e.mode * columns + column) 0) q ∙ ap (λ n. get_or action_table (n * columns + column) 0) x.mode_is
 
   -- at a symbol
   pub entry_of : (c : Class) {actions : List ℕ} {action : ℕ} (column : ℕ) → actions ≡ action_table → column ≡ class_number c → action ≡ get_or actions (e.mode * columns + column) 0 → action ≡ entry (action_of (mode_of s) c)
-  entry_of c column q k i = entry-on column q i ∙ ap (λ n. get_or action_table (mode_number (mode_of s) * columns + n) 0) k ∙ entry_at (mode_of s) c
+  entry_of c column q k i = entry_on column q i ∙ ap (λ n. get_or action_table (mode_number (mode_of s) * columns + n) 0) k ∙ entry_at (mode_of s) c
 
   -- at the end
   pub end_of : {actions : List ℕ} {action : ℕ} → actions ≡ action_table → action ≡ get_or actions (e.mode * columns + end_column) 0 → action ≡ entry (row_of (mode_of s)).end
-  end_of q i = entry-on end_column q i ∙ end-entry (mode_of s)
+  end_of q i = entry_on end_column q i ∙ end_entry (mode_of s)
 
 -- ---- symbol by symbol
 
@@ -59,13 +59,13 @@ pub record Reading (classes text lent : List ℕ) (from : ℕ) (e : Engine) (sta
   pub reads : run level_limit machine.start (symbols_from classes text from) ≡ run level_limit state (symbols_from classes text e.at)
   pub stood : stop_of classes text from ≡ stands_by step level_limit state (symbols_from classes text e.at)
 
-pub reading-start : (classes text lent stack : List ℕ) {at : ℕ} → length stack ≡ stack_size → Body classes text at
+pub reading_start : (classes text lent stack : List ℕ) {at : ℕ} → length stack ≡ stack_size → Body classes text at
     → Reading classes text lent at (record { mode = 0; depth = 0; free = 0; start = at; name = at; at = at }) stack lent
-reading-start classes text lent stack n b =
+reading_start classes text lent stack n b =
     record {
       state = machine.start;
       stands = record {
-        ordered = record { start-low = omega arith; name-low = omega arith; inside = b.inside; deep = omega arith; short = b.short; tall = n };
+        ordered = record { start_low = omega arith; name_low = omega arith; inside = b.inside; deep = omega arith; short = b.short; tall = n };
         mode_is = refl;
         depth_is = refl;
         free_is = omega arith;
@@ -78,39 +78,39 @@ reading-start classes text lent stack n b =
       stood = refl;
     }
 
-meaning-is : (classes text : List ℕ) (c : Class) (start end : ℕ) → c ≡ Atom → meaning_at classes text c start end ≡ part text start end
-meaning-is classes text c start end e = rw e
+meaning_is : (classes text : List ℕ) (c : Class) (start end : ℕ) → c ≡ Atom → meaning_at classes text c start end ≡ part text start end
+meaning_is classes text c start end e = rw e
 
 -- the next symbol follows
 follows : {classes text : List ℕ} {at : ℕ} {f : Symbol} → NextIs classes text at (Found f) → Follows text at f.class (lexeme_at classes text f.class f.start f.end f.apart) f.start f.end
 follows {classes} {text} {f = f} x =
-    record { start_is = refl; end_is = refl; from = x.ok.0; starts = x.ok.1.starts; within = x.ok.1.within; meaning = meaning-is classes text f.class f.start f.end }
+    record { start_is = refl; end_is = refl; from = x.ok.0; starts = x.ok.1.starts; within = x.ok.1.within; meaning = meaning_is classes text f.class f.start f.end }
 
 stands_as : {text lent : List ℕ} {s s' : State} {e : Engine} {stack stack' table : List ℕ} → s' ≡ s → stack' ≡ stack → Stands text lent s e stack table → Stands text lent s' e stack' table
 stands_as p q x = rw (p, q) x
 
 module _ {classes text lent : List ℕ} {from : ℕ} {e : Engine} {stack table : List ℕ} (r : Reading classes text lent from e stack table) where
-  pub reading-next : {next : Next} → next ≡ next_of (scan_by classes text e.at) → NextIs classes text e.at next
-  reading-next {next} i = next-is classes text e.at next i
+  pub reading_next : {next : Next} → next ≡ next_of (scan_by classes text e.at) → NextIs classes text e.at next
+  reading_next {next} i = next_is classes text e.at next i
 
-  pub reading-turning : {f : Symbol} {actions : List ℕ} {action : ℕ} (column : ℕ) → NextIs classes text e.at (Found f) → actions ≡ action_table → column ≡ class_number f.class
+  pub reading_turning : {f : Symbol} {actions : List ℕ} {action : ℕ} (column : ℕ) → NextIs classes text e.at (Found f) → actions ≡ action_table → column ≡ class_number f.class
       → action ≡ get_or actions (e.mode * columns + column) 0 → Turning text lent r.state (lexeme_at classes text f.class f.start f.end f.apart) e action f.class f.start f.end stack table
-  reading-turning {f = f} column x q k i = record { stands = r.stands; follows = follows x; action_is = entry_of r.stands f.class column q k i }
+  reading_turning {f = f} column x q k i = record { stands = r.stands; follows = follows x; action_is = entry_of r.stands f.class column q k i }
 
   -- one symbol on
-  pub reading-on : {f : Symbol} {e' : Engine} {stack' table' : List ℕ} → NextIs classes text e.at (Found f) → GoesTo text lent (step_on level_limit r.state f.class (lexeme_at classes text f.class f.start f.end f.apart)) f.end e' stack' table'
+  pub reading_on : {f : Symbol} {e' : Engine} {stack' table' : List ℕ} → NextIs classes text e.at (Found f) → GoesTo text lent (step_on level_limit r.state f.class (lexeme_at classes text f.class f.start f.end f.apart)) f.end e' stack' table'
       → Reading classes text lent from e' stack' table'
-  reading-on x g =
+  reading_on x g =
       record {
         state = g.state;
         stands = g.stands;
-        reads = r.reads ∙ ap (run level_limit r.state) x.same ∙ rw (g.steps, g.at-is) refl;
-        stood = r.stood ∙ ap (stands_by step level_limit r.state) x.same ∙ rw (g.steps, g.at-is) refl;
+        reads = r.reads ∙ ap (run level_limit r.state) x.same ∙ rw (g.steps, g.at_is) refl;
+        stood = r.stood ∙ ap (stands_by step level_limit r.state) x.same ∙ rw (g.steps, g.at_is) refl;
       }
 
   -- the symbol is refused
-  pub reading-stops : {f : Symbol} {n : ℕ} {stack' : List ℕ} → NextIs classes text e.at (Found f) → StopsBy (step_on level_limit r.state f.class (lexeme_at classes text f.class f.start f.end f.apart)) n stack stack' → StopsAtSymbol classes text lent from stack' n f.start e
-  reading-stops {f} x g =
+  pub reading_stops : {f : Symbol} {n : ℕ} {stack' : List ℕ} → NextIs classes text e.at (Found f) → StopsBy (step_on level_limit r.state f.class (lexeme_at classes text f.class f.start f.end f.apart)) n stack stack' → StopsAtSymbol classes text lent from stack' n f.start e
+  reading_stops {f} x g =
       let v : run level_limit machine.start (symbols_from classes text from) ≡ stopped g.why (symbols_ahead classes text (Found f)) = r.reads ∙ ap (run level_limit r.state) x.same ∙ rw g.steps refl in
       record {
         table = table;
@@ -119,24 +119,24 @@ module _ {classes text lent : List ℕ} {from : ℕ} {e : Engine} {stack table :
       }
 
   -- no symbol is left
-  pub reading-ends : symbols_from classes text e.at ≡ [] → StopsAtEnd classes text lent from stack table e
-  reading-ends x =
+  pub reading_ends : symbols_from classes text e.at ≡ [] → StopsAtEnd classes text lent from stack table e
+  reading_ends x =
       let q : stop_of classes text from ≡ r.state = r.stood ∙ ap (stands_by step level_limit r.state) x in
       record { stands = stands_as q refl r.stands; reads = r.reads ∙ ap (run level_limit r.state) x ∙ ap ended (sym q) }
 
 -- ---- the end
 
 module _ {classes text lent : List ℕ} {from : ℕ} {e : Engine} {stack table : List ℕ} (x : StopsAtEnd classes text lent from stack table e) where
-  pub ended-finishing : {actions : List ℕ} {action : ℕ} → actions ≡ action_table → action ≡ get_or actions (e.mode * columns + end_column) 0 → Finishing text lent (stop_of classes text from) e action stack table
-  ended-finishing q i = record { stands = x.stands; action_is = end_of x.stands q i }
+  pub ended_finishing : {actions : List ℕ} {action : ℕ} → actions ≡ action_table → action ≡ get_or actions (e.mode * columns + end_column) 0 → Finishing text lent (stop_of classes text from) e action stack table
+  ended_finishing q i = record { stands = x.stands; action_is = end_of x.stands q i }
 
-  pub ended-whole : (after : List ℕ) (w : Whole) → FinishedIs text lent (stop_of classes text from) after w → WholeIs (answer level_limit) classes text from lent after w
-  ended-whole after (Listed n) f =
+  pub ended_whole : (after : List ℕ) (w : Whole) → FinishedIs text lent (stop_of classes text from) after w → WholeIs (answer level_limit) classes text from lent after w
+  ended_whole after (Listed n) f =
       record {
         derivation = as_forest f.tree;
         verdict_is = ap as_forests (ap judge x.reads ∙ ap at_end f.is);
-        count-is = omega (arith, f.count-is, tree-count f.tree);
-        stored = f.stored ∙ ap (λ rs. sets lent 0 (table_bytes rs)) (sym (tree-records f.tree));
+        count_is = omega (arith, f.count_is, tree_count f.tree);
+        stored = f.stored ∙ ap (λ rs. sets lent 0 (table_bytes rs)) (sym (tree_records f.tree));
       }
-  ended-whole after (Refused n p) f =
+  ended_whole after (Refused n p) f =
       record { why = unfinished; rest = []; verdict_is = ap as_forests (ap judge x.reads ∙ ap at_end f.is); number_is = f.number_is; place_is = f.place_is }

@@ -130,32 +130,32 @@ fresh_some (in_list (in_group h (some p) t) empty) b e = let z : ◌≡◌ {A = 
 fresh_some (in_list k (comma l t)) b e = let z : ◌≡◌ {A = ℕ} 0 1 = cc in absurd (omega arith)
 fresh_some (in_typed h t a u) b e = let z : ◌≡◌ {A = ℕ} 0 1 = cc in absurd (omega arith)
 
-place-row : (o : Option Began) → row_of (place_mode o) ≡ place_row (atom_mode o)
-place-row none = refl
-place-row (some b) = refl
+place_row_lem : (o : Option Began) → row_of (place_mode o) ≡ place_row (atom_mode o)
+place_row_lem none = refl
+place_row_lem (some b) = refl
 
 -- ":" after one atom
 abbrev colon_of : Option Began → Action
 colon_of none = opens_named then at_place
 colon_of (some b) = turns_typed then wanting
 
-atom-row : (o : Option Began) → row_of (atom_mode o) ≡ words_row (colon_of o)
-atom-row none = refl
-atom-row (some b) = refl
+atom_row : (o : Option Began) → row_of (atom_mode o) ≡ words_row (colon_of o)
+atom_row none = refl
+atom_row (some b) = refl
 
 module _ (n : ℕ) (t : Lexeme) where
-  at-place : (k : Level) (r : Slot) (o : Option Began) → fresh (in_list k r) ≡ o → (c : Class) → DoesSo (on_class (place_row (atom_mode o)) c) n (list k (idle r)) c t
-  at-place k r o e Atom = record { here = in_list k r; word = atom_word t; at = refl; is = atom_is; steps = refl; mode_is = ap atom_mode e }
-  at-place k r o e Quoted = record { here = in_list k r; word = quoted_word t; at = refl; is = quoted_is; steps = refl; mode_is = refl }
-  at-place k r o e At = refl
-  at-place k r o e LessThan = record { here = in_list k r; at = refl; steps = refl; mode_is = refl }
-  at-place k r o e GreaterThan = record { level = k; sofar = idle r; at = refl; steps = refl; mode_is = refl }
-  at-place k r o e Comma = record { after = list k (idle (comma (idle r) t)); keeps = to_place; steps = refl; mode_is = refl }
-  at-place k r o e Semicolon = record { level = k; sofar = idle r; at = refl; steps = refl; mode_is = refl }
-  at-place k r o e Colon = record { here = in_list k r; at = refl; steps = refl; mode_is = refl }
-  at-place k r o e Stray = refl
-  at-place k r o e Dot = refl
-  at-place k r o e Literal = refl
+  at_place_lem : (k : Level) (r : Slot) (o : Option Began) → fresh (in_list k r) ≡ o → (c : Class) → DoesSo (on_class (place_row (atom_mode o)) c) n (list k (idle r)) c t
+  at_place_lem k r o e Atom = record { here = in_list k r; word = atom_word t; at = refl; is = atom_is; steps = refl; mode_is = ap atom_mode e }
+  at_place_lem k r o e Quoted = record { here = in_list k r; word = quoted_word t; at = refl; is = quoted_is; steps = refl; mode_is = refl }
+  at_place_lem k r o e At = refl
+  at_place_lem k r o e LessThan = record { here = in_list k r; at = refl; steps = refl; mode_is = refl }
+  at_place_lem k r o e GreaterThan = record { level = k; sofar = idle r; at = refl; steps = refl; mode_is = refl }
+  at_place_lem k r o e Comma = record { after = list k (idle (comma (idle r) t)); keeps = to_place; steps = refl; mode_is = refl }
+  at_place_lem k r o e Semicolon = record { level = k; sofar = idle r; at = refl; steps = refl; mode_is = refl }
+  at_place_lem k r o e Colon = record { here = in_list k r; at = refl; steps = refl; mode_is = refl }
+  at_place_lem k r o e Stray = refl
+  at_place_lem k r o e Dot = refl
+  at_place_lem k r o e Literal = refl
 
   -- words that are no address yet
   at_words_lem : (h : Here) (p : Phrase) (colon : Action) → complete (phrase h p) ≡ none → DoesSo colon n (phrase h p) Colon t → (c : Class) → DoesSo (on_class (words_row colon) c) n (phrase h p) c t
@@ -171,13 +171,13 @@ module _ (n : ℕ) (t : Lexeme) where
   at_words_lem h p colon e d Dot = refl
   at_words_lem h p colon e d Literal = refl
 
-  at-colon : (h : Here) (a : Lexeme) (o : Option Began) → fresh h ≡ o → DoesSo (colon_of o) n (phrase h (one (atom_word a))) Colon t
-  at-colon h a none e = record { here = h; name = one (atom_word a); at = refl; steps = ap (phrase_colon n h (one (atom_word a)) t) e; mode_is = refl }
-  at-colon h a (some b) e = record { here = b.here; colon = b.colon; atom = a; at = ap (λ g. phrase g (one (atom_word a))) (fresh_some h b e); steps = ap (phrase_colon n h (one (atom_word a)) t) e; mode_is = refl }
+  at_colon : (h : Here) (a : Lexeme) (o : Option Began) → fresh h ≡ o → DoesSo (colon_of o) n (phrase h (one (atom_word a))) Colon t
+  at_colon h a none e = record { here = h; name = one (atom_word a); at = refl; steps = ap (phrase_colon n h (one (atom_word a)) t) e; mode_is = refl }
+  at_colon h a (some b) e = record { here = b.here; colon = b.colon; atom = a; at = ap (λ g. phrase g (one (atom_word a))) (fresh_some h b e); steps = ap (phrase_colon n h (one (atom_word a)) t) e; mode_is = refl }
 
   -- in each mode the machine does what the table says
   pub does : (s : State) (c : Class) → DoesSo (action_of (mode_of s) c) n s c t
-  does (list k (idle r)) c = rw (place-row (fresh (in_list k r))) (at-place k r (fresh (in_list k r)) refl c)
+  does (list k (idle r)) c = rw (place_row_lem (fresh (in_list k r))) (at_place_lem k r (fresh (in_list k r)) refl c)
   does (list k (full r a)) Atom = refl
   does (list k (full r a)) Quoted = refl
   does (list k (full r a)) At = refl
@@ -189,7 +189,7 @@ module _ (n : ℕ) (t : Lexeme) where
   does (list k (full r a)) Stray = refl
   does (list k (full r a)) Dot = refl
   does (list k (full r a)) Literal = refl
-  does (phrase h (one (atom_word a))) c = rw (atom-row (fresh h)) (at_words_lem h (one (atom_word a)) (colon_of (fresh h)) refl (at-colon h a (fresh h) refl) c)
+  does (phrase h (one (atom_word a))) c = rw (atom_row (fresh h)) (at_words_lem h (one (atom_word a)) (colon_of (fresh h)) refl (at_colon h a (fresh h) refl) c)
   does (phrase h (one (quoted_word q))) Atom = record { here = h; sofar = one (quoted_word q); word = atom_word t; at = refl; is = atom_is; steps = refl; mode_is = refl }
   does (phrase h (one (quoted_word q))) Quoted = record { here = h; sofar = one (quoted_word q); word = quoted_word t; at = refl; is = quoted_is; steps = refl; mode_is = refl }
   does (phrase h (one (quoted_word q))) At = record { after = first_at h (one (quoted_word q)) t; keeps = to_at; steps = refl; mode_is = refl }
@@ -278,13 +278,13 @@ DoesAtEnd finishes s = Finishes s
 DoesAtEnd ends_and_finishes s = EndsAndFinishes s
 
 -- at the end, too
-pub does_at-end : (s : State) → DoesAtEnd (row_of (mode_of s)).end.act s
-does_at-end (list k (idle r)) = rw (place-row (fresh (in_list k r))) (record { level = k; sofar = idle r; at = refl })
-does_at-end (list k (full r a)) = record { level = k; sofar = full r a; at = refl }
-does_at-end (phrase h (one (atom_word a))) = rw (atom-row (fresh h)) refl
-does_at-end (phrase h (one (quoted_word q))) = record { here = h; address = quoted q; ended = lone; is = refl }
-does_at-end (phrase h (more p w)) = refl
-does_at-end (first_at h p v) = refl
-does_at-end (next_at h p m v) = refl
-does_at-end (node h p m) = record { here = h; address = mailbox p m; ended = boxed; is = refl }
-does_at-end (want h v a u) = refl
+pub does_at_end : (s : State) → DoesAtEnd (row_of (mode_of s)).end.act s
+does_at_end (list k (idle r)) = rw (place_row_lem (fresh (in_list k r))) (record { level = k; sofar = idle r; at = refl })
+does_at_end (list k (full r a)) = record { level = k; sofar = full r a; at = refl }
+does_at_end (phrase h (one (atom_word a))) = rw (atom_row (fresh h)) refl
+does_at_end (phrase h (one (quoted_word q))) = record { here = h; address = quoted q; ended = lone; is = refl }
+does_at_end (phrase h (more p w)) = refl
+does_at_end (first_at h p v) = refl
+does_at_end (next_at h p m v) = refl
+does_at_end (node h p m) = record { here = h; address = mailbox p m; ended = boxed; is = refl }
+does_at_end (want h v a u) = refl

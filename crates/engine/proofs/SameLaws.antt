@@ -5,5 +5,5 @@ use Rattle.engine.specs.Believed.Same.{BothReadersSame}
 
 pub both_readers : BothReadersSame
 both_readers message start end table r r' after after' p q =
-    let e : r ≡ r' = p.answer-is ∙ sym q.answer-is in
-    record { number = ap number_of e; position = ap position_of e; count = ap count_of e; bytes = p.bytes-are ∙ sym q.bytes-are }
+    let e : r ≡ r' = p.answer_is ∙ sym q.answer_is in
+    record { number = ap number_of e; position = ap position_of e; count = ap count_of e; bytes = p.bytes_are ∙ sym q.bytes_are }

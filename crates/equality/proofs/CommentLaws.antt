@@ -11,7 +11,7 @@ use Rattle.addresses.proofs.Judgements.{scanned_body, list_scanned}
 use Rattle.equality.specs.Believed.Exchange.{Place, MayHoldComment, message_with, end_with, Holds, AcceptedWith, StillAccepted, CommentsDoNotCount}
 use Rattle.equality.proofs.Shifts.{AlikeScans}
 use Rattle.equality.proofs.Exchanges.{bodies_scan_alike}
-use Rattle.equality.proofs.AlikeBodies.{faultless_too, Checked, Alike, list-again, alike, same_read, same-plain, same-written, same_text}
+use Rattle.equality.proofs.AlikeBodies.{faultless_too, Checked, Alike, list_again, alike, same_read, same_plain, same_written, same_text}
 use Rattle.equality.proofs.CardLaws.{equal_lists}
 
 module _ (place : Place) (may : MayHoldComment place) where
@@ -25,7 +25,7 @@ module _ (place : Place) (may : MayHoldComment place) where
 
   module _ (one other : List ℕ) (c : Holds place one) (d : Holds place other) where
     scans : AlikeScans (scan (take (end_with place one) (message_with place one)) place.start) (scan (take (end_with place other) (message_with place other)) place.start)
-    scans = bodies_scan_alike place may one other c.is-comment d.is-comment
+    scans = bodies_scan_alike place may one other c.comment_is d.comment_is
 
     bodies_alike : Alike (message_with place one) place.start (end_with place one) (message_with place other) place.start (end_with place other)
     bodies_alike = alike (checked one c) (checked other d) scans
@@ -34,15 +34,15 @@ module _ (place : Place) (may : MayHoldComment place) where
     still_accepted k a =
         let l : IsList (body_symbols (message_with place one) place.start (end_with place one)) k = a.list in
         let b = scanned_body (message_with place one) place.start (end_with place one) a.scans l in
-        let (j, r, m, n) = list-again (checked one c) (checked other d) scans (faultless_too scans b.clean.faultless) l in
+        let (j, r, m, n) = list_again (checked one c) (checked other d) scans (faultless_too scans b.clean.faultless) l in
         record {
           again = j;
           accepted = record { scans = list_scanned _ _ _ r; list = r.list };
           same = equal_lists m;
-          text = same-plain k j m;
+          text = same_plain k j m;
         }
 
 pub comments_do_not_count : CommentsDoNotCount
 comments_do_not_count place one other may c d =
     let a = bodies_alike place may one other c d in
-    record { accepted = still_accepted place may one other c d; read = same_read a; written = same-written a; text = same_text a }
+    record { accepted = still_accepted place may one other c d; read = same_read a; written = same_written a; text = same_text a }

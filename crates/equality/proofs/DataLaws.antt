@@ -13,7 +13,7 @@ use Rattle.octets.specs.Believed.Numbers.{level_limit}
 use Rattle.octets.specs.declared.answers.Answer.TheVariants.{Refused}
 use Rattle.scanner.specs.Believed.Scanning.{Scanned, symbols_of}
 use Rattle.scanner.specs.Believed.Answers.{body_checked, unless_fault, fault_of}
-use Rattle.scanner.proofs.OnlyMeanings.{Taking, scan_by_taking, SameButData, both_end, both-fault, both-next, both-quoted, only_meanings, quoted_as}
+use Rattle.scanner.proofs.OnlyMeanings.{Taking, scan_by_taking, SameButData, both_end, both_fault, both_next, both_quoted, only_meanings, quoted_as}
 use Rattle.grammar.specs.Believed.Grammar.{Item, Makes, Rule, branch, yield, Fits, done, take, apply}
 use Rattle.grammar.specs.Believed.Grammar as item
 use Rattle.grammar.specs.Believed.Language.{Verdict, accepted, refused, Refusal, start_of}
@@ -56,9 +56,9 @@ same_end p (one_symbol (itself x) a) = same_end x.lexeme.end a
 same_end p (one_symbol (quoteds start end t u apart) a) = same_end end a
 
 -- no atom is a quoted-string
-same-atom : {x y : Sym} → SameSymbol x y → x.class ≡ Atom → y.lexeme.meaning ≡ x.lexeme.meaning
-same-atom (itself x) e = refl
-same-atom (quoteds start end t u apart) e = absurd (let z : ◌≡◌ {A = ℕ} 0 1 = cc in omega arith)
+same_atom : {x y : Sym} → SameSymbol x y → x.class ≡ Atom → y.lexeme.meaning ≡ x.lexeme.meaning
+same_atom (itself x) e = refl
+same_atom (quoteds start end t u apart) e = absurd (let z : ◌≡◌ {A = ℕ} 0 1 = cc in omega arith)
 
 -- ---- every rule makes records of the same kind: by the meaning of an atom, or whatever the name means
 
@@ -80,7 +80,7 @@ one_keeps rule (r ∷ rules) (there m) k = one_keeps rule rules m k.1
 
 typed_keeps : {items : List (Item Class Nonterminal)} {parts parts' : Derivation} → Fits rfc733 (item.symbol Colon ∷ item.symbol Atom ∷ items) parts → AlikeForests SameSymbol parts parts'
     → meaning_of (name_of (some 1) parts') ≡ meaning_of (name_of (some 1) parts)
-typed_keeps (take c (take e f)) (leaves g (leaves h a)) = ap (λ t. t ++ []) (same-atom h e)
+typed_keeps (take c (take e f)) (leaves g (leaves h a)) = ap (λ t. t ++ []) (same_atom h e)
 
 all_keep : (A : Nonterminal) → AllKeep (rules_of A)
 all_keep list = (λ p q f a. tt, (λ p q f a. tt, tt))
@@ -99,11 +99,11 @@ same_record makes depth parent {parts} {parts'} a e =
     let n = alike_names makes.name a in
     rw (e, same_start 0 y, same_end (start_of 0 (yield parts)) y, same_start (start_of 0 (yield parts)) n, same_end (start_of 0 (yield parts)) n)
 
-same-records : {items : List (Item Class Nonterminal)} {k j : Derivation} → Fits rfc733 items k → AlikeForests SameSymbol k j → (depth parent next : ℕ) → records_from j depth parent next ≡ records_from k depth parent next
-same-records done nils depth parent next = refl
-same-records (take e f) (leaves h a) depth parent next = same-records f a depth parent next
-same-records (apply {A = A} m f l g) (branches rule {parts} {parts'} {forest} {forest'} p a) depth parent next =
-    by rule.makes refl (one_keeps rule (rules_of A) m (all_keep A) parts parts' f p) (same-records f p) (same-records g a depth parent)
+same_records : {items : List (Item Class Nonterminal)} {k j : Derivation} → Fits rfc733 items k → AlikeForests SameSymbol k j → (depth parent next : ℕ) → records_from j depth parent next ≡ records_from k depth parent next
+same_records done nils depth parent next = refl
+same_records (take e f) (leaves h a) depth parent next = same_records f a depth parent next
+same_records (apply {A = A} m f l g) (branches rule {parts} {parts'} {forest} {forest'} p a) depth parent next =
+    by rule.makes refl (one_keeps rule (rules_of A) m (all_keep A) parts parts' f p) (same_records f p) (same_records g a depth parent)
   where
     by : (o : Option Makes) → rule.makes ≡ o → SameKind o parts parts' → ((d q i : ℕ) → records_from parts' d q i ≡ records_from parts d q i) → ((i : ℕ) → records_from forest' depth parent i ≡ records_from forest depth parent i)
         → records_from (branch rule parts' forest') depth parent next ≡ records_from (branch rule parts forest) depth parent next
@@ -113,44 +113,44 @@ same-records (apply {A = A} m f l g) (branches rule {parts} {parts'} {forest} {f
 -- ---- the verdicts
 
 -- a list is a list again, with as many addresses and the same records
-pub accepted-same : (limit : ℕ) {xs ys : List Sym} → Pairwise SameSymbol xs ys → {k : Derivation} → answer limit xs ≡ accepted k → (j : Derivation) × (answer limit ys ≡ accepted j) × (count j ≡ count k) × (records j ≡ records k)
-accepted-same limit {xs} a e =
+pub accepted_same : (limit : ℕ) {xs ys : List Sym} → Pairwise SameSymbol xs ys → {k : Derivation} → answer limit xs ≡ accepted k → (j : Derivation) × (answer limit ys ≡ accepted j) × (count j ≡ count k) × (records j ≡ records k)
+accepted_same limit {xs} a e =
     let (d, within) = answer_derives limit {xs = xs} e in
     let r = derived_alike same_keeps d a in
-    (r.again, answer_accepts limit r.derived (omega (arith, r.deep, within)), r.counted, same-records d.fits r.alike 0 0 0)
+    (r.again, answer_accepts limit r.derived (omega (arith, r.deep, within)), r.counted, same_records d.fits r.alike 0 0 0)
 
 -- a refusal stays, with its number and its position
-pub refused-same : (limit : ℕ) {xs ys : List Sym} → Pairwise SameSymbol xs ys → (why : Refusal) (rest : List Sym) → answer limit xs ≡ refused why rest → (place : List Sym) × (answer limit ys ≡ refused why place) × ((end : ℕ) → start_of end place ≡ start_of end rest)
-refused-same limit a why rest e = let (place, t, f) = refused_alike same_keeps limit a why rest e in (place, f, λ end. same_start end t)
+pub refused_same : (limit : ℕ) {xs ys : List Sym} → Pairwise SameSymbol xs ys → (why : Refusal) (rest : List Sym) → answer limit xs ≡ refused why rest → (place : List Sym) × (answer limit ys ≡ refused why place) × ((end : ℕ) → start_of end place ≡ start_of end rest)
+refused_same limit a why rest e = let (place, t, f) = refused_alike same_keeps limit a why rest e in (place, f, λ end. same_start end t)
 
 -- ---- the scans
 
 pub agreeing : {r s : Scanned} → SameButData r s → Pairwise SameSymbol (symbols_of r) (symbols_of s)
 unfolding symbols_of
 agreeing both_end = no_symbol
-agreeing (both-fault number p) = no_symbol
-agreeing (both-next x h) = one_symbol (itself x) (agreeing h)
-agreeing (both-quoted start end t u apart h) = one_symbol (quoteds start end t u apart) (agreeing h)
+agreeing (both_fault number p) = no_symbol
+agreeing (both_next x h) = one_symbol (itself x) (agreeing h)
+agreeing (both_quoted start end t u apart h) = one_symbol (quoteds start end t u apart) (agreeing h)
 
 -- the same fault, or what is the same otherwise
 same_unless : {A : Type 0} (refuse : ℕ → ℕ → A) {r s : Scanned} → SameButData r s → {a b : A} → a ≡ b → unless_fault refuse r a ≡ unless_fault refuse s b
 unfolding unless_fault
 same_unless refuse both_end e = e
-same_unless refuse (both-fault number p) e = refl
-same_unless refuse (both-next x h) e = same_unless refuse h e
-same_unless refuse (both-quoted start end t u apart h) e = same_unless refuse h e
+same_unless refuse (both_fault number p) e = refl
+same_unless refuse (both_next x h) e = same_unless refuse h e
+same_unless refuse (both_quoted start end t u apart h) e = same_unless refuse h e
 
-pub same-fault : {r s : Scanned} → SameButData r s → fault_of r ≡ fault_of s
-same-fault h = same_unless Refused h refl
+pub same_fault : {r s : Scanned} → SameButData r s → fault_of r ≡ fault_of s
+same_fault h = same_unless Refused h refl
 
 -- the outcome after the checks 1 and 13, with every byte of the lent table
-pub same-decided : {r s : Scanned} → SameButData r s → (end : ℕ) (table : List ℕ) (limit : ℕ)
+pub same_decided : {r s : Scanned} → SameButData r s → (end : ℕ) (table : List ℕ) (limit : ℕ)
     → unless_fault (refusal table) r (decided end table (answer limit (symbols_of r))) ≡ unless_fault (refusal table) s (decided end table (answer limit (symbols_of s)))
-same-decided {r} {s} h end table limit = same_unless (refusal table) h (by (answer limit (symbols_of r)) refl)
+same_decided {r} {s} h end table limit = same_unless (refusal table) h (by (answer limit (symbols_of r)) refl)
   where
     by : (v : Verdict Class Derivation) → answer limit (symbols_of r) ≡ v → decided end table (answer limit (symbols_of r)) ≡ decided end table (answer limit (symbols_of s))
-    by (accepted k) e = let (j, f, n, m) = accepted-same limit (agreeing h) e in rw (e, f, n, m)
-    by (refused why rest) e = let (place, f, p) = refused-same limit (agreeing h) why rest e in rw (e, f, p end)
+    by (accepted k) e = let (j, f, n, m) = accepted_same limit (agreeing h) e in rw (e, f, n, m)
+    by (refused why rest) e = let (place, f, p) = refused_same limit (agreeing h) why rest e in rw (e, f, p end)
 
 -- ---- the reader
 
@@ -163,4 +163,4 @@ outcome_taking rule message start end table =
 -- whatever the rule, document 01's too: the same number, position and count, and the same table
 pub same_outcome : (rule : Taking) (message : List ℕ) (start end : ℕ) (table : List ℕ) → outcome_taking rule message start end table ≡ outcome message start end table
 same_outcome rule message start end table =
-    ap (body_checked (refusal table) message start end) (same-decided (only_meanings rule class_table (front end message) start) end table level_limit)
+    ap (body_checked (refusal table) message start end) (same_decided (only_meanings rule class_table (front end message) start) end table level_limit)

@@ -25,9 +25,9 @@ pub data Within (base s : ℕ) : State → State → Type 0 where
   taking : (e q r : ℕ) → r ≡ e + base → Within base s (taking_in_comment e q) (taking_in_comment r s)
 
 -- there the comment is still to be closed
-pub closes-within : {base s : ℕ} {alone here : State} → Within base s alone here → (rest : List Character) → closes_by rest (go [] alone) ≡ closes rest alone
-closes-within (comment e q r h) rest = refl
-closes-within (taking e q r h) rest = refl
+pub closes_within : {base s : ℕ} {alone here : State} → Within base s alone here → (rest : List Character) → closes_by rest (go [] alone) ≡ closes rest alone
+closes_within (comment e q r h) rest = refl
+closes_within (taking e q r h) rest = refl
 
 -- the moves of a character alone and here: both to a fault; both out of the comment; or both on in it
 pub data Does (base s : ℕ) (m m' : Move) : Type 0 where

@@ -41,10 +41,10 @@ module _ {R : Sym → Sym → Type 0} {N : Type 0} where
 
   -- ---- they have the same levels, as many addresses and the same parts
 
-  same-levels : {forest forest' : Forest Class N} → AlikeForests R forest forest' → levels forest' ≡ levels forest
-  same-levels nils = refl
-  same-levels (leaves h a) = same-levels a
-  same-levels (branches rule p a) = ap₂ (λ m n. max (pick rule.opens 1 0 + m) n) (same-levels p) (same-levels a)
+  same_levels : {forest forest' : Forest Class N} → AlikeForests R forest forest' → levels forest' ≡ levels forest
+  same_levels nils = refl
+  same_levels (leaves h a) = same_levels a
+  same_levels (branches rule p a) = ap₂ (λ m n. max (pick rule.opens 1 0 + m) n) (same_levels p) (same_levels a)
 
   pub same_count : {forest forest' : Forest Class N} → AlikeForests R forest forest' → count forest' ≡ count forest
   same_count nils = refl
@@ -78,14 +78,14 @@ pub record DerivedAlike (R : Sym → Sym → Type 0) (k : Derivation) (ys : List
   pub counted : count again ≡ count k
 
 module _ {R : Sym → Sym → Type 0} (keeps : KeepsClass R) where
-  same-begins : (same : Class → Class → Bool) (cs : List Class) {xs ys : List Sym} → Pairwise R xs ys → begins same cs ys ≡ begins same cs xs
-  same-begins same [] a = refl
-  same-begins same (c ∷ cs) no_symbol = refl
-  same-begins same (c ∷ cs) (one_symbol h a) = ap₂ (λ d t. both (same c d) t) (keeps.class h) (same-begins same cs a)
+  same_begins : (same : Class → Class → Bool) (cs : List Class) {xs ys : List Sym} → Pairwise R xs ys → begins same cs ys ≡ begins same cs xs
+  same_begins same [] a = refl
+  same_begins same (c ∷ cs) no_symbol = refl
+  same_begins same (c ∷ cs) (one_symbol h a) = ap₂ (λ d t. both (same c d) t) (keeps.class h) (same_begins same cs a)
 
   still_allowed : (same : Class → Class → Bool) (never : Option (List Class)) {xs ys : List Sym} → Pairwise R xs ys → Allowed same never xs → Allowed same never ys
   still_allowed same none a h = tt
-  still_allowed same (some cs) a h = same-begins same cs a ∙ h
+  still_allowed same (some cs) a h = same_begins same cs a ∙ h
 
   fits_too : {N : Type 0} {G : Grammar Class N} {items : List (Item Class N)} {forest forest' : Forest Class N} → Fits G items forest → AlikeForests R forest forest' → Fits G items forest'
   fits_too done nils = done
@@ -99,28 +99,28 @@ module _ {R : Sym → Sym → Type 0} (keeps : KeepsClass R) where
   derived_alike {k} {xs} {ys} d a =
       let r = relabelled {R = R} k [] ys (rw d.yields a) in
       let e : ys ≡ yield r.again = r.is ∙ ap (yield_then r.again) (none_left r.left) in
-      record { again = r.again; derived = record { fits = fits_too d.fits r.alike; yields = sym e }; alike = r.alike; deep = same-levels r.alike; counted = same_count r.alike }
+      record { again = r.again; derived = record { fits = fits_too d.fits r.alike; yields = sym e }; alike = r.alike; deep = same_levels r.alike; counted = same_count r.alike }
 
 -- ---- over symbols of the same meanings it means the same
 
-same-meaning : {xs ys : List Sym} → AlikeSymbols xs ys → meaning_of ys ≡ meaning_of xs
-same-meaning no_symbol = refl
-same-meaning (one_symbol h a) = ap₂ (λ t u. t ++ u) h.meaning (same-meaning a)
+same_meaning : {xs ys : List Sym} → AlikeSymbols xs ys → meaning_of ys ≡ meaning_of xs
+same_meaning no_symbol = refl
+same_meaning (one_symbol h a) = ap₂ (λ t u. t ++ u) h.meaning (same_meaning a)
 
-same-words : (before : Words) {xs ys : List Sym} → AlikeSymbols xs ys → words_after before ys ≡ words_after before xs
-same-words before no_symbol = refl
-same-words before (one_symbol {x} {y} {xs} {ys} h a) = same-words (and_symbol before y.class y.lexeme.meaning) a ∙ ap₂ (λ c t. words_after (and_symbol before c t) xs) h.class h.meaning
+same_words : (before : Words) {xs ys : List Sym} → AlikeSymbols xs ys → words_after before ys ≡ words_after before xs
+same_words before no_symbol = refl
+same_words before (one_symbol {x} {y} {xs} {ys} h a) = same_words (and_symbol before y.class y.lexeme.meaning) a ∙ ap₂ (λ c t. words_after (and_symbol before c t) xs) h.class h.meaning
 
 same_address : (makes : Makes) (members : Addresses) {parts parts' : Derivation} → AlikeForests AlikeSymbol parts parts' → address_of makes parts' members ≡ address_of makes parts members
 same_address makes members {parts} {parts'} a =
     let n = alike_names makes.name a in
-    rw (same-meaning n, same-words no_word n, same-words no_word (alike_parts 1 a))
+    rw (same_meaning n, same_words no_word n, same_words no_word (alike_parts 1 a))
 
-same-addresses : {forest forest' : Derivation} → AlikeForests AlikeSymbol forest forest' → (before : Addresses) → addresses_after before forest' ≡ addresses_after before forest
-same-addresses nils before = refl
-same-addresses (leaves h a) before = same-addresses a before
-same-addresses (branches rule {parts} {parts'} {forest} {forest'} p a) before =
-    by rule.makes (same-addresses p before) (same-addresses p no_address) (λ l. same-addresses a l)
+same_addresses : {forest forest' : Derivation} → AlikeForests AlikeSymbol forest forest' → (before : Addresses) → addresses_after before forest' ≡ addresses_after before forest
+same_addresses nils before = refl
+same_addresses (leaves h a) before = same_addresses a before
+same_addresses (branches rule {parts} {parts'} {forest} {forest'} p a) before =
+    by rule.makes (same_addresses p before) (same_addresses p no_address) (λ l. same_addresses a l)
   where
     by : (makes : Option Makes) → addresses_after before parts' ≡ addresses_after before parts → addresses_after no_address parts' ≡ addresses_after no_address parts
         → ((l : Addresses) → addresses_after l forest' ≡ addresses_after l forest)
@@ -130,4 +130,4 @@ same-addresses (branches rule {parts} {parts'} {forest} {forest'} p a) before =
     by (some m) e f g = g _ ∙ ap (λ x. addresses_after (and_address before x) forest) (same_address m (addresses_after no_address parts') p ∙ ap (address_of m parts) f)
 
 pub same_lists : {k j : Derivation} → AlikeForests AlikeSymbol k j → meaning j ≡ meaning k
-same_lists a = same-addresses a no_address
+same_lists a = same_addresses a no_address

@@ -49,16 +49,16 @@ alike_keeps =
     record { class = λ a. a.class; turned = λ a. record { class = sym a.class; meaning = sym a.meaning }; itself = λ x. record { class = refl; meaning = refl } }
 
 pub data AlikeScans : Scanned → Scanned → Type 0 where
-  both-ended : AlikeScans ended ended
-  both-next : {x y : Sym} {r s : Scanned} → AlikeSymbol x y → AlikeScans r s → AlikeScans (next x r) (next y s)
-  both-fault : (n p q : ℕ) → AlikeScans (fault_at n p) (fault_at n q)
+  both_ended : AlikeScans ended ended
+  both_next : {x y : Sym} {r s : Scanned} → AlikeSymbol x y → AlikeScans r s → AlikeScans (next x r) (next y s)
+  both_fault : (n p q : ℕ) → AlikeScans (fault_at n p) (fault_at n q)
 
 -- whichever symbols stand apart
 pub alike_parted : (from from' : ℕ) {r s : Scanned} → AlikeScans r s → AlikeScans (parted from r) (parted from' s)
 unfolding parted
-alike_parted from from' both-ended = both-ended
-alike_parted from from' (both-next {x = x} {y = y} a h) = both-next record { class = a.class; meaning = a.meaning } (alike_parted x.lexeme.end y.lexeme.end h)
-alike_parted from from' (both-fault n p q) = both-fault n p q
+alike_parted from from' both_ended = both_ended
+alike_parted from from' (both_next {x = x} {y = y} a h) = both_next record { class = a.class; meaning = a.meaning } (alike_parted x.lexeme.end y.lexeme.end h)
+alike_parted from from' (both_fault n p q) = both_fault n p q
 
 pub data AlikeStates : State → State → Type 0 where
   outsides : AlikeStates outside outside
@@ -70,7 +70,7 @@ pub data AlikeStates : State → State → Type 0 where
 
 data AlikeMoves : Move → Move → Type 0 where
   both_go : {xs ys : List Sym} {s s' : State} → AlikeSymbols xs ys → AlikeStates s s' → AlikeMoves (go xs s) (go ys s')
-  both-halt : {xs ys : List Sym} (n p q : ℕ) → AlikeSymbols xs ys → AlikeMoves (halt xs n p) (halt ys n q)
+  both_halt : {xs ys : List Sym} (n p q : ℕ) → AlikeSymbols xs ys → AlikeMoves (halt xs n p) (halt ys n q)
 
 alike_symbol : {x y : Sym} → y.class ≡ x.class → y.lexeme.meaning ≡ x.lexeme.meaning → AlikeSymbols (x ∷ []) (y ∷ [])
 alike_symbol c m = one_symbol (record { class = c; meaning = m }) no_symbol
@@ -86,11 +86,11 @@ alike_outside (begins_atom f) b p q = by_both (f b p) (f b q) (both_go no_symbol
 alike_outside (begins_quoted f) b p q = by_both (f b p) (f b q) (both_go no_symbol (quoteds p q []))
 alike_outside (begins_comment f) b p q = by_both (f b p) (f b q) (both_go no_symbol (comments 0 p q))
 alike_outside (mark c f) b p q = by_both (f b p) (f b q) (both_go (alike_symbol refl refl) outsides)
-alike_outside (byte.faulty n f) b p q = by_both (f b p) (f b q) (both-halt n p q no_symbol)
+alike_outside (byte.faulty n f) b p q = by_both (f b p) (f b q) (both_halt n p q no_symbol)
 
 alike_ending : (a e a' e' : ℕ) (t : List ℕ) {m m' : Move} → AlikeMoves m m' → AlikeMoves (ending_with (atom a e t) m) (ending_with (atom a' e' t) m')
 alike_ending a e a' e' t (both_go x s) = both_go (one_symbol (record { class = refl; meaning = refl }) x) s
-alike_ending a e a' e' t (both-halt n p q x) = both-halt n p q (one_symbol (record { class = refl; meaning = refl }) x)
+alike_ending a e a' e' t (both_halt n p q x) = both_halt n p q (one_symbol (record { class = refl; meaning = refl }) x)
 
 alike_in_atom : {k : _} → KindView k → InAtom k → (a e a' e' : ℕ) (t : List ℕ) (b p q : ℕ) → AlikeMoves (move_in_atom k a e t b p) (move_in_atom k a' e' t b q)
 alike_in_atom v (goes_on f) a e a' e' t b p q = by_both (f a e t b p) (f a' e' t b q) (both_go no_symbol (atoms a (p + 1) a' (q + 1) (t ++ (b ∷ []))))
@@ -100,7 +100,7 @@ alike_in_quoted : {k : _} → InQuoted k → (a a' : ℕ) (t : List ℕ) (b p q 
 alike_in_quoted (datum f) a a' t b p q = by_both (f a t b p) (f a' t b q) (both_go no_symbol (quoteds a a' (t ++ (b ∷ []))))
 alike_in_quoted (byte.takes f) a a' t b p q = by_both (f a t b p) (f a' t b q) (both_go no_symbol (taking_quoteds a a' t))
 alike_in_quoted (byte.closes f) a a' t b p q = by_both (f a t b p) (f a' t b q) (both_go (alike_symbol refl refl) outsides)
-alike_in_quoted (byte.faulty n f) a a' t b p q = by_both (f a t b p) (f a' t b q) (both-halt n p q no_symbol)
+alike_in_quoted (byte.faulty n f) a a' t b p q = by_both (f a t b p) (f a' t b q) (both_halt n p q no_symbol)
 
 alike_closed : (d a a' : ℕ) → AlikeStates (closed d a) (closed d a')
 alike_closed zero a a' = outsides
@@ -111,11 +111,11 @@ alike_in_comment (stays f) d a a' p q = by_both (f d a p) (f d a' q) (both_go no
 alike_in_comment (opens f) d a a' p q = by_both (f d a p) (f d a' q) (both_go no_symbol (comments (suc d) a a'))
 alike_in_comment (byte.closes f) d a a' p q = by_both (f d a p) (f d a' q) (both_go no_symbol (alike_closed d a a'))
 alike_in_comment (byte.takes f) d a a' p q = by_both (f d a p) (f d a' q) (both_go no_symbol (taking_comments d a a'))
-alike_in_comment (byte.faulty n f) d a a' p q = by_both (f d a p) (f d a' q) (both-halt n p q no_symbol)
+alike_in_comment (byte.faulty n f) d a a' p q = by_both (f d a p) (f d a' q) (both_halt n p q no_symbol)
 
 alike_behind : {k : _} → Behind k → {s s' : State} → AlikeStates s s' → (p q : ℕ) → AlikeMoves (take k s p) (take k s' q)
 alike_behind (taken f) {s} {s'} h p q = by_both (f s p) (f s' q) (both_go no_symbol h)
-alike_behind (byte.faulty n f) {s} {s'} h p q = by_both (f s p) (f s' q) (both-halt n p q no_symbol)
+alike_behind (byte.faulty n f) {s} {s'} h p q = by_both (f s p) (f s' q) (both_halt n p q no_symbol)
 
 alike_move : {k : _} → KindView k → {s s' : State} → AlikeStates s s' → (b p q : ℕ) (folded : Bool) → AlikeMoves (move s k b p folded) (move s' k b q folded)
 alike_move v outsides b p q folded = alike_outside (outside_by v) b p q
@@ -129,19 +129,19 @@ alike_move v (taking_comments d a a') b p q folded = alike_behind (behind_by v) 
 
 pub alike_followed : {xs ys : List Sym} {r s : Scanned} → AlikeSymbols xs ys → AlikeScans r s → AlikeScans (followed_by xs r) (followed_by ys s)
 alike_followed no_symbol h = h
-alike_followed (one_symbol x xs) h = both-next x (alike_followed xs h)
+alike_followed (one_symbol x xs) h = both_next x (alike_followed xs h)
 
 alike_then : {m m' : Move} (f g : State → Scanned) → AlikeMoves m m' → ((s s' : State) → AlikeStates s s' → AlikeScans (f s) (g s')) → AlikeScans (then m f) (then m' g)
 alike_then f g (both_go x h) k = alike_followed x (k _ _ h)
-alike_then f g (both-halt n p q x) k = alike_followed x (both-fault n p q)
+alike_then f g (both_halt n p q x) k = alike_followed x (both_fault n p q)
 
 alike_end : {s s' : State} → AlikeStates s s' → AlikeScans (at_end s) (at_end s')
-alike_end outsides = both-ended
-alike_end (atoms a e a' e' t) = both-next (record { class = refl; meaning = refl }) both-ended
-alike_end (quoteds a a' t) = both-fault quoted_not_closed a a'
-alike_end (taking_quoteds a a' t) = both-fault quoted_not_closed a a'
-alike_end (comments d a a') = both-fault comment_not_closed a a'
-alike_end (taking_comments d a a') = both-fault comment_not_closed a a'
+alike_end outsides = both_ended
+alike_end (atoms a e a' e' t) = both_next (record { class = refl; meaning = refl }) both_ended
+alike_end (quoteds a a' t) = both_fault quoted_not_closed a a'
+alike_end (taking_quoteds a a' t) = both_fault quoted_not_closed a a'
+alike_end (comments d a a') = both_fault comment_not_closed a a'
+alike_end (taking_comments d a a') = both_fault comment_not_closed a a'
 
 -- from alike states on
 pub alike_from : {xs ys : List Character} → AlikeCharacters xs ys → (s s' : State) → AlikeStates s s' → AlikeScans (scan_from class_table xs s) (scan_from class_table ys s')

@@ -30,9 +30,9 @@ fold_before_open b (c ∷ []) post = refl
 fold_before_open b (c ∷ d ∷ cs) post = refl
 
 -- the second begins with "("
-pub apart-before_open : (cs post : List ℕ) → Apart cs (open_byte ∷ post)
-apart-before_open [] post = tt
-apart-before_open (b ∷ cs) post = (fold_before_open b cs post, apart-before_open cs post)
+pub apart_before_open : (cs post : List ℕ) → Apart cs (open_byte ∷ post)
+apart_before_open [] post = tt
+apart_before_open (b ∷ cs) post = (fold_before_open b cs post, apart_before_open cs post)
 
 -- the last of one or more bytes
 abbrev pub last_byte : ℕ → List ℕ → ℕ
@@ -42,17 +42,17 @@ last_byte b (c ∷ cs) = last_byte c cs
 -- a byte with which no CR and no CRLF ends
 pub record NoLineEnd (b : ℕ) : Type 0 where
   pub no_return : b ≡ return_byte → ⊥
-  pub no-line_feed : b ≡ line_feed_byte → ⊥
+  pub no_line_feed : b ≡ line_feed_byte → ⊥
 
 fold_behind : (b : ℕ) (cs post : List ℕ) → NoLineEnd (last_byte b cs) → fold_at (b ∷ (cs ++ post)) 0 ≡ fold_at (b ∷ cs) 0
 fold_behind b [] post n = rw (ne_eqb b return_byte n.no_return)
-fold_behind b (c ∷ []) post n = rw (ne_eqb c line_feed_byte n.no-line_feed, both_false (eqb b return_byte))
+fold_behind b (c ∷ []) post n = rw (ne_eqb c line_feed_byte n.no_line_feed, both_false (eqb b return_byte))
 fold_behind b (c ∷ d ∷ cs) post n = refl
 
 -- the first ends with such a byte
-pub apart-behind : (b : ℕ) (cs post : List ℕ) → NoLineEnd (last_byte b cs) → Apart (b ∷ cs) post
-apart-behind b [] post n = (fold_behind b [] post n, tt)
-apart-behind b (c ∷ cs) post n = (fold_behind b (c ∷ cs) post n, apart-behind c cs post n)
+pub apart_behind : (b : ℕ) (cs post : List ℕ) → NoLineEnd (last_byte b cs) → Apart (b ∷ cs) post
+apart_behind b [] post n = (fold_behind b [] post n, tt)
+apart_behind b (c ∷ cs) post n = (fold_behind b (c ∷ cs) post n, apart_behind c cs post n)
 
 -- ---- the characters
 

@@ -13,7 +13,7 @@ use Rattle.scanner.specs.Believed.Characters as characters
 use Rattle.scanner.specs.Believed.Scanning.{State, outside, in_atom, in_quoted, taking_in_quoted, in_literal, taking_in_literal, in_comment, taking_in_comment, Move, atom, closed, followed_by, then, scan_from}
 use Rattle.scanner.specs.declared.Class.{Class}
 use Rattle.equality.specs.Believed.Comments.{opens_comment, is_empty, closes}
-use Rattle.equality.proofs.InComments.{never, closes_by, Within, comment, closes-within, Does, faults, leaves, goes_on, does}
+use Rattle.equality.proofs.InComments.{never, closes_by, Within, comment, closes_within, Does, faults, leaves, goes_on, does}
 use Rattle.equality.proofs.Shifts.{AlikeCharacters, none_left, one_more, shifted, AlikeStates, outsides, comments}
 
 -- ---- in a comment
@@ -28,7 +28,7 @@ module _ {base s : ℕ} (behind : List Character) where
       → closes_by xs m ≡ true → then m' (λ state. scan_from class_table (ys ++ behind) state) ≡ scan_from class_table behind (closed base s)
   through_by {xs} {ys} a (faults n p p' e f) h l = never (ap (closes_by xs) (sym e) ∙ l)
   through_by {xs} {ys} a (leaves e f) h l = ap (λ m. then m (λ state. scan_from class_table (ys ++ behind) state)) f ∙ empty_alike behind (closed base s) a (ap (closes_by xs) (sym e) ∙ l)
-  through_by {xs} {ys} a (goes_on alone here w e f) h l = ap (λ m. then m (λ state. scan_from class_table (ys ++ behind) state)) f ∙ h alone here w (sym (closes-within w xs) ∙ ap (closes_by xs) (sym e) ∙ l)
+  through_by {xs} {ys} a (goes_on alone here w e f) h l = ap (λ m. then m (λ state. scan_from class_table (ys ++ behind) state)) f ∙ h alone here w (sym (closes_within w xs) ∙ ap (closes_by xs) (sym e) ∙ l)
 
   -- what closes a comment alone leads here to after the ")" of the innermost comment around it
   through : {xs ys : List Character} → AlikeCharacters xs ys → (alone here : State) → Within base s alone here → closes xs alone ≡ true → scan_from class_table (ys ++ behind) here ≡ scan_from class_table behind (closed base s)
@@ -71,14 +71,14 @@ behind_alike (taking_in_literal start) o = never o
 behind_alike (in_comment depth start) o = comments depth start start
 behind_alike (taking_in_comment depth start) o = never o
 
-pub comment-scans : (state : State) (inside : List ℕ) (p : ℕ) (behind : List Character) → opens_comment state ≡ true → closes (characters_from characters.none inside 1) (in_comment 0 0) ≡ true
+pub comment_scans : (state : State) (inside : List ℕ) (p : ℕ) (behind : List Character) → opens_comment state ≡ true → closes (characters_from characters.none inside 1) (in_comment 0 0) ≡ true
     → scan_from class_table (characters_from characters.none (open_byte ∷ inside) p ++ behind) state ≡ followed_by (ended_by state) (scan_from class_table behind (behind_comment state))
 unfolding scan_from characters_from kind_of class_table class_of
-comment-scans outside inside p behind o l = through {base = 0} behind (shifted inside characters.none 1 (p + 1)) _ _ (comment 0 0 0 refl) l
-comment-scans (in_atom start end t) inside p behind o l = ap (followed_by (atom start end t ∷ [])) (through {base = 0} behind (shifted inside characters.none 1 (p + 1)) _ _ (comment 0 0 0 refl) l)
-comment-scans (in_quoted start t) inside p behind o l = never o
-comment-scans (taking_in_quoted start t) inside p behind o l = never o
-comment-scans (in_literal start) inside p behind o l = never o
-comment-scans (taking_in_literal start) inside p behind o l = never o
-comment-scans (in_comment depth start) inside p behind o l = through {base = suc depth} behind (shifted inside characters.none 1 (p + 1)) _ _ (comment 0 0 (suc depth) (omega arith)) l
-comment-scans (taking_in_comment depth start) inside p behind o l = never o
+comment_scans outside inside p behind o l = through {base = 0} behind (shifted inside characters.none 1 (p + 1)) _ _ (comment 0 0 0 refl) l
+comment_scans (in_atom start end t) inside p behind o l = ap (followed_by (atom start end t ∷ [])) (through {base = 0} behind (shifted inside characters.none 1 (p + 1)) _ _ (comment 0 0 0 refl) l)
+comment_scans (in_quoted start t) inside p behind o l = never o
+comment_scans (taking_in_quoted start t) inside p behind o l = never o
+comment_scans (in_literal start) inside p behind o l = never o
+comment_scans (taking_in_literal start) inside p behind o l = never o
+comment_scans (in_comment depth start) inside p behind o l = through {base = suc depth} behind (shifted inside characters.none 1 (p + 1)) _ _ (comment 0 0 (suc depth) (omega arith)) l
+comment_scans (taking_in_comment depth start) inside p behind o l = never o

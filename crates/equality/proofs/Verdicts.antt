@@ -6,7 +6,7 @@ use Rattle.grammar.specs.Believed.Grammar.{levels}
 use Rattle.grammar.specs.Believed.Language.{AtMost, MoreThan, up_to, GoesOn, FirstRefused, Refusal, unfit, unfinished, too_deep, refused, Right}
 use Rattle.grammar.specs.Believed.Rfc733.{Derivation, DerivedList, RightWithin}
 use Rattle.grammar.specs.Executable.Machine733.{answer}
-use Rattle.grammar.proofs.Rfc733.Condition3.{answer-right, answer-only}
+use Rattle.grammar.proofs.Rfc733.Condition3.{answer_right, answer_only}
 use Rattle.grammar.specs.Executable.Trees733.{Sym}
 use Rattle.equality.proofs.Pairs.{Pairwise, no_symbol, one_symbol, KeepsClass, to_themselves, turned}
 use Rattle.equality.proofs.Relabels.{derived_alike}
@@ -34,8 +34,8 @@ module _ {R : Sym → Sym → Type 0} where
       let r = parted before x after zs a in
       record { front = y ∷ r.front; y = r.y; behind = r.behind; is = ap (λ l. y ∷ l) r.is; alike_front = one_symbol h r.alike_front; alike_y = r.alike_y; alike_behind = r.alike_behind }
 
-  alike_up-to : {p q : List Sym} {x y : Sym} → Pairwise R p q → R x y → Pairwise R (up_to p x) (up_to q y)
-  alike_up-to a h = together a (one_symbol h no_symbol)
+  alike_up_to : {p q : List Sym} {x y : Sym} → Pairwise R p q → R x y → Pairwise R (up_to p x) (up_to q y)
+  alike_up_to a h = together a (one_symbol h no_symbol)
 
 -- ---- over any relation that derives related symbols alike
 
@@ -63,7 +63,7 @@ module _ {R : Sym → Sym → Type 0} (keeps : KeepsClass R) {T : Type 0} (Deriv
     first_too {xs} {rest} {ys} f a =
         let e : xs ≡ f.before ++ (f.x ∷ f.after) = f.splits ∙ ap (λ l. f.before ++ l) f.place in
         let r = parted f.before f.x f.after ys (rw e at a) in
-        let u = alike_up-to r.alike_front r.alike_y in
+        let u = alike_up_to r.alike_front r.alike_y in
         record {
           place = r.y ∷ r.behind;
           first =
@@ -76,7 +76,7 @@ module _ {R : Sym → Sym → Type 0} (keeps : KeepsClass R) {T : Type 0} (Deriv
                 earlier =
                     λ p y q h.
                     let s = parted p y q f.before (rw h at (turned keeps r.alike_front)) in
-                    goes_on (AtMost limit) (turned keeps (alike_up-to s.alike_front s.alike_y)) (f.earlier s.front s.y s.behind s.is);
+                    goes_on (AtMost limit) (turned keeps (alike_up_to s.alike_front s.alike_y)) (f.earlier s.front s.y s.behind s.is);
                 here = λ g. f.here (goes_on (AtMost limit) (turned keeps u) g);
               };
           alike = u;
@@ -99,6 +99,6 @@ module _ {R : Sym → Sym → Type 0} (keeps : KeepsClass R) where
   -- a refusal stays, for the same reason and at the same place
   pub refused_alike : (limit : ℕ) {xs ys : List Sym} → Pairwise R xs ys → (why : Refusal) (rest : List Sym) → answer limit xs ≡ refused why rest → (place : List Sym) × Pairwise R rest place × (answer limit ys ≡ refused why place)
   refused_alike limit {xs} {ys} a why rest e =
-      let r : RightWithin limit xs (refused why rest) = rw e at (answer-right limit xs) in
+      let r : RightWithin limit xs (refused why rest) = rw e at (answer_right limit xs) in
       let (place, there, right) = right_too keeps DerivedList levels carried limit a why rest r in
-      (place, there, sym (answer-only limit ys (refused why place) right))
+      (place, there, sym (answer_only limit ys (refused why place) right))

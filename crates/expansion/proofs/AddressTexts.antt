@@ -21,25 +21,25 @@ use Rattle.plain.specs.Ties.Walking.{symbol_text, after, colon_next, walk_text}
 use Rattle.plain.specs.Ties.Writing.{text_limit, is_colon}
 use Rattle.plain.specs.declared.places.Place.{Place}
 use Rattle.plain.specs.declared.places.Place.TheVariants.{Start}
-use Rattle.plain.proofs.WalkSteps.{colon-of, NoneComes}
+use Rattle.plain.proofs.WalkSteps.{colon_of, NoneComes}
 use Rattle.expansion.specs.Ties.Walk.{Sym, until_end}
 use Rattle.addresses.specs.Ties.Steps.{symbols_from}
 use Rattle.expansion.specs.Ties.Steps.{address_from}
-use Rattle.expansion.proofs.SeekSteps.{no_symbols, next-symbol}
-use Rattle.expansion.proofs.Seeking.{Ending, at_greater, at-comma, at-semicolon, ending}
+use Rattle.expansion.proofs.SeekSteps.{no_symbols, next_symbol}
+use Rattle.expansion.proofs.Seeking.{Ending, at_greater, at_comma, at_semicolon, ending}
 
 -- where an address ends no ":" stands
-no-colon : {c : Class} → Ending c → false ≡ same_class Colon c
-no-colon at_greater = refl
-no-colon at-comma = refl
-no-colon at-semicolon = refl
+no_colon : {c : Class} → Ending c → false ≡ same_class Colon c
+no_colon at_greater = refl
+no_colon at_comma = refl
+no_colon at_semicolon = refl
 
 until_colon : (xs : List Sym) → colon_next (until_end xs) ≡ colon_next xs
 until_colon [] = refl
 until_colon (x ∷ xs) = by (ends_address x.class) refl
   where
     by : (z : Bool) → ends_address x.class ≡ z → colon_next (pick z [] (x ∷ until_end xs)) ≡ same_class Colon x.class
-    by true e = no-colon (ending x.class e)
+    by true e = no_colon (ending x.class e)
     by false e = refl
 
 -- n bytes are written, and the text from the next symbol on is left
@@ -66,7 +66,7 @@ module _ {classes text : List ℕ} {start : ℕ} {own₀ own : List ℕ} {n : �
 
   until_next : {class : Class} {first end size : ℕ} {apart : Bool} → coming ≡ found_at class first end size apart
       → until_end (symbols_from classes text l.at) ≡ pick (ends_address class) [] (apart_from l.at (symbol class first end (meaning_at classes text class first end)) ∷ until_end (symbols_from classes text end))
-  until_next e = ap until_end (next-symbol classes text (comes e))
+  until_next e = ap until_end (next_symbol classes text (comes e))
 
   pub coming_end : {class : Class} {first end size : ℕ} {apart : Bool} → coming ≡ found_at class first end size apart → ends_address class ≡ true → (n ≡ length (address_from classes text start)) × (own ≡ sets own₀ 0 (address_from classes text start))
   coming_end {class} {first} {end} e g =
@@ -79,7 +79,7 @@ module _ {classes text : List ℕ} {start : ℕ} {own₀ own : List ℕ} {n : �
   coming_next {class} {first} {end} {colon = colon} {place' = place'} e g h k c s w b p =
       let x = comes e in
       let ys : List Sym = until_end (symbols_from classes text end) in
-      let q : colon ≡ colon_next ys = c ∙ ap is_colon k ∙ colon-of (scan_by classes text end) ∙ sym (until_colon (symbols_from classes text end)) in
+      let q : colon ≡ colon_next ys = c ∙ ap is_colon k ∙ colon_of (scan_by classes text end) ∙ sym (until_colon (symbols_from classes text end)) in
       let t : walk_text place (until_end (symbols_from classes text l.at)) ≡ symbol_text class (meaning_at classes text class first end) place colon (walk_text place' ys) =
       rw (p, q) (ap (walk_text place) (until_next e ∙ ap (λ z. pick z [] (apart_from l.at (symbol class first end (meaning_at classes text class first end)) ∷ ys)) g)) in
       record {

@@ -14,15 +14,15 @@ use Rattle.octets.specs.Believed.Numbers.{level_limit, opening_limit, too_many_l
 use Rattle.octets.specs.declared.answers.Answer.{Answer}
 use Rattle.octets.specs.declared.answers.Answer.TheVariants.{Refused}
 use Rattle.octets.specs.contracts.answers.Answer as answer-declared
-use Rattle.octets.proofs.ChoiceLaws.{both-parts}
+use Rattle.octets.proofs.ChoiceLaws.{both_parts}
 use Rattle.scanner.specs.Believed.Scanning.{scan, symbols_of}
 use Rattle.grammar.specs.Believed.Grammar.{levels}
 use Rattle.grammar.specs.Believed.Rfc733.{Derivation}
 use Rattle.addresses.specs.Believed.Outcome.{body_read, outcome}
 use Rattle.addresses.specs.Believed.Within.{list_within}
-use Rattle.addresses.proofs.Judgements.{ListBody, refused_at, listed, judged, listed-read}
+use Rattle.addresses.proofs.Judgements.{ListBody, refused_at, listed, judged, listed_read}
 use Rattle.addresses.proofs.Told.{refused_told, some_list}
-use Rattle.addresses.proofs.WithinLaws.{within-listed, within_not}
+use Rattle.addresses.proofs.WithinLaws.{within_listed, within_not}
 use Rattle.plain.specs.declared.places.Place.{Place}
 use Rattle.expansion.specs.Believed.Store.{list_in}
 use Rattle.expansion.specs.Ties.Walk.{Trail, halted, walk_within}
@@ -34,11 +34,11 @@ use Rattle.expansion.specs.declared.Verdict.TheVariants.{Faulty}
 -- ---- the fault of a list, by what the reader answers
 
 module _ (i position : ℕ) (list table : List ℕ) where
-  pub fault-refused : (n p : ℕ) → Refused n p ≡ (outcome list 0 (length list) table).answer → Faulty n i ≡ fault_in list i position
-  fault-refused n p e = sym (refused_told list 0 (length list) table n p e Verdict (λ n p. Faulty n i) (λ k. Faulty too_many_levels position))
+  pub fault_refused : (n p : ℕ) → Refused n p ≡ (outcome list 0 (length list) table).answer → Faulty n i ≡ fault_in list i position
+  fault_refused n p e = sym (refused_told list 0 (length list) table n p e Verdict (λ n p. Faulty n i) (λ k. Faulty too_many_levels position))
 
-  pub fault-levels : (r : Answer) → r ≡ (outcome list 0 (length list) table).answer → OneOf (0 ∷ 2 ∷ []) (tag_of answer-declared.the_type r) → Faulty too_many_levels position ≡ fault_in list i position
-  fault-levels r e o = sym (listed-read (some_list list 0 (length list) table r e o).body (λ n p. Faulty n i) (λ k. Faulty too_many_levels position))
+  pub fault_levels : (r : Answer) → r ≡ (outcome list 0 (length list) table).answer → OneOf (0 ∷ 2 ∷ []) (tag_of answer-declared.the_type r) → Faulty too_many_levels position ≡ fault_in list i position
+  fault_levels r e o = sym (listed_read (some_list list 0 (length list) table r e o).body (λ n p. Faulty n i) (λ k. Faulty too_many_levels position))
 
 -- ---- the record
 
@@ -66,14 +66,14 @@ module _ (store : List ℕ) (i position depth openings : ℕ) where
     -- it is opened
     pub opens : both (leb depth level_limit) (list_within (level_limit - depth) (list_in store i)) ≡ true → RecordOpens store i position depth openings
     opens e =
-        let (a, b) = both-parts _ _ e in
+        let (a, b) = both_parts _ _ e in
         let low = leb-true depth level_limit a in
-        let (k, body, fits) = within-listed (level_limit - depth) (list_in store i) b in
+        let (k, body, fits) = within_listed (level_limit - depth) (list_in store i) b in
         record {
           few = few;
           low = low;
           walks = λ deep place following.
-              reads deep place following ∙ listed-read body refuse (derive deep place following)
+              reads deep place following ∙ listed_read body refuse (derive deep place following)
               ∙ ap (λ z. pick z (halted too_many_levels position openings) (walk_symbols store deep (Inside position depth) place [] (symbols_of (scan (list_in store i) 0)) (suc openings) following)) (le-ltb level_limit (depth + levels k) (omega (arith, low, fits)))
               ∙ ap (λ u. walk_symbols store deep (Inside position depth) place [] (symbols_of (scan (list_in store i) 0)) u following) (omega arith);
         }
@@ -88,13 +88,13 @@ module _ (store : List ℕ) (i position depth openings : ℕ) where
     halts n p f zero place following h = absurd (omega (arith, h, few))
     halts n p f (suc deep) place following h = reads deep place following ∙ f deep place following
 
-    pub at-fault : both (leb depth level_limit) (list_within (level_limit - depth) (list_in store i)) ≡ false → (r : Verdict) → r ≡ fault_in (list_in store i) i position → VerdictIs store i position depth openings r
-    at-fault e r g =
+    pub at_fault : both (leb depth level_limit) (list_within (level_limit - depth) (list_in store i)) ≡ false → (r : Verdict) → r ≡ fault_in (list_in store i) i position → VerdictIs store i position depth openings r
+    at_fault e r g =
         elim (judged (list_in store i) 0 (length (list_in store i))) [
           | refused_at n p f ↦ rw (g ∙ f Verdict (λ n p. Faulty n i) (λ k. Faulty too_many_levels position)) (halts n i (λ deep place following. f Trail refuse (derive deep place following)))
           | listed k b ↦
-              rw (g ∙ listed-read b (λ n p. Faulty n i) (λ k. Faulty too_many_levels position))
+              rw (g ∙ listed_read b (λ n p. Faulty n i) (λ k. Faulty too_many_levels position))
               (halts too_many_levels position (λ deep place following.
-              listed-read b refuse (derive deep place following)
+              listed_read b refuse (derive deep place following)
               ∙ ap (λ z. pick z (halted too_many_levels position openings) (walk_symbols store deep (Inside position depth) place [] (symbols_of (scan (list_in store i) 0)) (suc openings) following)) (lt-ltb level_limit (depth + levels k) (deeper k b _ refl e))))
         ]

@@ -39,10 +39,10 @@ module _ (classes text : List ℕ) where
   pub no_symbols : (coming : Next) (at : ℕ) → coming ≡ next_of (scan_by classes text at) → NoneComes coming → symbols_from classes text at ≡ []
   no_symbols coming at e h = none_of (scan_by classes text at) (rw e at h)
 
-  pub next-symbol : {at : ℕ} {class : Class} {start end : ℕ} → SymbolAt classes text at class start end
+  pub next_symbol : {at : ℕ} {class : Class} {start end : ℕ} → SymbolAt classes text at class start end
       → symbols_from classes text at ≡ apart_from at (symbol class start end (meaning_at classes text class start end)) ∷ symbols_from classes text end
   unfolding symbols_of
-  next-symbol x = rw x.same
+  next_symbol x = rw x.same
 
   -- ---- what an Include holds
 
@@ -52,13 +52,13 @@ module _ (classes text : List ℕ) where
 
     module _ {class : Class} {start end : ℕ} (x : SymbolAt classes text p class start end) where
       pub held_as : (c : Class) → class ≡ c → held_by (symbols_from classes text at) ≡ held_from c (symbols_from classes text end) (held_by (symbols_from classes text end))
-      held_as c e = i ∙ ap held_by (next-symbol x) ∙ ap (λ z. held_from z (symbols_from classes text end) (held_by (symbols_from classes text end))) e
+      held_as c e = i ∙ ap held_by (next_symbol x) ∙ ap (λ z. held_from z (symbols_from classes text end) (held_by (symbols_from classes text end))) e
 
       pub held_word : OneOf (0 ∷ 1 ∷ []) (tag class) → held_by (symbols_from classes text at) ≡ held_by (symbols_from classes text end)
       held_word o = held_as class refl ∙ rw (by_class (0 ∷ 1 ∷ []) is_word tt class o)
 
-      pub held-other : OneOf (4 ∷ 5 ∷ 6 ∷ 7 ∷ 8 ∷ 9 ∷ 10 ∷ []) (tag class) → held_by (symbols_from classes text at) ≡ neither
-      held-other o =
+      pub held_other : OneOf (4 ∷ 5 ∷ 6 ∷ 7 ∷ 8 ∷ 9 ∷ 10 ∷ []) (tag class) → held_by (symbols_from classes text at) ≡ neither
+      held_other o =
           held_as class refl
           ∙ rw (
             by_class_not (4 ∷ 5 ∷ 6 ∷ 7 ∷ 8 ∷ 9 ∷ 10 ∷ []) is_word tt class o,
@@ -82,7 +82,7 @@ module _ (classes text : List ℕ) where
   module _ {class : Class} {start end : ℕ} (at p : ℕ) (inner : Bool) (i : Skipping at p inner) (x : SymbolAt classes text p class start end) where
     one : skip_to inner (symbols_from classes text p) ≡ pick (pick inner false (ends_address class)) (symbols_from classes text p) (skip_to (inner_after class inner) (symbols_from classes text end))
     one =
-        let n = next-symbol x in
+        let n = next_symbol x in
         ap (skip_to inner) n ∙ ap (λ ys. pick (pick inner false (ends_address class)) ys (skip_to (inner_after class inner) (symbols_from classes text end))) (sym n)
 
     pub skip_stop : ends_address class ≡ true → inner ≡ false → (symbols_from classes text p ≡ skip_to false (symbols_from classes text at)) × (at ≤ p)
@@ -125,25 +125,25 @@ module _ (classes text : List ℕ) where
 
     module _ {class : Class} {start end : ℕ} (x : SymbolAt classes text p class start end) where
       pub only_as : (c : Class) → class ≡ c → only false false (symbols_from classes text at) ≡ only_from c words nodes (λ words' nodes'. only words' nodes' (symbols_from classes text end))
-      only_as c e = i ∙ ap (only words nodes) (next-symbol x) ∙ ap (λ z. only_from z words nodes (λ words' nodes'. only words' nodes' (symbols_from classes text end))) e
+      only_as c e = i ∙ ap (only words nodes) (next_symbol x) ∙ ap (λ z. only_from z words nodes (λ words' nodes'. only words' nodes' (symbols_from classes text end))) e
 
-      pub only-word : OneOf (0 ∷ 1 ∷ []) (tag class) → only false false (symbols_from classes text at) ≡ only (not nodes) nodes (symbols_from classes text end)
-      only-word o = only_as class refl ∙ rw (by_class (0 ∷ 1 ∷ []) is_word tt class o)
+      pub only_word : OneOf (0 ∷ 1 ∷ []) (tag class) → only false false (symbols_from classes text at) ≡ only (not nodes) nodes (symbols_from classes text end)
+      only_word o = only_as class refl ∙ rw (by_class (0 ∷ 1 ∷ []) is_word tt class o)
 
-      only-comma : (z : Bool) → class ≡ Comma → words ≡ z → only false false (symbols_from classes text at) ≡ both (not z) (only false false (symbols_from classes text end))
-      only-comma z e f = only_as Comma e ∙ ap (λ w. both (not w) (only false false (symbols_from classes text end))) f
+      only_comma : (z : Bool) → class ≡ Comma → words ≡ z → only false false (symbols_from classes text at) ≡ both (not z) (only false false (symbols_from classes text end))
+      only_comma z e f = only_as Comma e ∙ ap (λ w. both (not w) (only false false (symbols_from classes text end))) f
 
-      pub only-lone : class ≡ Comma → words ≡ true → false ≡ only false false (symbols_from classes text at)
-      only-lone e f = sym (only-comma true e f)
+      pub only_lone : class ≡ Comma → words ≡ true → false ≡ only false false (symbols_from classes text at)
+      only_lone e f = sym (only_comma true e f)
 
       pub only_next : class ≡ Comma → words ≡ false → only false false (symbols_from classes text at) ≡ only words false (symbols_from classes text end)
-      only_next e f = only-comma false e f ∙ ap (λ w. only w false (symbols_from classes text end)) (sym f)
+      only_next e f = only_comma false e f ∙ ap (λ w. only w false (symbols_from classes text end)) (sym f)
 
-      pub only-closed : class ≡ GreaterThan → not words ≡ only false false (symbols_from classes text at)
-      only-closed e = sym (only_as GreaterThan e)
+      pub only_closed : class ≡ GreaterThan → not words ≡ only false false (symbols_from classes text at)
+      only_closed e = sym (only_as GreaterThan e)
 
-      pub only-other : OneOf (3 ∷ 6 ∷ 7 ∷ 8 ∷ 9 ∷ 10 ∷ []) (tag class) → false ≡ only false false (symbols_from classes text at)
-      only-other o =
+      pub only_other : OneOf (3 ∷ 6 ∷ 7 ∷ 8 ∷ 9 ∷ 10 ∷ []) (tag class) → false ≡ only false false (symbols_from classes text at)
+      only_other o =
           sym
           (only_as class refl
           ∙ rw (
@@ -164,8 +164,8 @@ nowhere_is none e = refl
 nowhere_is (some j) e = absurd (let z : ◌≡◌ {A = ℕ} 0 1 = cc in omega arith)
 
 module _ (classes text store : List ℕ) (at p : ℕ) (starts : Bool) (i : first_of store true (symbols_from classes text at) ≡ first_of store starts (symbols_from classes text p)) where
-  pub first-none : (coming : Next) → coming ≡ next_of (scan_by classes text p) → NoneComes coming → Nowhere ≡ as_record (first_of store true (symbols_from classes text at))
-  first-none coming e h = ap as_record (sym (i ∙ ap (first_of store starts) (no_symbols classes text coming p e h)))
+  pub first_none : (coming : Next) → coming ≡ next_of (scan_by classes text p) → NoneComes coming → Nowhere ≡ as_record (first_of store true (symbols_from classes text at))
+  first_none coming e h = ap as_record (sym (i ∙ ap (first_of store starts) (no_symbols classes text coming p e h)))
 
   module _ {class : Class} {start end : ℕ} (x : SymbolAt classes text p class start end) where
     -- what is found, by the class of the symbol
@@ -173,13 +173,13 @@ module _ (classes text store : List ℕ) (at p : ℕ) (starts : Bool) (i : first
     from c ys = pick (same_class GreaterThan c) none (pick (same_class Comma c) (first_of store true (symbols_from classes text end)) (or_else (pick starts (named_by store ys) none) (first_of store false (symbols_from classes text end))))
 
     first_as : (c : Class) → class ≡ c → first_of store true (symbols_from classes text at) ≡ from c (symbols_from classes text p)
-    first_as c e = let n = next-symbol classes text x in i ∙ ap (first_of store starts) n ∙ ap (from class) (sym n) ∙ ap (λ z. from z (symbols_from classes text p)) e
+    first_as c e = let n = next_symbol classes text x in i ∙ ap (first_of store starts) n ∙ ap (from class) (sym n) ∙ ap (λ z. from z (symbols_from classes text p)) e
 
-    pub first-closed : class ≡ GreaterThan → Nowhere ≡ as_record (first_of store true (symbols_from classes text at))
-    first-closed e = ap as_record (sym (first_as GreaterThan e))
+    pub first_closed : class ≡ GreaterThan → Nowhere ≡ as_record (first_of store true (symbols_from classes text at))
+    first_closed e = ap as_record (sym (first_as GreaterThan e))
 
-    pub first-parts : class ≡ Comma → first_of store true (symbols_from classes text at) ≡ first_of store true (symbols_from classes text end)
-    first-parts e = first_as Comma e
+    pub first_parts : class ≡ Comma → first_of store true (symbols_from classes text at) ≡ first_of store true (symbols_from classes text end)
+    first_parts e = first_as Comma e
 
     module _ (o : OneOf (0 ∷ 1 ∷ 2 ∷ 3 ∷ 6 ∷ 7 ∷ 8 ∷ 9 ∷ 10 ∷ []) (tag class)) where
       within : first_of store true (symbols_from classes text at) ≡ or_else (named_if classes text p store starts) (first_of store false (symbols_from classes text end))
@@ -195,24 +195,24 @@ module _ (classes text store : List ℕ) (at p : ℕ) (starts : Bool) (i : first
 -- ---- what an Include leads to
 
 module _ (classes text store : List ℕ) (at : ℕ) (r : Held) (e : held_by (symbols_from classes text at) ≡ as_held classes text r) where
-  held-is : (h : Held) → r ≡ h → sought store (symbols_from classes text at) ≡ sought_by store (as_held classes text h) (symbols_from classes text at)
-  held-is h f = ap (λ z. sought_by store z (symbols_from classes text at)) (e ∙ ap (as_held classes text) f)
+  held_is : (h : Held) → r ≡ h → sought store (symbols_from classes text at) ≡ sought_by store (as_held classes text h) (symbols_from classes text at)
+  held_is h f = ap (λ z. sought_by store z (symbols_from classes text at)) (e ∙ ap (as_held classes text) f)
 
-  pub sought-none : r ≡ Neither → Nowhere ≡ as_record (sought store (symbols_from classes text at))
-  sought-none f = ap as_record (sym (held-is Neither f))
+  pub sought_none : r ≡ Neither → Nowhere ≡ as_record (sought store (symbols_from classes text at))
+  sought_none f = ap as_record (sym (held_is Neither f))
 
-  pub sought-single : (q : Record) → r ≡ Single → q ≡ as_record (named_by store (symbols_from classes text at)) → q ≡ as_record (sought store (symbols_from classes text at))
-  sought-single q f g = g ∙ ap as_record (sym (held-is Single f))
+  pub sought_single : (q : Record) → r ≡ Single → q ≡ as_record (named_by store (symbols_from classes text at)) → q ≡ as_record (sought store (symbols_from classes text at))
+  sought_single q f g = g ∙ ap as_record (sym (held_is Single f))
 
   module _ (behind : ℕ) (f : r ≡ Angled behind) (z : Bool) (g : z ≡ only false false (symbols_from classes text behind)) where
-    angled-is : (b : Bool) → z ≡ b → sought store (symbols_from classes text at) ≡ pick b (first_of store true (symbols_from classes text behind)) none
-    angled-is b h = held-is (Angled behind) f ∙ ap (λ y. pick y (first_of store true (symbols_from classes text behind)) none) (sym g ∙ h)
+    angled_is : (b : Bool) → z ≡ b → sought store (symbols_from classes text at) ≡ pick b (first_of store true (symbols_from classes text behind)) none
+    angled_is b h = held_is (Angled behind) f ∙ ap (λ y. pick y (first_of store true (symbols_from classes text behind)) none) (sym g ∙ h)
 
-    pub sought-angled : (q : Record) → z ≡ true → q ≡ as_record (first_of store true (symbols_from classes text behind)) → q ≡ as_record (sought store (symbols_from classes text at))
-    sought-angled q h k = k ∙ ap as_record (sym (angled-is true h))
+    pub sought_angled : (q : Record) → z ≡ true → q ≡ as_record (first_of store true (symbols_from classes text behind)) → q ≡ as_record (sought store (symbols_from classes text at))
+    sought_angled q h k = k ∙ ap as_record (sym (angled_is true h))
 
-    pub sought-other : z ≡ false → Nowhere ≡ as_record (sought store (symbols_from classes text at))
-    sought-other h = ap as_record (sym (angled-is false h))
+    pub sought_other : z ≡ false → Nowhere ≡ as_record (sought store (symbols_from classes text at))
+    sought_other h = ap as_record (sym (angled_is false h))
 
 -- ---- .. is a record of the store
 

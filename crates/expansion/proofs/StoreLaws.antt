@@ -81,20 +81,20 @@ trimmed_length (x ∷ xs) = by (without_zeros xs) (trimmed_length xs)
     by [] h = omega (arith, test (eqb x 0) [])
     by (c ∷ cs) h = omega (arith, h)
 
-name-short : (store : List ℕ) (i : ℕ) → length (name_in store i) ≤ store_name_size
-name-short store i =
+name_short : (store : List ℕ) (i : ℕ) → length (name_in store i) ≤ store_name_size
+name_short store i =
     omega (arith, trimmed_length (part store (i * store_record_size) (i * store_record_size + store_name_size)), length-take (i * store_record_size + store_name_size - i * store_record_size) (drop (i * store_record_size) store))
 
 pub no_name : (store name : List ℕ) (i : ℕ) → store_name_size < length name → same_bytes (name_in store i) name ≡ false
-no_name store name i h = lengths_differ (λ b. b) (name_in store i) name (λ e. omega (arith, e, name-short store i, h))
+no_name store name i h = lengths_differ (λ b. b) (name_in store i) name (λ e. omega (arith, e, name_short store i, h))
 
-never-named : (many : ℕ) (store text : List ℕ) (i : ℕ) → store_name_size < length text → first_named many store text i ≡ none
-never-named zero store text i h = refl
-never-named (suc many) store text i h =
-    ap (λ z. pick z (some i) (first_named many store text (suc i))) (no_name store text i h) ∙ never-named many store text (suc i) h
+never_named : (many : ℕ) (store text : List ℕ) (i : ℕ) → store_name_size < length text → first_named many store text i ≡ none
+never_named zero store text i h = refl
+never_named (suc many) store text i h =
+    ap (λ z. pick z (some i) (first_named many store text (suc i))) (no_name store text i h) ∙ never_named many store text (suc i) h
 
 pub too_long : (store text : List ℕ) (n : ℕ) → n ≡ length text → store_name_size < n → lowest store text ≡ none
-too_long store text n e h = never-named (room_for store_record_size store) store text 0 (omega (arith, e, h))
+too_long store text n e h = never_named (room_for store_record_size store) store text 0 (omega (arith, e, h))
 
 -- a text in a buffer of its own
 pub own_text : (text own₀ own : List ℕ) (n : ℕ) → n ≡ length text → own ≡ sets own₀ 0 text → n ≤ length own₀ → take n own ≡ text

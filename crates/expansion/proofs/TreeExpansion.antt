@@ -13,7 +13,7 @@ use Rattle.grammar.specs.Believed.Rfc733 as rfc733
 use Rattle.grammar.specs.Executable.Trees733.{node_piece, At, put, Atom, Colon, Comma, LessThan, GreaterThan, Semicolon, of, atom_word, quoted_word, Phrase, one, more, Nodes, first, next, Slot, empty, comma, AddressList, idle, full, mailbox, angle, group, quoted, typed, word_piece, phrase_piece, nodes_piece, slot_piece, list_piece, address_piece, as_forest}
 use Rattle.grammar.specs.Executable.Trees733 as trees
 use Rattle.plain.specs.Believed.Meaning.{atom, no_word, and_word, Addresses, no_address, and_address, address, words_of, nodes_of, addresses_after}
-use Rattle.plain.proofs.TreeMeanings.{phrase_meaning, name_meaning, nodes_meaning, address_meaning, of-typed, name-words, node-words, after-address}
+use Rattle.plain.proofs.TreeMeanings.{phrase_meaning, name_meaning, nodes_meaning, address_meaning, of_typed, name_words, node_words, after_address}
 use Rattle.expansion.specs.Believed.Expansion.{Expansion, stopped, reached, and_then, Opening, other_type, expand_include, expand_forest}
 
 -- ---- what comes next
@@ -90,8 +90,8 @@ module _ (store : List ℕ) (opening : Opening) (place_of : ℕ → ℕ) where
         → of_forest y d (put (address_piece a) k) before u ≡ and_then (address_expansion y d a before u) (λ b v. of_forest y d k b v)
     forest_address (mailbox p m) y d k before u =
         let forest = put (phrase_piece p) (put (nodes_piece m) nil) in
-        let n : words_of (part_of 0 forest) ≡ phrase_meaning p = name-words p (put (nodes_piece m) nil) in
-        let w : words_of (part_of 1 forest) ≡ nodes_meaning m = node-words p m nil in
+        let n : words_of (part_of 0 forest) ≡ phrase_meaning p = name_words p (put (nodes_piece m) nil) in
+        let w : words_of (part_of 1 forest) ≡ nodes_meaning m = node_words p m nil in
         ap (λ e. and_then (and_then e (λ members v. reached (and_address before (address 1 (words_of (part_of 0 forest)) (words_of (part_of 1 forest)) members)) v)) (λ b v. of_forest y d k b v))
         (forest_phrase p false (d + 0) (put (nodes_piece m) nil) no_address u ∙ forest_nodes m false (d + 0) nil no_address u)
         ∙ ap₂ (λ x z. of_forest y d k (and_address before (address 1 x z no_address)) u) n w
@@ -102,7 +102,7 @@ module _ (store : List ℕ) (opening : Opening) (place_of : ℕ → ℕ) where
         let forest = put (phrase_piece p) (leaf (of LessThan t) (put (list_piece l) (leaf (of GreaterThan c) nil))) in
         ap (λ e. and_then (and_then e (λ members v. reached (and_address before (address 2 (words_of (part_of 0 forest)) no_word members)) v)) (λ b v. of_forest y d k b v))
         (forest_phrase p false (d + 1) (leaf (of LessThan t) (put (list_piece l) (leaf (of GreaterThan c) nil))) no_address u ∙ forest_list l (d + 1) (leaf (of GreaterThan c) nil) no_address u ∙ and_reached (list_expansion (d + 1) l no_address u))
-        ∙ ap (λ x. and_then (and_then (list_expansion (d + 1) l no_address u) (λ members v. reached (and_address before (address 2 x no_word members)) v)) (λ b v. of_forest y d k b v)) (name-words p (leaf (of LessThan t) (put (list_piece l) (leaf (of GreaterThan c) nil))))
+        ∙ ap (λ x. and_then (and_then (list_expansion (d + 1) l no_address u) (λ members v. reached (and_address before (address 2 x no_word members)) v)) (λ b v. of_forest y d k b v)) (name_words p (leaf (of LessThan t) (put (list_piece l) (leaf (of GreaterThan c) nil))))
     forest_address (group none t l c) y d k before u =
         ap (λ e. and_then (and_then e (λ members v. reached (and_address before (address 3 no_word no_word members)) v)) (λ b v. of_forest y d k b v))
         (forest_list l (d + 1) (leaf (of Semicolon c) nil) no_address u ∙ and_reached (list_expansion (d + 1) l no_address u))
@@ -110,7 +110,7 @@ module _ (store : List ℕ) (opening : Opening) (place_of : ℕ → ℕ) where
         let forest = put (phrase_piece p) (leaf (of Colon t) (put (list_piece l) (leaf (of Semicolon c) nil))) in
         ap (λ e. and_then (and_then e (λ members v. reached (and_address before (address 3 (words_of (part_of 0 forest)) no_word members)) v)) (λ b v. of_forest y d k b v))
         (forest_phrase p false (d + 1) (leaf (of Colon t) (put (list_piece l) (leaf (of Semicolon c) nil))) no_address u ∙ forest_list l (d + 1) (leaf (of Semicolon c) nil) no_address u ∙ and_reached (list_expansion (d + 1) l no_address u))
-        ∙ ap (λ x. and_then (and_then (list_expansion (d + 1) l no_address u) (λ members v. reached (and_address before (address 3 x no_word members)) v)) (λ b v. of_forest y d k b v)) (name-words p (leaf (of Colon t) (put (list_piece l) (leaf (of Semicolon c) nil))))
+        ∙ ap (λ x. and_then (and_then (list_expansion (d + 1) l no_address u) (λ members v. reached (and_address before (address 3 x no_word members)) v)) (λ b v. of_forest y d k b v)) (name_words p (leaf (of Colon t) (put (list_piece l) (leaf (of Semicolon c) nil))))
     forest_address (quoted t) y d k before u = refl
     forest_address (typed t a c b) y d k before u =
         let parts = leaf (of Colon t) (leaf (of Atom a) (leaf (of Colon c) (put (address_piece b) nil))) in
@@ -119,10 +119,10 @@ module _ (store : List ℕ) (opening : Opening) (place_of : ℕ → ℕ) where
         (and_then (of_forest z (d + 1) (put (address_piece b) nil) no_address u) (λ members v. reached (and_address before (address kind (and_word no_word (atom a.meaning)) (nodes_of kind parts) members)) v)) in
         ap (λ kind. and_then (by kind (other_type kind)) (λ b' v. of_forest y d k b' v)) (ap (λ m. kind_number (typed_kind m)) (append-nil a.meaning))
         ∙ ap (λ e. and_then e (λ b' v. of_forest y d k b' v))
-        (of-typed (λ kind. by kind (other_type kind) ≡ pick (eqb kind (kind_number rfc733.include)) (include (addresses_after no_address parts))
+        (of_typed (λ kind. by kind (other_type kind) ≡ pick (eqb kind (kind_number rfc733.include)) (include (addresses_after no_address parts))
         (and_then (of_forest true (d + 1) (put (address_piece b) nil) no_address u) (λ members v. reached (and_address before (address kind (and_word no_word (atom a.meaning)) no_word members)) v))) refl refl refl a.meaning
         ∙ ap₂ (λ held member. typed_expansion (kind_number (typed_kind a.meaning)) a.meaning (include held) member before)
-        (after-address b no_address nil) (forest_address b true (d + 1) nil no_address u ∙ and_reached (address_expansion true (d + 1) b no_address u)))
+        (after_address b no_address nil) (forest_address b true (d + 1) nil no_address u ∙ and_reached (address_expansion true (d + 1) b no_address u)))
 
   pub forest_expansion : (l : AddressList) (d : ℕ) (before : Addresses) (u : ℕ) → of_forest false d (as_forest l) before u ≡ list_expansion d l before u
   forest_expansion l d before u = forest_list l d nil before u ∙ and_reached (list_expansion d l before u)

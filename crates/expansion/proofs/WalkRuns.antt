@@ -9,7 +9,7 @@ use lib.ListN.{length}
 use Rattle.octets.specs.Believed.Choice.{pick}
 use Rattle.octets.specs.Believed.Classes.{class_table}
 use Rattle.octets.specs.Believed.Numbers.{message_limit, level_limit, opening_limit, store_record_size, leads_nowhere}
-use Rattle.octets.proofs.Writes.{wrote-both}
+use Rattle.octets.proofs.Writes.{wrote_both}
 use Rattle.scanner.specs.Believed.Scanning.{scan, scan_by, symbols_of}
 use Rattle.scanner.specs.Believed.Answers.{found_at, next_of}
 use Rattle.scanner.specs.declared.Class.{Class}
@@ -21,7 +21,7 @@ use Rattle.grammar.proofs.Rfc733.Readers.{ends_address}
 use Rattle.plain.specs.Ties.Walking.{symbol_text, after, after_comma, colon_next}
 use Rattle.plain.specs.Ties.Writing.{is_colon}
 use Rattle.plain.specs.declared.places.Place.{Place}
-use Rattle.plain.proofs.WalkSteps.{colon-of, NoneComes, behind, behind_falls}
+use Rattle.plain.proofs.WalkSteps.{colon_of, NoneComes, behind, behind_falls}
 use Rattle.expansion.specs.Believed.Store.{list_in}
 use Rattle.expansion.specs.Ties.Walk.{Sym, Trail, halted, before, include_here, after_one, in_typed, levels_after, inner_after, WalkOpening, writing, skipping, sought, include_trail, walk, walk_within}
 use Rattle.addresses.specs.Ties.Steps.{symbols_from}
@@ -34,27 +34,27 @@ use Rattle.expansion.specs.declared.Record.TheVariants.{Stored, Nowhere}
 use Rattle.expansion.specs.declared.Stage.{Stage}
 use Rattle.expansion.specs.declared.Walked.{Walked}
 use Rattle.expansion.specs.declared.Walked.TheVariants.{Went, Stopped}
-use Rattle.expansion.proofs.SeekSteps.{no_symbols, next-symbol, stored_is, nowhere_is, sought_in}
-use Rattle.expansion.proofs.Seeking.{Ending, at_greater, at-comma, at-semicolon, ending}
+use Rattle.expansion.proofs.SeekSteps.{no_symbols, next_symbol, stored_is, nowhere_is, sought_in}
+use Rattle.expansion.proofs.Seeking.{Ending, at_greater, at_comma, at_semicolon, ending}
 use Rattle.expansion.proofs.StoreLaws.{InStore}
 use Rattle.expansion.proofs.WalkThrough.{twice, unmoved}
 
 -- ---- trails one after the other
 
-onward-none : (trail : Continuation → Trail) (out : List ℕ) (n : ℕ) → Onward trail trail out n out n
-onward-none trail out n = record { put = λ r. r; same = λ k. sym (unmoved (trail k)); wrote = record { same = λ rest. refl; count = λ rest. refl } }
+onward_none : (trail : Continuation → Trail) (out : List ℕ) (n : ℕ) → Onward trail trail out n out n
+onward_none trail out n = record { put = λ r. r; same = λ k. sym (unmoved (trail k)); wrote = record { same = λ rest. refl; count = λ rest. refl } }
 
 onward_then : {a b c : Continuation → Trail} {o o' o'' : List ℕ} {n n' n'' : ℕ} → Onward a b o n o' n' → Onward b c o' n' o'' n'' → Onward a c o n o'' n''
 onward_then {c = c} x y =
-    record { put = λ r. x.put (y.put r); same = λ k. x.same k ∙ ap (before x.put) (y.same k) ∙ twice x.put y.put (c k); wrote = wrote-both {f = x.put} {g = y.put} x.wrote y.wrote }
+    record { put = λ r. x.put (y.put r); same = λ k. x.same k ∙ ap (before x.put) (y.same k) ∙ twice x.put y.put (c k); wrote = wrote_both {f = x.put} {g = y.put} x.wrote y.wrote }
 
 -- ---- an Include that is skipped
 
 -- where an address ends no Include begins
 no_include : {c : Class} (place : Place) (xs : List Sym) → Ending c → include_here c place xs ≡ false
 no_include place xs at_greater = refl
-no_include place xs at-comma = refl
-no_include place xs at-semicolon = refl
+no_include place xs at_comma = refl
+no_include place xs at_semicolon = refl
 
 outside : (inner e : Bool) → pick inner false e ≡ true → e ≡ true
 outside true e h = absurd (let o : ◌≡◌ {A = ℕ} 0 1 = cc in omega arith)
@@ -110,10 +110,10 @@ module _ (store : List ℕ) (i position depth : ℕ) (stage : Stage) (out : List
 -- ---- the loop
 
 -- no more is left than the text and one
-behind-low : (l : ℕ) (n : Next) → behind l n ≤ suc l
-behind-low l (Found symbol) = omega arith
-behind-low l Ended = omega arith
-behind-low l (Fault number p) = omega arith
+behind_low : (l : ℕ) (n : Next) → behind l n ≤ suc l
+behind_low l (Found symbol) = omega arith
+behind_low l Ended = omega arith
+behind_low l (Fault number p) = omega arith
 
 module _ (classes store text : List ℕ) (start : ℕ) (around : Around) (stage : Stage) (out₀ : List ℕ) where
   abbrev trails : ℕ → Continuation → Trail
@@ -124,7 +124,7 @@ module _ (classes store text : List ℕ) (start : ℕ) (around : Around) (stage 
     pub at : ℕ
     pub is : coming ≡ next_of (scan_by classes text at)
     pub s : List Bool
-    pub levels-are : LevelsAre levels s
+    pub levels_are : LevelsAre levels s
     pub from : stage.openings ≤ here.openings
     pub few : here.openings ≤ opening_limit
     pub counted : here.written + symbol_share * behind (length text) coming + text_share * stage.openings ≤ stage.written + text_share * (here.openings + 1)
@@ -138,12 +138,12 @@ module _ (classes store text : List ℕ) (start : ℕ) (around : Around) (stage 
         at = start;
         is = e;
         s = [];
-        levels-are = record { many_is = m; typed-is = t; few = omega arith };
+        levels_are = record { many_is = m; typed_is = t; few = omega arith };
         from = omega arith;
         few = few;
-        counted = omega (arith, behind-low (length text) coming, short);
+        counted = omega (arith, behind_low (length text) coming, short);
         same_length = refl;
-        onward = λ deep h. onward-none (trails deep) out₀ stage.written;
+        onward = λ deep h. onward_none (trails deep) out₀ stage.written;
       }
 
   module _ {out : List ℕ} {here : Stage} {levels : Levels} {coming : Next} (l : Walking out here levels coming) where
@@ -162,7 +162,7 @@ module _ (classes store text : List ℕ) (start : ℕ) (around : Around) (stage 
     comes e = found classes text l.at (sym e ∙ l.is)
 
     pub low : levels.many ≤ level_limit
-    low = omega (arith, l.levels-are.many_is, l.levels-are.few)
+    low = omega (arith, l.levels_are.many_is, l.levels_are.few)
 
     -- what is written so far has room in a count
     pub room : stage.written ≤ text_share * stage.openings → here.written ≤ text_share * (here.openings + 1)
@@ -185,7 +185,7 @@ module _ (classes store text : List ℕ) (start : ℕ) (around : Around) (stage 
       at_symbol : (deep : ℕ) (k : Continuation) (z : Bool) → include_here class here.place (symbols_from classes text end) ≡ z
           → walk_symbols store deep around here.place l.s (symbols_from classes text l.at) here.openings k ≡ pick z (included deep k) (written' deep k (colon_next (symbols_from classes text end)))
       at_symbol deep k z f =
-          ap (λ ys. walk_symbols store deep around here.place l.s ys here.openings k) (next-symbol classes text (comes e))
+          ap (λ ys. walk_symbols store deep around here.place l.s ys here.openings k) (next_symbol classes text (comes e))
           ∙ ap (λ y. pick y (included deep k) (written' deep k (colon_next (symbols_from classes text end)))) f
 
       -- it is written
@@ -193,26 +193,26 @@ module _ (classes store text : List ℕ) (start : ℕ) (around : Around) (stage 
           → later ≡ next_of (scan_by classes text end) → colon ≡ is_colon later → LevelsAfter class here.place colon levels levels' → length out' ≡ length out → WriteOnIs classes text class first end colon here out out' here'
           → Walking out' here' levels' later
       walking_symbol {later} {colon} {levels'} {out'} {here'} short f g c v q w =
-          let colon-is : colon ≡ colon_next (symbols_from classes text end) = c ∙ ap is_colon g ∙ colon-of (scan_by classes text end) in
+          let colon_is : colon ≡ colon_next (symbols_from classes text end) = c ∙ ap is_colon g ∙ colon_of (scan_by classes text end) in
           let less = behind_falls end (comes e) (omega arith) e g in
           record {
             at = end;
             is = g;
             s = levels_after class here.place colon l.s;
-            levels-are = v l.s l.levels-are;
-            from = omega (arith, l.from, w.openings-is);
-            few = omega (arith, l.few, w.openings-is);
-            counted = omega (arith, l.counted, w.counted, w.openings-is, less, short);
+            levels_are = v l.s l.levels_are;
+            from = omega (arith, l.from, w.openings_is);
+            few = omega (arith, l.few, w.openings_is);
+            counted = omega (arith, l.counted, w.counted, w.openings_is, less, short);
             same_length = q ∙ l.same_length;
             onward = λ deep d.
                 onward_then (l.onward deep d)
                 (record {
                   put = symbol_text class (meaning_at classes text class first end) here.place colon;
                   same = λ k.
-                      at_symbol deep k false f ∙ ap (written' deep k) (sym colon-is)
+                      at_symbol deep k false f ∙ ap (written' deep k) (sym colon_is)
                       ∙ ap (before (symbol_text class (meaning_at classes text class first end) here.place colon))
                       (ap (λ p. walk_symbols store deep around p (levels_after class here.place colon l.s) (symbols_from classes text end) here.openings k) (sym w.place_is)
-                      ∙ ap (λ u. walk_symbols store deep around here'.place (levels_after class here.place colon l.s) (symbols_from classes text end) u k) (sym w.openings-is));
+                      ∙ ap (λ u. walk_symbols store deep around here'.place (levels_after class here.place colon l.s) (symbols_from classes text end) u k) (sym w.openings_is));
                   wrote = w.wrote;
                 });
           }
@@ -242,13 +242,13 @@ module _ (classes store text : List ℕ) (start : ℕ) (around : Around) (stage 
         -- it leads nowhere
         pub walking_nowhere : OpenedIs classes text behind' levels store Nowhere → Halts trails stage.openings leads_nowhere position here.openings
         walking_nowhere o deep k d =
-            let g = nowhere_is (led (symbols_from classes text behind')) (sym (o l.s l.levels-are)) in
+            let g = nowhere_is (led (symbols_from classes text behind')) (sym (o l.s l.levels_are)) in
             (l.onward deep d).same k ∙ ap (before (l.onward deep d).put) (at_include deep k g)
 
         -- it leads to a record
         module _ {i : ℕ} (o : OpenedIs classes text behind' levels store (Stored i)) where
           leads : led (symbols_from classes text behind') ≡ some i
-          leads = stored_is (led (symbols_from classes text behind')) i (sym (o l.s l.levels-are))
+          leads = stored_is (led (symbols_from classes text behind')) i (sym (o l.s l.levels_are))
 
           pub record_inside : i * store_record_size + store_record_size ≤ length store
           record_inside = rw leads at (by (in_typed l.s))
@@ -259,7 +259,7 @@ module _ (classes store text : List ℕ) (start : ℕ) (around : Around) (stage 
 
           module _ {depth : ℕ} (m : depth ≡ levels_around around + levels.many) where
             depth_is : depth ≡ levels_around around + length l.s
-            depth_is = omega (arith, m, l.levels-are.many_is)
+            depth_is = omega (arith, m, l.levels_are.many_is)
 
             opened : (deep : ℕ) (k : Continuation)
                 → walk_symbols store deep around here.place l.s (symbols_from classes text l.at) here.openings k
@@ -278,7 +278,7 @@ module _ (classes store text : List ℕ) (start : ℕ) (around : Around) (stage 
                   at = r;
                   is = v;
                   s = l.s;
-                  levels-are = l.levels-are;
+                  levels_are = l.levels_are;
                   from = omega (arith, l.from, g.from);
                   few = g.few;
                   counted = omega (arith, l.counted, g.counted, falls, g.from, l.from);

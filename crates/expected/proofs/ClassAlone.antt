@@ -98,8 +98,8 @@ word_same n s = word_any s _ _
 
 -- .. so one of them tells whether a word is
 pub word_by_atom : (n : ℕ) (s : State) → takes n s Atom ≡ named_at n s word
-word_by_atom n s = both-same (takes n s Atom) (takes n s Quoted) (word_same n s)
+word_by_atom n s = both_same (takes n s Atom) (takes n s Quoted) (word_same n s)
   where
-    both-same : (a b : Bool) → a ≡ b → a ≡ either a b
-    both-same true b e = refl
-    both-same false b e = e
+    both_same : (a b : Bool) → a ≡ b → a ≡ either a b
+    both_same true b e = refl
+    both_same false b e = e

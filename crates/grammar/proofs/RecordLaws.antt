@@ -6,7 +6,7 @@ use native.Mathlib.Omega.{arith}
 use lib.ListN.{length, length-append}
 use lib.Seq.{sets}
 use Rattle.records.specs.Believed.AddressRecords.{address_layout, address_record_size, table_bytes}
-use Rattle.records.proofs.TableLaws.{stored-behind as behind}
+use Rattle.records.proofs.TableLaws.{stored_behind as behind}
 use Rattle.grammar.specs.Executable.Trees733.{Slot, empty, comma, AddressList, idle, full, Address, mailbox, angle, group, quoted, typed}
 use Rattle.grammar.proofs.Rfc733.TreeRecords.{slot_count, list_count, address_count, slot_records, list_records, inside_records, address_records}
 
@@ -31,10 +31,10 @@ mutual
 -- ---- one record after the other
 
 -- the records of one address more, after those of a place
-pub stored-behind : (table : List ℕ) (first : ℕ) (r : Slot) (a : Address) (depth parent : ℕ)
+pub stored_behind : (table : List ℕ) (first : ℕ) (r : Slot) (a : Address) (depth parent : ℕ)
     → sets (sets table (first * address_record_size) (table_bytes (slot_records r depth parent first))) ((first + slot_count r) * address_record_size) (table_bytes (address_records a depth parent (first + slot_count r)))
     ≡ sets table (first * address_record_size) (table_bytes (list_records (full r a) depth parent first))
-stored-behind table first r a depth parent =
+stored_behind table first r a depth parent =
     let rs = slot_records r depth parent first in
     let more = address_records a depth parent (first + slot_count r) in
     ap (λ n. sets (sets table (first * address_record_size) (table_bytes rs)) ((first + n) * address_record_size) (table_bytes more)) (sym (slot_length r depth parent first))

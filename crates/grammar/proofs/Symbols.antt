@@ -21,21 +21,21 @@ all_classes = Atom ∷ Quoted ∷ At ∷ LessThan ∷ GreaterThan ∷ Comma ∷ 
 abbrev class_at : ℕ → Class
 class_at n = get_or all_classes n Stray
 
-class-at : (c : Class) → class_at (class_number c) ≡ c
-class-at Atom = refl
-class-at Quoted = refl
-class-at At = refl
-class-at LessThan = refl
-class-at GreaterThan = refl
-class-at Comma = refl
-class-at Semicolon = refl
-class-at Colon = refl
-class-at Stray = refl
-class-at Dot = refl
-class-at Literal = refl
+class_at_lem : (c : Class) → class_at (class_number c) ≡ c
+class_at_lem Atom = refl
+class_at_lem Quoted = refl
+class_at_lem At = refl
+class_at_lem LessThan = refl
+class_at_lem GreaterThan = refl
+class_at_lem Comma = refl
+class_at_lem Semicolon = refl
+class_at_lem Colon = refl
+class_at_lem Stray = refl
+class_at_lem Dot = refl
+class_at_lem Literal = refl
 
 pub same_class_lem : (c d : Class) → same_class c d ≡ true → c ≡ d
-same_class_lem c d e = sym (class-at c) ∙ ap class_at (eqb-true (class_number c) (class_number d) e) ∙ class-at d
+same_class_lem c d e = sym (class_at_lem c) ∙ ap class_at (eqb-true (class_number c) (class_number d) e) ∙ class_at_lem d
 
 -- every class is one of them
 among : (c : Class) → one_of all_classes c ≡ true
@@ -58,9 +58,9 @@ abbrev pub EachOther : (Class → Type 0) → (Class → Bool) → List Class �
 EachOther P test [] = Unit {0}
 EachOther P test (d ∷ ds) = pick (test d) (EachOther P test ds) (P d × EachOther P test ds)
 
-other-of : (P : Class → Type 0) (test : Class → Bool) (ds : List Class) → EachOther P test ds → (c : Class) → one_of ds c ≡ true → test c ≡ false → P c
-other-of P test [] each c o f = absurd (true≢false (sym o))
-other-of P test (d ∷ ds) each c o f = by (same_class d c) refl o (test d) refl each (λ e. other-of P test ds e c)
+other_of : (P : Class → Type 0) (test : Class → Bool) (ds : List Class) → EachOther P test ds → (c : Class) → one_of ds c ≡ true → test c ≡ false → P c
+other_of P test [] each c o f = absurd (true≢false (sym o))
+other_of P test (d ∷ ds) each c o f = by (same_class d c) refl o (test d) refl each (λ e. other_of P test ds e c)
   where
     by : (b : Bool) → same_class d c ≡ b → either b (one_of ds c) ≡ true → (b' : Bool) → test d ≡ b' → pick b' (EachOther P test ds) (P d × EachOther P test ds)
         → (EachOther P test ds → one_of ds c ≡ true → test c ≡ false → P c) → P c
@@ -70,12 +70,12 @@ other-of P test (d ∷ ds) each c o f = by (same_class d c) refl o (test d) refl
     by false h o false e each more = more each.1 o f
 
 -- .. so for each class that fails it
-pub each-other : (P : Class → Type 0) (test : Class → Bool) → EachOther P test all_classes → (c : Class) → test c ≡ false → P c
-each-other P test each c f = other-of P test all_classes each c (among c) f
+pub each_other : (P : Class → Type 0) (test : Class → Bool) → EachOther P test all_classes → (c : Class) → test c ≡ false → P c
+each_other P test each c f = other_of P test all_classes each c (among c) f
 
 -- .. and for each that passes another
 pub each_of : (P : Class → Type 0) (test : Class → Bool) → EachOther P (λ c. not (test c)) all_classes → (c : Class) → test c ≡ true → P c
-each_of P test each c e = each-other P (λ d. not (test d)) each c (ap not e)
+each_of P test each c e = each_other P (λ d. not (test d)) each c (ap not e)
 
 -- ---- symbols in order
 

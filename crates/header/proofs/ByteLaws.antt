@@ -18,27 +18,27 @@ use Rattle.header.specs.Believed.Fields.{name_holds, name_starts_with, crlf, end
 
 module _ (b : ℕ) where
   -- a name holds white space and does not start with it
-  pub holds-white : is_white b ≡ true → name_holds b ≡ true
+  pub holds_white : is_white b ≡ true → name_holds b ≡ true
   unfolding name_holds
-  holds-white w = rw w
+  holds_white w = rw w
 
-  pub starts-white : is_white b ≡ true → name_starts_with b ≡ false
+  pub starts_white : is_white b ≡ true → name_starts_with b ≡ false
   unfolding name_starts_with
-  starts-white w = rw w (both_false (name_holds b))
+  starts_white w = rw w (both_false (name_holds b))
 
   module _ (n : is_white b ≡ false) where
     -- any other byte by its range
-    pub holds-below : b < 33 → name_holds b ≡ false
+    pub holds_below : b < 33 → name_holds b ≡ false
     unfolding name_holds
-    holds-below h = rw (n, lt-leb 33 b h)
+    holds_below h = rw (n, lt-leb 33 b h)
 
     pub holds_above : 126 < b → name_holds b ≡ false
     unfolding name_holds
     holds_above h = rw (n, le-leb 33 b (omega arith), lt-leb b 126 h)
 
-    pub holds-between : 33 ≤ b → b ≤ 126 → name_holds b ≡ not (eqb b colon_byte)
+    pub holds_between : 33 ≤ b → b ≤ 126 → name_holds b ≡ not (eqb b colon_byte)
     unfolding name_holds
-    holds-between h k = rw (n, le-leb 33 b h, le-leb b 126 k)
+    holds_between h k = rw (n, le-leb 33 b h, le-leb b 126 k)
 
     pub starts_else : name_starts_with b ≡ name_holds b
     unfolding name_starts_with
@@ -54,21 +54,21 @@ module _ (message : List ℕ) (at : ℕ) where
   two_bytes = simp (get_or-drop, add-zero)
 
   -- CRLF at a position: CR there, and LF after it
-  pub crlf-other : (get_or message at 0 ≡ return_byte → ⊥) → crlf (drop at message) ≡ false
-  crlf-other n = two_bytes ∙ line.crlf-other message at n
+  pub crlf_other : (get_or message at 0 ≡ return_byte → ⊥) → crlf (drop at message) ≡ false
+  crlf_other n = two_bytes ∙ line.crlf_other message at n
 
-  pub crlf-last : length message ≤ at + 1 → crlf (drop at message) ≡ false
-  crlf-last h = two_bytes ∙ line.crlf-last message at h
+  pub crlf_last : length message ≤ at + 1 → crlf (drop at message) ≡ false
+  crlf_last h = two_bytes ∙ line.crlf_last message at h
 
   -- a body's end at a position: CRLF, and no white space after it
-  pub body-other : crlf (drop at message) ≡ false → ends_body (drop at message) ≡ false
+  pub body_other : crlf (drop at message) ≡ false → ends_body (drop at message) ≡ false
   unfolding ends_body
-  body-other n = rw n
+  body_other n = rw n
 
   module _ (e : crlf (drop at message) ≡ true) where
     pub body_third : ends_body (drop at message) ≡ not (is_white (get_or message (at + 2) 0))
     unfolding ends_body
     body_third = rw (e, get_or-drop)
 
-    pub body-last : length message ≤ at + 2 → ends_body (drop at message) ≡ true
-    body-last h = body_third ∙ rw (get_or-eq_default message 0 h)
+    pub body_last : length message ≤ at + 2 → ends_body (drop at message) ≡ true
+    body_last h = body_third ∙ rw (get_or-eq_default message 0 h)

@@ -12,8 +12,8 @@ use Rattle.octets.specs.Believed.Classes.{is_white}
 use Rattle.octets.specs.Believed.Octets.{colon_byte}
 use Rattle.header.specs.Believed.Fields.{Header, field, ended, fault, fields_of, State, line_start, in_name, in_body, before_line_feed, name_holds, name_starts_with, crlf, ends_body, header_at, header_of}
 use Rattle.records.specs.Believed.FieldRecords.{Field, no_field}
-use Rattle.header.proofs.ByteLaws.{crlf-last, body-other}
-use Rattle.header.proofs.HeaderLaws.{ends, moves, empty-line, name-starts, no_name, name-ends, name-fault, name-white, name-other, body-fault, body-goes, body-ends}
+use Rattle.header.proofs.ByteLaws.{crlf_last, body_other}
+use Rattle.header.proofs.HeaderLaws.{ends, moves, empty_line, name_starts, no_name, name_ends, name_fault_lem, name_white, name_other, body_fault, body_goes, body_ends}
 
 -- the positions of a field ascend, and the CRLF after its body lies in the message
 pub record Ordered (message : List ℕ) (f : Field) : Type 0 where
@@ -50,19 +50,19 @@ false_true e = let z : ◌≡◌ {A = ℕ} 0 1 = cc in omega arith
 
 module _ (message : List ℕ) where
   -- CRLF lies in the message
-  crlf-within : (at : ℕ) → crlf (drop at message) ≡ true → at + 1 < length message
-  crlf-within at e =
+  crlf_within : (at : ℕ) → crlf (drop at message) ≡ true → at + 1 < length message
+  crlf_within at e =
       elim (dec_lt (at + 1) (length message)) [
         | yes h ↦ h
-        | no h ↦ absurd (false_true (sym (crlf-last message at (omega arith)) ∙ e))
+        | no h ↦ absurd (false_true (sym (crlf_last message at (omega arith)) ∙ e))
       ]
 
-  body-crlf : (at : ℕ) → ends_body (drop at message) ≡ true → crlf (drop at message) ≡ true
-  body-crlf at e = cases (crlf (drop at message)) (λ t. t) (λ n. absurd (false_true (sym (body-other message at n) ∙ e)))
+  body_crlf : (at : ℕ) → ends_body (drop at message) ≡ true → crlf (drop at message) ≡ true
+  body_crlf at e = cases (crlf (drop at message)) (λ t. t) (λ n. absurd (false_true (sym (body_other message at n) ∙ e)))
 
   -- after a body's end the next line starts
-  next-line : (at : ℕ) → at + 1 < length message → header_at message (at + 1) before_line_feed ≡ header_at message (at + 2) line_start
-  next-line at h =
+  next_line : (at : ℕ) → at + 1 < length message → header_at message (at + 1) before_line_feed ≡ header_at message (at + 2) line_start
+  next_line at h =
       let two : at + 1 + 1 ≡ at + 2 = omega arith in
       moves message (at + 1) h before_line_feed ∙ rw two
 
@@ -81,35 +81,35 @@ module _ (message : List ℕ) where
     from zero at state h fits = last at state (omega arith)
     from (suc left) at line_start h fits =
         cases (crlf (drop at message))
-        (λ e. is (empty-line message at (omega arith) e) tt)
+        (λ e. is (empty_line message at (omega arith) e) tt)
         (λ n.
         cases (name_starts_with (get_or message at 0))
-        (λ s. is (name-starts message at (omega arith) n s) (from left (at + 1) (in_name at (at + 1)) (omega arith) (sym fits, omega arith, omega arith)))
+        (λ s. is (name_starts message at (omega arith) n s) (from left (at + 1) (in_name at (at + 1)) (omega arith) (sym fits, omega arith, omega arith)))
         (λ s. is (no_name message at (omega arith) n s) tt))
     from (suc left) at (in_name s e) h fits =
         cases (eqb (get_or message at 0) colon_byte)
         (λ t.
         let c : get_or message at 0 ≡ colon_byte = eqb-true _ _ t in
-        is (name-ends message at (omega arith) s e c)
+        is (name_ends message at (omega arith) s e c)
         (from left (at + 1) (in_body s e (at + 1)) (omega arith) (fits.0, fits.1, omega arith, omega arith)))
         (λ t.
         let c : get_or message at 0 ≡ colon_byte → ⊥ = eqb-false _ _ t in
         cases (name_holds (get_or message at 0))
         (λ i.
         cases (is_white (get_or message at 0))
-        (λ w. is (name-white message at (omega arith) s e c i w) (from left (at + 1) (in_name s e) (omega arith) (fits.0, fits.1, omega arith)))
-        (λ w. is (name-other message at (omega arith) s e c i w) (from left (at + 1) (in_name s (at + 1)) (omega arith) (fits.0, omega arith, omega arith))))
-        (λ i. is (name-fault message at (omega arith) s e c i) tt))
+        (λ w. is (name_white message at (omega arith) s e c i w) (from left (at + 1) (in_name s e) (omega arith) (fits.0, fits.1, omega arith)))
+        (λ w. is (name_other message at (omega arith) s e c i w) (from left (at + 1) (in_name s (at + 1)) (omega arith) (fits.0, omega arith, omega arith))))
+        (λ i. is (name_fault_lem message at (omega arith) s e c i) tt))
     from (suc left) at (in_body s e b) h fits =
         elim (dec_lt 127 (get_or message at 0)) [
-          | yes k ↦ is (body-fault message at (omega arith) s e b k) tt
+          | yes k ↦ is (body_fault message at (omega arith) s e b k) tt
           | no k ↦
               cases (ends_body (drop at message))
               (λ n.
-              let w : at + 1 < length message = crlf-within at (body-crlf at n) in
-              is (body-ends message at (omega arith) s e b (omega arith) n)
-              (record { starts = fits.0; ordered = record { named = fits.1; colon = fits.2; bodied = fits.3; within = omega arith }; goes_on = next-line at w }))
-              (λ n. is (body-goes message at (omega arith) s e b (omega arith) n) (from left (at + 1) (in_body s e b) (omega arith) (fits.0, fits.1, fits.2, omega arith)))
+              let w : at + 1 < length message = crlf_within at (body_crlf at n) in
+              is (body_ends message at (omega arith) s e b (omega arith) n)
+              (record { starts = fits.0; ordered = record { named = fits.1; colon = fits.2; bodied = fits.3; within = omega arith }; goes_on = next_line at w }))
+              (λ n. is (body_goes message at (omega arith) s e b (omega arith) n) (from left (at + 1) (in_body s e b) (omega arith) (fits.0, fits.1, fits.2, omega arith)))
         ]
     from (suc left) at before_line_feed h fits = absurd fits
 

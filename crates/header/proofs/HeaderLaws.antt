@@ -28,14 +28,14 @@ module _ (message : List ℕ) where
     moves state = simp (add-one, drop-cons message at 0 h)
 
     -- at a line start
-    pub empty-line : crlf (drop at message) ≡ true → header_at message at line_start ≡ ended
+    pub empty_line : crlf (drop at message) ≡ true → header_at message at line_start ≡ ended
     unfolding at_line_start
-    empty-line e = moves line_start ∙ rw e
+    empty_line e = moves line_start ∙ rw e
 
     module _ (n : crlf (drop at message) ≡ false) where
-      pub name-starts : name_starts_with (get_or message at 0) ≡ true → header_at message at line_start ≡ header_at message (at + 1) (in_name at (at + 1))
+      pub name_starts : name_starts_with (get_or message at 0) ≡ true → header_at message at line_start ≡ header_at message (at + 1) (in_name at (at + 1))
       unfolding at_line_start
-      name-starts s = moves line_start ∙ rw (n, first_byte message at, s)
+      name_starts s = moves line_start ∙ rw (n, first_byte message at, s)
 
       pub no_name : name_starts_with (get_or message at 0) ≡ false → header_at message at line_start ≡ fault name_fault at
       unfolding at_line_start
@@ -43,37 +43,37 @@ module _ (message : List ℕ) where
 
     -- in a name
     module _ (s e : ℕ) where
-      pub name-ends : get_or message at 0 ≡ colon_byte → header_at message at (in_name s e) ≡ header_at message (at + 1) (in_body s e (at + 1))
+      pub name_ends : get_or message at 0 ≡ colon_byte → header_at message at (in_name s e) ≡ header_at message (at + 1) (in_body s e (at + 1))
       unfolding at_name
-      name-ends c = moves (in_name s e) ∙ simp (first_byte message at, eq-eqb _ _ c)
+      name_ends c = moves (in_name s e) ∙ simp (first_byte message at, eq-eqb _ _ c)
 
       module _ (n : get_or message at 0 ≡ colon_byte → ⊥) where
-        pub name-fault : name_holds (get_or message at 0) ≡ false → header_at message at (in_name s e) ≡ fault name_fault at
+        pub name_fault_lem : name_holds (get_or message at 0) ≡ false → header_at message at (in_name s e) ≡ fault name_fault at
         unfolding at_name
-        name-fault i = moves (in_name s e) ∙ simp (first_byte message at, ne_eqb _ _ n, i)
+        name_fault_lem i = moves (in_name s e) ∙ simp (first_byte message at, ne_eqb _ _ n, i)
 
         module _ (i : name_holds (get_or message at 0) ≡ true) where
-          pub name-white : is_white (get_or message at 0) ≡ true → header_at message at (in_name s e) ≡ header_at message (at + 1) (in_name s e)
+          pub name_white : is_white (get_or message at 0) ≡ true → header_at message at (in_name s e) ≡ header_at message (at + 1) (in_name s e)
           unfolding at_name
-          name-white w = moves (in_name s e) ∙ simp (first_byte message at, ne_eqb _ _ n, i, w)
+          name_white w = moves (in_name s e) ∙ simp (first_byte message at, ne_eqb _ _ n, i, w)
 
-          pub name-other : is_white (get_or message at 0) ≡ false → header_at message at (in_name s e) ≡ header_at message (at + 1) (in_name s (at + 1))
+          pub name_other : is_white (get_or message at 0) ≡ false → header_at message at (in_name s e) ≡ header_at message (at + 1) (in_name s (at + 1))
           unfolding at_name
-          name-other w = moves (in_name s e) ∙ simp (first_byte message at, ne_eqb _ _ n, i, w)
+          name_other w = moves (in_name s e) ∙ simp (first_byte message at, ne_eqb _ _ n, i, w)
 
     -- in a body
     module _ (s e b : ℕ) where
-      pub body-fault : 127 < get_or message at 0 → header_at message at (in_body s e b) ≡ fault byte_above_127 at
+      pub body_fault : 127 < get_or message at 0 → header_at message at (in_body s e b) ≡ fault byte_above_127 at
       unfolding at_body
-      body-fault k = moves (in_body s e b) ∙ simp (first_byte message at, lt-ltb _ _ k)
+      body_fault k = moves (in_body s e b) ∙ simp (first_byte message at, lt-ltb _ _ k)
 
       module _ (k : get_or message at 0 ≤ 127) where
-        pub body-goes : ends_body (drop at message) ≡ false → header_at message at (in_body s e b) ≡ header_at message (at + 1) (in_body s e b)
+        pub body_goes : ends_body (drop at message) ≡ false → header_at message at (in_body s e b) ≡ header_at message (at + 1) (in_body s e b)
         unfolding at_body
-        body-goes n = moves (in_body s e b) ∙ rw (first_byte message at, le-ltb _ _ k, n)
+        body_goes n = moves (in_body s e b) ∙ rw (first_byte message at, le-ltb _ _ k, n)
 
-        pub body-ends : ends_body (drop at message) ≡ true
+        pub body_ends : ends_body (drop at message) ≡ true
             → header_at message at (in_body s e b)
             ≡ field (field_of s e b at) (header_at message (at + 1) before_line_feed)
         unfolding at_body
-        body-ends n = moves (in_body s e b) ∙ rw (first_byte message at, le-ltb _ _ k, n)
+        body_ends n = moves (in_body s e b) ∙ rw (first_byte message at, le-ltb _ _ k, n)

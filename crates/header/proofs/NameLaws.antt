@@ -9,7 +9,7 @@ use lib.Dec.{eqb}
 use lib.ListN.{length, length-map, take, drop}
 use Rattle.octets.specs.Believed.Choice.{pick, both, either}
 use Rattle.octets.specs.Believed.Letters.{lower, same, same_bytes, same_letters}
-use Rattle.octets.proofs.ChoiceLaws.{both-parts, neither_parts}
+use Rattle.octets.proofs.ChoiceLaws.{both_parts, neither_parts}
 use Rattle.octets.proofs.LetterLaws.{same_true, same_by_map}
 use Rattle.header.specs.Believed.Names.{KnownName, known_names, known_in, same_length_and_first, one_has, compared_of}
 use Rattle.header.specs.declared.names.Known.TheVariants.{Other}
@@ -21,7 +21,7 @@ agreeing [] [] e = refl
 agreeing [] (b ∷ text) e = absurd (let z : ◌≡◌ {A = ℕ} 0 1 = cc in omega arith)
 agreeing (a ∷ name) [] e = absurd (let z : ◌≡◌ {A = ℕ} 0 1 = cc in omega arith)
 agreeing (a ∷ name) (b ∷ text) e =
-    let (h, t) = both-parts (eqb (lower a) (lower b)) (same lower name text) e in
+    let (h, t) = both_parts (eqb (lower a) (lower b)) (same lower name text) e in
     let n = sym (length-map name lower) ∙ ap (λ l. length l) (same_true lower name text t) ∙ length-map text lower in
     rw (eq-eqb (suc (length name)) (suc (length text)) (ap suc n), h)
 
@@ -37,20 +37,20 @@ differing name text e = of (same_letters name text) refl
 pub past_first : (name text : List ℕ) → same_length_and_first name text ≡ true → (length name ≡ length text) × (same_letters name text ≡ same_letters (drop 1 name) (drop 1 text))
 unfolding same_length_and_first same
 past_first name text e =
-    let (h, t) = both-parts (eqb (length name) (length text)) (same_letters (take 1 name) (take 1 text)) e in
+    let (h, t) = both_parts (eqb (length name) (length text)) (same_letters (take 1 name) (take 1 text)) e in
     let n = eqb-true (length name) (length text) h in (n, go name text n t)
   where
     go : (x y : List ℕ) → length x ≡ length y → same_letters (take 1 x) (take 1 y) ≡ true → same_letters x y ≡ same_letters (drop 1 x) (drop 1 y)
     go [] [] n t = refl
     go [] (b ∷ y) n t = absurd (omega (arith, n))
     go (a ∷ x) [] n t = absurd (omega (arith, n))
-    go (a ∷ x) (b ∷ y) n t = rw (both-parts (eqb (lower a) (lower b)) true t).0
+    go (a ∷ x) (b ∷ y) n t = rw (both_parts (eqb (lower a) (lower b)) true t).0
 
 -- a name and a text that have one length and first letter share them with the same other texts
 pub sharing : (name text other : List ℕ) → same_length_and_first name text ≡ true → same_length_and_first name other ≡ same_length_and_first text other
 unfolding same_length_and_first
 sharing name text other e =
-    let (h, t) = both-parts (eqb (length name) (length text)) (same_letters (take 1 name) (take 1 text)) e in
+    let (h, t) = both_parts (eqb (length name) (length text)) (same_letters (take 1 name) (take 1 text)) e in
     let n = eqb-true (length name) (length text) h in
     let f = same_true lower (take 1 name) (take 1 text) t in
     ap₂ (λ l s. both (eqb l (length other)) s) n
@@ -91,7 +91,7 @@ pub one_or_none : (names : List KnownName) (name : List ℕ) → pairs_differ na
 unfolding pairs_differ one_has many_have
 one_or_none [] name p = refl
 one_or_none (k ∷ rest) name p =
-    let (d, q) = both-parts (not (one_has rest k.text)) (pairs_differ rest) p in
+    let (d, q) = both_parts (not (one_has rest k.text)) (pairs_differ rest) p in
     by (same_length_and_first name k.text) refl (not-true _ d) (one_or_none rest name q)
   where
     by : (t : Bool) → same_length_and_first name k.text ≡ t → one_has rest k.text ≡ false → many_have rest name ≡ pick (one_has rest name) 1 0
@@ -100,5 +100,5 @@ one_or_none (k ∷ rest) name p =
     by false e d r = omega (arith, r)
 
 -- so is the count of the known names
-pub known-counted : (name : List ℕ) → many_have known_names name ≡ compared_of name
-known-counted name = one_or_none known_names name known_differ
+pub known_counted : (name : List ℕ) → many_have known_names name ≡ compared_of name
+known_counted name = one_or_none known_names name known_differ

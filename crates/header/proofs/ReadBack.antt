@@ -27,7 +27,7 @@ module _ (message : List ℕ) (limited : length message ≤ message_limit) where
   fields_back table room i l =
       let o : Ordered message (get_or (fields_of (header_of message)) i no_field) = fields_ordered message i l in
       field_back (fields_of (header_of message)) table room i l
-      (record { name-start = omega arith; name-end = omega arith; body-start = omega arith; body_end = omega arith })
+      (record { name_start_lem = omega arith; name_end_lem = omega arith; body_start = omega arith; body_end = omega arith })
 
 -- an accepted message: the count is the number of its fields, and each is read back from the table
 pub record Accept (message table : List ℕ) (n : ℕ) : Type 0 where
@@ -37,9 +37,9 @@ pub record Accept (message table : List ℕ) (n : ℕ) : Type 0 where
   pub are : (i : ℕ) → i < n → field_in (split_table message table) i ≡ get_or (fields_of (header_of message)) i no_field
 
 module _ (message table : List ℕ) (n : ℕ) (e : split_answer message table ≡ Accepted n) where
-  within-limit : length message ≤ message_limit
+  within_limit : length message ≤ message_limit
   unfolding answer_for
-  within-limit =
+  within_limit =
       elim (dec_lt message_limit (length message)) [
         | yes h ↦
             absurd (let t : ltb message_limit (length message) ≡ true = lt-ltb _ _ h in let z : ◌≡◌ {A = ℕ} 0 1 = cc in omega arith)
@@ -48,14 +48,14 @@ module _ (message table : List ℕ) (n : ℕ) (e : split_answer message table �
 
   answered : answer_in (room_for field_record_size table) 0 (header_of message) ≡ Accepted n
   unfolding answer_for
-  answered = rw (le-ltb message_limit (length message) within-limit) at e
+  answered = rw (le-ltb message_limit (length message) within_limit) at e
 
   pub accept : Accept message table n
   accept =
       let (c, fits) = counted (room_for field_record_size table) 0 n (header_of message) answered in
       record {
-        limited = within-limit;
+        limited = within_limit;
         count = omega arith;
         fits = fits;
-        are = λ i l. rw e (fields_back message within-limit table (omega arith) i (omega arith));
+        are = λ i l. rw e (fields_back message within_limit table (omega arith) i (omega arith));
       }

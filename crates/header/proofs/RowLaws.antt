@@ -11,7 +11,7 @@ use lib.Seq.{drop-cons, get_or-take}
 use Rattle.octets.specs.Believed.Choice.{pick, both}
 use Rattle.octets.specs.Believed.Letters.{lower, same, same_letters}
 use Rattle.octets.specs.Believed.Octets.{space_byte}
-use Rattle.octets.proofs.ChoiceLaws.{both_true, both-parts}
+use Rattle.octets.proofs.ChoiceLaws.{both_true, both_parts}
 use Rattle.octets.proofs.Tables.{at, both_left, both_right}
 use Rattle.header.specs.Believed.Names.{KnownName, known_names, known_in, same_length_and_first, one_has}
 use Rattle.header.specs.Ties.Rows.{past_rows, in_row, text_width, padded, row_left}
@@ -30,7 +30,7 @@ pub one_left : (names : List KnownName) (name : List ℕ) → pairs_differ names
 unfolding pairs_differ row_left one_has known_in
 one_left [] name p = record { within = omega arith; searched = refl; counted = refl; fits = λ h. absurd (omega (arith, h)) }
 one_left (k ∷ rest) name p =
-    let (d, q) = both-parts (not (one_has rest k.text)) (pairs_differ rest) p in
+    let (d, q) = both_parts (not (one_has rest k.text)) (pairs_differ rest) p in
     by (same_length_and_first name k.text) refl (not-true _ d) (one_left rest name q)
   where
     by : (t : Bool) → same_length_and_first name k.text ≡ t → one_has rest k.text ≡ false → Left rest name (row_left rest name) 0
@@ -47,8 +47,8 @@ one_left (k ∷ rest) name p =
         }
 
 -- so it is with the known names
-pub known-left : (name : List ℕ) → Left known_names name (row_left known_names name) 0
-known-left name = one_left known_names name known_differ
+pub known_left : (name : List ℕ) → Left known_names name (row_left known_names name) 0
+known_left name = one_left known_names name known_differ
 
 module _ {names : List KnownName} {name : List ℕ} {i compared : ℕ} (l : Left names name i compared) where
   -- none is left: the name is another one
@@ -97,16 +97,16 @@ module _ (i : ℕ) (h : i < length known_names) where
   size = length (in_row i).text
 
   -- so has a known name's
-  pub has-letter : 0 < size
-  has-letter = ltb→lt 0 size (both_left (ltb 0 size) (leb size text_width) holds)
+  pub has_letter : 0 < size
+  has_letter = ltb→lt 0 size (both_left (ltb 0 size) (leb size text_width) holds)
 
   pub in_width : size ≤ text_width
   in_width = leb→le size text_width (both_right (ltb 0 size) (leb size text_width) holds)
 
 -- a letter in a row is the text's, made small
-pub small-letter : (text : List ℕ) (j : ℕ) → length text ≤ text_width → j < length text → get_or (padded text) j 0 ≡ lower (get_or text j 0)
+pub small_letter : (text : List ℕ) (j : ℕ) → length text ≤ text_width → j < length text → get_or (padded text) j 0 ≡ lower (get_or text j 0)
 unfolding padded lower
-small-letter text j w h =
+small_letter text j w h =
     get_or-take text_width (map lower text ++ replicate text_width space_byte) j 0 (omega (arith, w, h))
     ∙ get_or-append (map lower text) (replicate text_width space_byte) 0 j (rw (length-map text lower) h)
     ∙ get_or-map lower text j 0

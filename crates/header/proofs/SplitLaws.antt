@@ -18,7 +18,7 @@ use Rattle.octets.proofs.Parts.{staged}
 use Rattle.octets.specs.declared.answers.Answer.{Answer}
 use Rattle.octets.specs.declared.answers.Answer.TheVariants.{Accepted, Refused, NoRoom}
 use Rattle.records.specs.Believed.FieldRecords.{field_of, field_layout, field_record_size, field_bytes, field_table}
-use Rattle.records.proofs.TableLaws.{stored-first, length-table}
+use Rattle.records.proofs.TableLaws.{stored_first, length-table}
 use Rattle.header.specs.Believed.Fields.{Header, field, ended, fault, fields_of, line_start, header_at, header_of}
 use Rattle.header.specs.Believed.Split.{answer_in, answer_for, split_answer, table_after, split_table}
 use Rattle.header.proofs.StepLaws.{Gave}
@@ -35,15 +35,15 @@ pub record Left (message : List ℕ) (room : ℕ) (lent table : List ℕ) (at co
 abbrev pub Done : List ℕ → ℕ → List ℕ → Answer → List ℕ → Type 0
 Done message room lent r table = (r ≡ answer_in room 0 (header_of message)) × (table ≡ sets lent 0 (field_table (fields_of (header_of message))))
 
-pub at-start : (message : List ℕ) (room : ℕ) (lent : List ℕ) → Left message room lent lent 0 0
-at-start message room lent = record { within = omega arith; few = omega arith; same_length = refl; answer = refl; stored = refl }
+pub at_start : (message : List ℕ) (room : ℕ) (lent : List ℕ) → Left message room lent lent 0 0
+at_start message room lent = record { within = omega arith; few = omega arith; same_length = refl; answer = refl; stored = refl }
 
 module _ {message : List ℕ} {room : ℕ} {lent table : List ℕ} {at count : ℕ} (left : Left message room lent table at count) where
   -- a field is stored
-  pub after-field : {a b c d : ℕ} {next : List ℕ} → Gave message at a b c d (header_at message at line_start)
+  pub after_field : {a b c d : ℕ} {next : List ℕ} → Gave message at a b c d (header_at message at line_start)
       → next ≡ sets table (count * field_record_size) (field_bytes (field_of a b c d)) → Left message room lent next (d + 2) (count + 1)
   unfolding answer_in
-  after-field {a} {b} {c} {d} gave e =
+  after_field {a} {b} {c} {d} gave e =
       record {
         within = gave.within;
         few = omega arith;
@@ -51,21 +51,21 @@ module _ {message : List ℕ} {room : ℕ} {lent table : List ℕ} {at count : �
         answer = left.answer ∙ ap (λ (h : Header). answer_in room count h) gave.is;
         stored =
             left.stored
-            ∙ rw (gave.is, add-one count) (stored-first field_layout table count (field_of a b c d) (fields_of (header_at message (d + 2) line_start)) ∙ rw (sym e));
+            ∙ rw (gave.is, add-one count) (stored_first field_layout table count (field_of a b c d) (fields_of (header_at message (d + 2) line_start)) ∙ rw (sym e));
       }
 
   -- nothing more is stored at the header's end and at a fault
-  pub at-no-room : header_at message at line_start ≡ ended → room < count → Done message room lent (NoRoom count) table
+  pub at_no_room : header_at message at line_start ≡ ended → room < count → Done message room lent (NoRoom count) table
   unfolding answer_in
-  at-no-room e h = (sym (left.answer ∙ rw (e, lt-ltb room count h)), sym (left.stored ∙ rw e))
+  at_no_room e h = (sym (left.answer ∙ rw (e, lt-ltb room count h)), sym (left.stored ∙ rw e))
 
-  pub at-accepted : header_at message at line_start ≡ ended → count ≤ room → Done message room lent (Accepted count) table
+  pub at_accepted : header_at message at line_start ≡ ended → count ≤ room → Done message room lent (Accepted count) table
   unfolding answer_in
-  at-accepted e h = (sym (left.answer ∙ rw (e, le-ltb room count h)), sym (left.stored ∙ rw e))
+  at_accepted e h = (sym (left.answer ∙ rw (e, le-ltb room count h)), sym (left.stored ∙ rw e))
 
-  pub at-fault : {n p : ℕ} → header_at message at line_start ≡ fault n p → Done message room lent (Refused n p) table
+  pub at_fault : {n p : ℕ} → header_at message at line_start ≡ fault n p → Done message room lent (Refused n p) table
   unfolding answer_in
-  at-fault e = (sym (left.answer ∙ rw e), sym (left.stored ∙ rw e))
+  at_fault e = (sym (left.answer ∙ rw e), sym (left.stored ∙ rw e))
 
 -- an accepted answer counts the fields, and they fit
 pub counted : (room count n : ℕ) (h : Header) → answer_in room count h ≡ Accepted n → (n ≡ count + length (fields_of h)) × (n ≤ room)
@@ -94,20 +94,20 @@ module _ (message table : List ℕ) where
   too_long h = settled (Refused message_too_long message_limit) (rw (lt-ltb _ _ h))
 
   module _ (h : length message ≤ message_limit) where
-    within-limit : {r : Answer} → r ≡ answer_in (room_for field_record_size table) 0 (header_of message) → split_answer message table ≡ r
+    within_limit : {r : Answer} → r ≡ answer_in (room_for field_record_size table) 0 (header_of message) → split_answer message table ≡ r
     unfolding answer_for
-    within-limit e = rw (le-ltb _ _ h) (sym e)
+    within_limit e = rw (le-ltb _ _ h) (sym e)
 
     pub refused : {n p : ℕ} → Refused n p ≡ answer_in (room_for field_record_size table) 0 (header_of message) → Split message table (Refused n p) table
-    refused {n} {p} e = settled (Refused n p) (within-limit e)
+    refused {n} {p} e = settled (Refused n p) (within_limit e)
 
     pub no_room : {n : ℕ} → NoRoom n ≡ answer_in (room_for field_record_size table) 0 (header_of message) → Split message table (NoRoom n) table
-    no_room {n} e = settled (NoRoom n) (within-limit e)
+    no_room {n} e = settled (NoRoom n) (within_limit e)
 
     module _ {n : ℕ} (e : Accepted n ≡ answer_in (room_for field_record_size table) 0 (header_of message)) where
       -- accepted by the first run, and stored by the second
-      pub stored-again : {after : List ℕ} → after ≡ sets table 0 (field_table (fields_of (header_of message))) → Split message table (Accepted n) after
-      stored-again same = let s = settled (Accepted n) (within-limit e) in answered s.answer-is (same ∙ s.bytes-are)
+      pub stored_again : {after : List ℕ} → after ≡ sets table 0 (field_table (fields_of (header_of message))) → Split message table (Accepted n) after
+      stored_again same = let s = settled (Accepted n) (within_limit e) in answered s.answer_is (same ∙ s.bytes_are)
 
       -- accepted by the first run, and copied from where it stored
       pub copied : (room : List ℕ) {front after : List ℕ} → n * field_record_size ≤ length room → front ≡ sets room 0 (field_table (fields_of (header_of message)))
@@ -116,4 +116,4 @@ module _ (message table : List ℕ) where
           let fs = fields_of (header_of message) in
           let c = counted (room_for field_record_size table) 0 n (header_of message) (sym e) in
           let l : n * field_record_size ≡ length (field_table fs) = omega (arith, length-table field_layout fs) in
-          stored-again (second ∙ rw (first, l) (staged table room (field_table fs) (omega arith)))
+          stored_again (second ∙ rw (first, l) (staged table room (field_table fs) (omega arith)))

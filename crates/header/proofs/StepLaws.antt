@@ -8,8 +8,8 @@ use Rattle.records.specs.Believed.FieldRecords.{field_of}
 use Rattle.header.specs.Believed.Fields.{Header, field, ended, fault, line_start, header_at}
 use Rattle.header.specs.Ties.Steps.{first_of, GoesOn}
 use Rattle.header.specs.declared.fields.Next.TheVariants.{Field, End, Fault}
-use Rattle.header.proofs.ByteLaws.{crlf-other, body-other}
-use Rattle.header.proofs.HeaderLaws.{body-goes}
+use Rattle.header.proofs.ByteLaws.{crlf_other, body_other}
+use Rattle.header.proofs.HeaderLaws.{body_goes}
 use Rattle.header.proofs.FieldLaws.{First, first}
 
 -- a field was found
@@ -55,14 +55,14 @@ pub goes_nowhere : (message : List ℕ) (at : ℕ) → at ≤ length message →
 goes_nowhere message at h = record { from = omega arith; within = h; same = λ name end start. refl }
 
 -- a plain byte is passed
-pub goes-plain : (message : List ℕ) (at : ℕ) → at < length message → 14 ≤ get_or message at 0 → get_or message at 0 ≤ 127 → GoesOn message at (at + 1)
-goes-plain message at h low high =
-    let n = body-other message at (crlf-other message at (λ e. omega arith)) in
-    record { from = omega arith; within = omega arith; same = λ name end start. body-goes message at h name end start high n }
+pub goes_plain : (message : List ℕ) (at : ℕ) → at < length message → 14 ≤ get_or message at 0 → get_or message at 0 ≤ 127 → GoesOn message at (at + 1)
+goes_plain message at h low high =
+    let n = body_other message at (crlf_other message at (λ e. omega arith)) in
+    record { from = omega arith; within = omega arith; same = λ name end start. body_goes message at h name end start high n }
 
 -- bytes are passed, and then others
-pub goes-both : {message : List ℕ} {at p q r : ℕ} → GoesOn message at p → GoesOn message p q → q ≡ r → GoesOn message at r
-goes-both first second e =
+pub goes_both : {message : List ℕ} {at p q r : ℕ} → GoesOn message at p → GoesOn message p q → q ≡ r → GoesOn message at r
+goes_both first second e =
     record {
       from = omega (arith, first.from, second.from);
       within = rw e at second.within;

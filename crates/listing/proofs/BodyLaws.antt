@@ -15,7 +15,7 @@ use Rattle.octets.specs.Believed.Numbers.{table_records, too_little_room}
 use Rattle.octets.specs.Believed.Octets.{line_feed_byte}
 use Rattle.octets.specs.Believed.Text.{bytes, part}
 use Rattle.octets.specs.Ties.Writing.{WroteBy}
-use Rattle.octets.proofs.Writes.{wrote_as, wrote-both, wrote_three}
+use Rattle.octets.proofs.Writes.{wrote_as, wrote_both, wrote_three}
 use Rattle.octets.specs.declared.answers.Answer.{Answer}
 use Rattle.octets.specs.declared.answers.Answer.TheVariants.{Accepted, Refused, NoRoom}
 use Rattle.records.specs.Believed.AddressRecords.{address_record_size, no_record, table_bytes, record_in}
@@ -53,8 +53,8 @@ module _ (edition : ℕ) (message : List ℕ) (start end : ℕ) (table : List �
   abbrev text_of : Outcome → List ℕ
   text_of o = unless_refused o.answer o.table
 
-  room-is : length table / address_record_size ≡ table_records
-  room-is = rw (← size)
+  room_is : length table / address_record_size ≡ table_records
+  room_is = rw (← size)
 
   module _ {N : Type 0} (k : Forest Class N) (back : ReadBack k) (answered : AnsweredBy edition message start end (λ A refuse derive. derive N k)) where
     -- the records in the table are those of the list
@@ -66,18 +66,18 @@ module _ (edition : ℕ) (message : List ℕ) (start end : ℕ) (table : List �
         (λ i l. let z : 0 + i ≡ i = omega arith in rw z (back table (omega (arith, size)) i (omega arith) (omega arith)))
 
     -- what is printed of a list
-    of-list : (rest : List ℕ) (o : Outcome) → listed rest k ≡ o → text_of o ≡ address_body edition message start end rest
-    of-list rest o e = ap text_of (sym (answered Outcome (refusal rest) (λ M j. listed rest j) ∙ e))
+    of_list : (rest : List ℕ) (o : Outcome) → listed rest k ≡ o → text_of o ≡ address_body edition message start end rest
+    of_list rest o e = ap text_of (sym (answered Outcome (refusal rest) (λ M j. listed rest j) ∙ e))
 
     in_room : (t : Bool) → ltb table_records (count k) ≡ t → PrintedOf (derived table k)
     in_room true e =
-        let d : derived table k ≡ record { answer = NoRoom (count k); table = table } = rw (room-is, e) in
-        subst (λ (o : Outcome). PrintedOf o) (sym d) (λ rest. of-list rest (record { answer = NoRoom (count k); table = rest }) (rw e))
+        let d : derived table k ≡ record { answer = NoRoom (count k); table = table } = rw (room_is, e) in
+        subst (λ (o : Outcome). PrintedOf o) (sym d) (λ rest. of_list rest (record { answer = NoRoom (count k); table = rest }) (rw e))
     in_room false e =
-        let d : derived table k ≡ record { answer = Accepted (count k); table = sets table 0 (table_bytes (records k)) } = rw (room-is, e) in
+        let d : derived table k ≡ record { answer = Accepted (count k); table = sets table 0 (table_bytes (records k)) } = rw (room_is, e) in
         let few : count k ≤ table_records = ltb-false table_records (count k) e in
         subst (λ (o : Outcome). PrintedOf o) (sym d)
-        (few, λ rest. ap (λ l. each address_line l rest) (records_in few) ∙ of-list rest (record { answer = Accepted (count k); table = each address_line (records k) rest }) (rw e))
+        (few, λ rest. ap (λ l. each address_line l rest) (records_in few) ∙ of_list rest (record { answer = Accepted (count k); table = each address_line (records k) rest }) (rw e))
 
   by_case : JudgedOf edition message start end → PrintedOf (outcome_of edition message start end table)
   by_case (refused_at n p f) = subst (λ (o : Outcome). PrintedOf o) (sym (f Outcome (refusal table) (λ N k. derived table k))) (λ rest. ap text_of (sym (f Outcome (refusal rest) (λ N k. listed rest k))))
@@ -91,20 +91,20 @@ pub body_733 : (message : List ℕ) (start end : ℕ) (rest : List ℕ) → addr
 body_733 message start end rest = ap (λ (o : Outcome). unless_refused o.answer o.table) (unchanged_733 (refusal rest) (λ N k. listed rest k) message start end)
 
 -- a date, and a body that is none
-pub accepted-date : {store : List ℕ → ℕ → List ℕ → List ℕ} (s : ℤ) {r : DateAnswer} {o p q z : List ℕ} {n a b c : ℕ} → r ≡ date.Accepted s
+pub accepted_date : {store : List ℕ → ℕ → List ℕ → List ℕ} (s : ℤ) {r : DateAnswer} {o p q z : List ℕ} {n a b c : ℕ} → r ≡ date.Accepted s
     → WroteBy store (λ rest. bytes "date " ++ rest) o n p a → WroteBy store (signed s) p a q b → WroteBy store (λ rest. line_feed_byte ∷ rest) q b z c → WroteBy store (date_text r) o n z c
-accepted-date s e w x y = rw e (wrote_three {f = λ rest. bytes "date " ++ rest} {g = signed s} {h = λ rest. line_feed_byte ∷ rest} w x y)
+accepted_date s e w x y = rw e (wrote_three {f = λ rest. bytes "date " ++ rest} {g = signed s} {h = λ rest. line_feed_byte ∷ rest} w x y)
 
-pub refused-date : {store : List ℕ → ℕ → List ℕ → List ℕ} {r : DateAnswer} {number position : ℕ} {o p : List ℕ} {n a : ℕ} → r ≡ date.Refused number position → WroteBy store (refused_line number position) o n p a → WroteBy store (date_text r) o n p a
-refused-date e w = rw e w
+pub refused_date : {store : List ℕ → ℕ → List ℕ → List ℕ} {r : DateAnswer} {number position : ℕ} {o p : List ℕ} {n a : ℕ} → r ≡ date.Refused number position → WroteBy store (refused_line number position) o n p a → WroteBy store (date_text r) o n p a
+refused_date e w = rw e w
 
 -- the lines of a body, by what its name holds
 module _ (edition : ℕ) (k : Known) (message : List ℕ) (start end : ℕ) {store : List ℕ → ℕ → List ℕ → List ℕ} {o p : List ℕ} {n a : ℕ} where
-  pub address-name : holds_addresses k ≡ true → WroteBy store (address_body edition message start end) o n p a → WroteBy store (body edition k message start end) o n p a
-  address-name e w = wrote_as (λ rest. sym (rw e)) w
+  pub address_name : holds_addresses k ≡ true → WroteBy store (address_body edition message start end) o n p a → WroteBy store (body edition k message start end) o n p a
+  address_name e w = wrote_as (λ rest. sym (rw e)) w
 
-  pub no-address-name : holds_addresses k ≡ false → WroteBy store (other_body k message start end) o n p a → WroteBy store (body edition k message start end) o n p a
-  no-address-name e w = wrote_as (λ rest. sym (rw e)) w
+  pub no_address_name : holds_addresses k ≡ false → WroteBy store (other_body k message start end) o n p a → WroteBy store (body edition k message start end) o n p a
+  no_address_name e w = wrote_as (λ rest. sym (rw e)) w
 
 -- a name that is neither a date's nor an address list's gives no line
 pub other_name : (k : Known) (message : List ℕ) (start end : ℕ) (rest : List ℕ) → OneOf (1 ∷ 2 ∷ 3 ∷ 4 ∷ 5 ∷ 6 ∷ []) (tag_of the_type k) → other_body k message start end rest ≡ rest
@@ -117,7 +117,7 @@ other_name known.Bcc message start end rest o = refl
 other_name known.Other message start end rest o = refl
 
 -- a field's line, and then the lines of its body
-pub field-text : (edition : ℕ) (message : List ℕ) (f : Field) {k : Known} {store : List ℕ → ℕ → List ℕ → List ℕ} {o p q : List ℕ} {n a b : ℕ} → k ≡ known_of (part message f.name_start f.name_end)
+pub field_text_lem : (edition : ℕ) (message : List ℕ) (f : Field) {k : Known} {store : List ℕ → ℕ → List ℕ → List ℕ} {o p q : List ℕ} {n a b : ℕ} → k ≡ known_of (part message f.name_start f.name_end)
     → WroteBy store (field_line f) o n p a → WroteBy store (body edition k message f.body_start f.body_end) p a q b → WroteBy store (field_text edition message f) o n q b
 unfolding field_text
-field-text edition message f e w x = wrote-both {f = field_line f} w (rw e at x)
+field_text_lem edition message f e w x = wrote_both {f = field_line f} w (rw e at x)

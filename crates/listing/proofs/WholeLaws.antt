@@ -7,7 +7,7 @@ use lib.ListN.{length, drop}
 use lib.Seq.{sets}
 use Rattle.octets.specs.Believed.Numbers.{table_records}
 use Rattle.octets.specs.Ties.Writing.{WroteBy, in_window}
-use Rattle.octets.proofs.Writes.{nothing-more, window_all}
+use Rattle.octets.proofs.Writes.{nothing_more, window_all}
 use Rattle.octets.specs.declared.answers.Answer.{Answer}
 use Rattle.octets.specs.declared.answers.Answer.TheVariants.{Accepted, Refused, NoRoom}
 use Rattle.records.specs.Believed.FieldRecords.{no_field, field_record_size, field_in}
@@ -21,7 +21,7 @@ use Rattle.listing.proofs.TableLaws.{tabulated}
 -- a text that is written from its start on
 pub whole : (from : ℕ) {f : List ℕ → List ℕ} {o p : List ℕ} {r : ℕ} {text : List ℕ} → WroteBy (in_window from) f o 0 p r → f [] ≡ text
     → (r ≡ length text) × (p ≡ sets o 0 (drop from text))
-whole from {f} {o} {p} {r} w e = rw (← e) (omega (arith, w.count []), sym (nothing-more from p r) ∙ sym (w.same []) ∙ window_all from o (f []))
+whole from {f} {o} {p} {r} w e = rw (← e) (omega (arith, w.count []), sym (nothing_more from p r) ∙ sym (w.same []) ∙ window_all from o (f []))
 
 module _ (message table : List ℕ) (size : table_records * field_record_size ≡ length table) where
   -- a table after splitting holds the fields

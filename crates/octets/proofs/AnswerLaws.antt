@@ -6,4 +6,4 @@ use Rattle.octets.specs.Believed.Answers.{told, Answered}
 use Rattle.octets.specs.declared.answers.Answer.{Answer}
 
 pub answered : {answer r : Answer} {bytes after : List ℕ} → r ≡ answer → after ≡ bytes → Answered answer bytes r after
-answered e f = record { told_is = ap told e; bytes-are = f; answer-is = e }
+answered e f = record { told_is = ap told e; bytes_are = f; answer_is = e }

@@ -20,9 +20,9 @@ either_true true = refl
 either_true false = refl
 
 -- where both hold, each does
-pub both-parts : (a b : Bool) → both a b ≡ true → (a ≡ true) × (b ≡ true)
-both-parts true b e = (refl, e)
-both-parts false b e = absurd (let z : ◌≡◌ {A = ℕ} 0 1 = cc in omega arith)
+pub both_parts : (a b : Bool) → both a b ≡ true → (a ≡ true) × (b ≡ true)
+both_parts true b e = (refl, e)
+both_parts false b e = absurd (let z : ◌≡◌ {A = ℕ} 0 1 = cc in omega arith)
 
 -- where not one of two holds, neither does
 pub neither_parts : (a b : Bool) → either a b ≡ false → (a ≡ false) × (b ≡ false)
@@ -30,9 +30,9 @@ neither_parts true b e = absurd (let z : ◌≡◌ {A = ℕ} 0 1 = cc in omega a
 neither_parts false b e = (refl, e)
 
 -- where one of two holds, it is one of them
-pub either-parts : (a b : Bool) → either a b ≡ true → (a ≡ true) ⊎ (b ≡ true)
-either-parts true b e = inl refl
-either-parts false b e = inr e
+pub either_parts : (a b : Bool) → either a b ≡ true → (a ≡ true) ⊎ (b ≡ true)
+either_parts true b e = inl refl
+either_parts false b e = inr e
 
 -- the number of a truth value, as a cast gives it
 pub cast_bool : (b : Bool) → bool_byte b ≡ pick b 1 0

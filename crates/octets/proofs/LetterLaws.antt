@@ -11,12 +11,12 @@ use lib.ListN.{length, drop, get_or, drop_of_length-le}
 use lib.Seq.{drop-cons}
 use Rattle.octets.specs.Believed.Choice.{both}
 use Rattle.octets.specs.Believed.Letters.{lower, same, same_bytes}
-use Rattle.octets.proofs.ChoiceLaws.{both_false, both-parts}
+use Rattle.octets.proofs.ChoiceLaws.{both_false, both_parts}
 
 -- only a capital letter has another small letter
-pub lower-below : (b : ℕ) → b < 65 → lower b ≡ b
+pub lower_below : (b : ℕ) → b < 65 → lower b ≡ b
 unfolding lower
-lower-below b h = rw (lt-leb 65 b h)
+lower_below b h = rw (lt-leb 65 b h)
 
 pub lower_above : (b : ℕ) → 90 < b → lower b ≡ b
 unfolding lower
@@ -48,7 +48,7 @@ module _ (f : ℕ → ℕ) where
   same_true [] (b ∷ y) e = absurd (let z : ◌≡◌ {A = ℕ} 0 1 = cc in omega arith)
   same_true (a ∷ x) [] e = absurd (let z : ◌≡◌ {A = ℕ} 0 1 = cc in omega arith)
   same_true (a ∷ x) (b ∷ y) e =
-      let (h, t) = both-parts (eqb (f a) (f b)) (same f x y) e in
+      let (h, t) = both_parts (eqb (f a) (f b)) (same f x y) e in
       ap₂ (λ c z. c ∷ z) (eqb-true (f a) (f b) h) (same_true x y t)
 
   -- to be the same is to have the same bytes, each read through f
@@ -65,8 +65,8 @@ module _ (f : ℕ → ℕ) where
     next = rw (drop-cons x i 0 h, drop-cons y i 0 k, add-one)
 
     -- from a byte that agrees the comparison goes on
-    pub byte-same : f (get_or x i 0) ≡ f (get_or y i 0) → same f (drop i x) (drop i y) ≡ same f (drop (i + 1) x) (drop (i + 1) y)
-    byte-same e = next ∙ rw (eq-eqb _ _ e)
+    pub byte_same : f (get_or x i 0) ≡ f (get_or y i 0) → same f (drop i x) (drop i y) ≡ same f (drop (i + 1) x) (drop (i + 1) y)
+    byte_same e = next ∙ rw (eq-eqb _ _ e)
 
     -- at a byte that does not it ends
     pub byte_differs : (f (get_or x i 0) ≡ f (get_or y i 0) → ⊥) → same f (drop i x) (drop i y) ≡ false

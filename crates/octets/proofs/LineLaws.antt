@@ -11,11 +11,11 @@ use Rattle.octets.specs.Believed.Text.{crlf_at}
 use Rattle.octets.proofs.ChoiceLaws.{both_false}
 
 module _ (text : List ℕ) (at : ℕ) where
-  pub crlf-other : (get_or text at 0 ≡ return_byte → ⊥) → crlf_at text at ≡ false
-  crlf-other n = rw (ne_eqb _ _ n)
+  pub crlf_other : (get_or text at 0 ≡ return_byte → ⊥) → crlf_at text at ≡ false
+  crlf_other n = rw (ne_eqb _ _ n)
 
-  pub crlf-last : length text ≤ at + 1 → crlf_at text at ≡ false
-  crlf-last h = rw (get_or-eq_default text 0 h) (both_false (eqb (get_or text at 0) return_byte))
+  pub crlf_last : length text ≤ at + 1 → crlf_at text at ≡ false
+  crlf_last h = rw (get_or-eq_default text 0 h) (both_false (eqb (get_or text at 0) return_byte))
 
   pub crlf_second : get_or text at 0 ≡ return_byte → crlf_at text at ≡ eqb (get_or text (at + 1) 0) line_feed_byte
   crlf_second e = rw (eq-eqb _ _ e)

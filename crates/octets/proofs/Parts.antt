@@ -17,8 +17,8 @@ module _ {A : Type 0} where
   no_front (x ∷ front) rest e = absurd (omega arith)
 
   -- from a place on: the element there, and those after it
-  pub from-here : (l : List A) (i : ℕ) (d : A) → i < length l → drop i l ≡ get_or l i d ∷ drop (i + 1) l
-  from-here l i d h = rw add-one (drop-cons l i d h)
+  pub from_here : (l : List A) (i : ℕ) (d : A) → i < length l → drop i l ≡ get_or l i d ∷ drop (i + 1) l
+  from_here l i d h = rw add-one (drop-cons l i d h)
 
   -- past the end nothing is stored
   pub sets_out : (vs table : List A) (i : ℕ) → length table ≤ i → sets table i vs ≡ table
@@ -39,11 +39,11 @@ module _ {A : Type 0} where
       rw (set_comm table i j v w (λ e. absurd (omega arith))) (set-sets vs (set table j w) i (suc j) v (omega arith))
 
   -- of two runs, one after the other, either may be stored first
-  pub sets-behind-first : (vs ws table : List A) (i : ℕ) → sets (sets table (i + length vs) ws) i vs ≡ sets table i (vs ++ ws)
-  sets-behind-first [] ws table i = rw (add-zero i)
-  sets-behind-first (v ∷ vs) ws table i =
+  pub sets-behind_first : (vs ws table : List A) (i : ℕ) → sets (sets table (i + length vs) ws) i vs ≡ sets table i (vs ++ ws)
+  sets-behind_first [] ws table i = rw (add-zero i)
+  sets-behind_first (v ∷ vs) ws table i =
       let e : i + suc (length vs) ≡ suc i + length vs = omega arith in
-      rw (e, ← (set-sets ws table i (suc i + length vs) v (omega arith))) (sets-behind-first vs ws (set table i v) (suc i))
+      rw (e, ← (set-sets ws table i (suc i + length vs) v (omega arith))) (sets-behind_first vs ws (set table i v) (suc i))
 
   -- what stands before a run stays
   pub take-sets : (vs table : List A) (i n : ℕ) → n ≤ i → take n (sets table i vs) ≡ take n table
@@ -67,10 +67,10 @@ module _ {A : Type 0} where
   staged table room vs h = ap (λ (front : List A). sets table 0 front) (part-sets vs room 0 (omega arith))
 
   -- the front of a list, copied: from a place on the element there, and those after it
-  pub copied-here : (from table : List A) (many i : ℕ) (d : A) → i < many → i < length from
+  pub copied_here : (from table : List A) (many i : ℕ) (d : A) → i < many → i < length from
       → sets table i (drop i (take many from)) ≡ sets (set table i (get_or from i d)) (i + 1) (drop (i + 1) (take many from))
-  copied-here from table many i d h k =
-      rw (from-here (take many from) i d (omega (arith, length-take many from)), get_or-take many from i d h, add-one)
+  copied_here from table many i d h k =
+      rw (from_here (take many from) i d (omega (arith, length-take many from)), get_or-take many from i d h, add-one)
 
   -- nothing of it is left where it ends, or the table does
   pub copied_all : (from table : List A) (many i : ℕ) → min many (min (length table) (length from)) ≤ i
@@ -83,8 +83,8 @@ module _ {A : Type 0} where
 
 -- ---- the part of a text from a position up to another
 
-pub part-cons : (text : List ℕ) (at end : ℕ) → at < end → end ≤ length text → part text at end ≡ get_or text at 0 ∷ part text (at + 1) end
-part-cons text at end h k =
+pub part_cons : (text : List ℕ) (at end : ℕ) → at < end → end ≤ length text → part text at end ≡ get_or text at 0 ∷ part text (at + 1) end
+part_cons text at end h k =
     let n : end - at ≡ suc (end - (at + 1)) = omega arith in
     rw (n, drop-cons text at 0 (omega arith), add-one)
 

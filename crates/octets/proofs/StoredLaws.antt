@@ -22,37 +22,37 @@ pub two_stored : (table : List ℕ) (at x : ℕ) {after-high after-low : List �
 two_stored table at x h l = l ∙ rw (h, add-one at)
 
 -- the last byte counts one
-pub number-last : (high : ℕ) (bytes : List ℕ) (b : ℕ) → number_from high (bytes ++ (b ∷ [])) ≡ number_from high bytes * 256 + b
-number-last high [] b = refl
-number-last high (a ∷ bytes) b = number-last (high * 256 + a) bytes b
+pub number_last : (high : ℕ) (bytes : List ℕ) (b : ℕ) → number_from high (bytes ++ (b ∷ [])) ≡ number_from high bytes * 256 + b
+number_last high [] b = refl
+number_last high (a ∷ bytes) b = number_last (high * 256 + a) bytes b
 
 -- the bytes of a number hold it, if they are enough
-pub number-bytes_of : (width x : ℕ) → x < 256 ^ width → number_from 0 (bytes_of width x) ≡ x
-number-bytes_of zero x h = omega arith
-number-bytes_of (suc width) x h =
+pub number_bytes_of : (width x : ℕ) → x < 256 ^ width → number_from 0 (bytes_of width x) ≡ x
+number_bytes_of zero x h = omega arith
+number_bytes_of (suc width) x h =
     let k : x < 256 ^ width * 256 = rw (← pow-suc) h in
     let q : x / 256 < 256 ^ width = (div-lt_iff_lt-mul {k = 256} {y = 256 ^ width} (lit< tt)).1 k in
-    let i : number_from 0 (bytes_of width (x / 256)) ≡ x / 256 = number-bytes_of width (x / 256) q in
-    number-last 0 (bytes_of width (x / 256)) (x % 256) ∙ rw i (div-add-mod' x 256)
+    let i : number_from 0 (bytes_of width (x / 256)) ≡ x / 256 = number_bytes_of width (x / 256) q in
+    number_last 0 (bytes_of width (x / 256)) (x % 256) ∙ rw i (div-add-mod' x 256)
 
 -- within the table the bytes at a place are a part of it
-pub bytes_at-part : (width : ℕ) (table : List ℕ) (at : ℕ) → at + width ≤ length table → bytes_at width table at ≡ take width (drop at table)
-bytes_at-part zero table at h = refl
-bytes_at-part (suc width) table at h =
-    rw (drop-cons table at 0 (omega arith), bytes_at-part width table (at + 1) (omega arith), add-one)
+pub bytes_at_part : (width : ℕ) (table : List ℕ) (at : ℕ) → at + width ≤ length table → bytes_at width table at ≡ take width (drop at table)
+bytes_at_part zero table at h = refl
+bytes_at_part (suc width) table at h =
+    rw (drop-cons table at 0 (omega arith), bytes_at_part width table (at + 1) (omega arith), add-one)
 
 -- what is stored at a place stands there
-pub bytes-stored : (bytes table : List ℕ) (at : ℕ) → at + length bytes ≤ length table → bytes_at (length bytes) (sets table at bytes) at ≡ bytes
-bytes-stored bytes table at h =
-    bytes_at-part (length bytes) (sets table at bytes) at (rw length-sets h) ∙ part-sets bytes table at h
+pub bytes_stored : (bytes table : List ℕ) (at : ℕ) → at + length bytes ≤ length table → bytes_at (length bytes) (sets table at bytes) at ≡ bytes
+bytes_stored bytes table at h =
+    bytes_at_part (length bytes) (sets table at bytes) at (rw length-sets h) ∙ part-sets bytes table at h
 
 -- a number that is stored is read back
-pub number-stored : (width : ℕ) (table : List ℕ) (at x : ℕ) → at + width ≤ length table → x < 256 ^ width
+pub number_stored : (width : ℕ) (table : List ℕ) (at x : ℕ) → at + width ≤ length table → x < 256 ^ width
     → number_at width (sets table at (bytes_of width x)) at ≡ x
-number-stored width table at x h k =
+number_stored width table at x h k =
     let n : length (bytes_of width x) ≡ width = length-bytes_of width x in
-    let b : bytes_at width (sets table at (bytes_of width x)) at ≡ bytes_of width x = rw n at (bytes-stored (bytes_of width x) table at (rw n h)) in
-    rw b (number-bytes_of width x k)
+    let b : bytes_at width (sets table at (bytes_of width x)) at ≡ bytes_of width x = rw n at (bytes_stored (bytes_of width x) table at (rw n h)) in
+    rw b (number_bytes_of width x k)
 
 -- past the end of a table stand zeros
 pub number_out : (width : ℕ) (table : List ℕ) (at : ℕ) → length table ≤ at → number_at width table at ≡ 0

@@ -26,42 +26,42 @@ module _ {store : List ℕ → ℕ → List ℕ → List ℕ} where
       record { same = λ rest. ap (store o n) (sym (e rest)) ∙ w.same rest; count = λ rest. ap (λ t. n + length t) (sym (e rest)) ∙ w.count rest }
 
   -- one text after another
-  pub wrote-both : {f g : List ℕ → List ℕ} {o p q : List ℕ} {n m k : ℕ} → WroteBy store f o n p m → WroteBy store g p m q k → WroteBy store (λ rest. f (g rest)) o n q k
-  wrote-both {f} {g} a b = record { same = λ rest. a.same (g rest) ∙ b.same rest; count = λ rest. a.count (g rest) ∙ b.count rest }
+  pub wrote_both : {f g : List ℕ → List ℕ} {o p q : List ℕ} {n m k : ℕ} → WroteBy store f o n p m → WroteBy store g p m q k → WroteBy store (λ rest. f (g rest)) o n q k
+  wrote_both {f} {g} a b = record { same = λ rest. a.same (g rest) ∙ b.same rest; count = λ rest. a.count (g rest) ∙ b.count rest }
 
   pub wrote_three : {f g h : List ℕ → List ℕ} {o p q r : List ℕ} {n m k j : ℕ}
       → WroteBy store f o n p m → WroteBy store g p m q k → WroteBy store h q k r j → WroteBy store (λ rest. f (g (h rest))) o n r j
-  wrote_three {f} {g} {h} a b c = wrote-both {f = f} {g = λ rest. g (h rest)} a (wrote-both {f = g} {g = h} b c)
+  wrote_three {f} {g} {h} a b c = wrote_both {f = f} {g = λ rest. g (h rest)} a (wrote_both {f = g} {g = h} b c)
 
 -- a byte
-pub wrote-byte : {out after : List ℕ} {n b : ℕ} → after ≡ set out n b → Wrote (λ rest. b ∷ rest) out n after (n + 1)
-wrote-byte {out} {after} {n} {b} e = record { same = λ rest. rw (e, add-one n); count = λ rest. omega arith }
+pub wrote_byte : {out after : List ℕ} {n b : ℕ} → after ≡ set out n b → Wrote (λ rest. b ∷ rest) out n after (n + 1)
+wrote_byte {out} {after} {n} {b} e = record { same = λ rest. rw (e, add-one n); count = λ rest. omega arith }
 
 -- ---- texts written in a window
 
 module _ (from : ℕ) (out : List ℕ) (n b : ℕ) where
   -- a byte before the window changes nothing
-  pub byte-before : n < from → in_window from out n (b ∷ []) ≡ out
+  pub byte_before : n < from → in_window from out n (b ∷ []) ≡ out
   unfolding in_window
-  byte-before h =
+  byte_before h =
       let d : from - n ≡ suc (from - (n + 1)) = omega arith in
       let none : List ℕ = [] in
       rw (lt-leb from n h, d, drop_of_length-le none {i = from - (n + 1)} (omega arith))
 
   -- a byte in it is stored, if there is room
-  pub byte-within : from ≤ n → in_window from out n (b ∷ []) ≡ set out (n - from) b
+  pub byte_within : from ≤ n → in_window from out n (b ∷ []) ≡ set out (n - from) b
   unfolding in_window
-  byte-within h = rw (le-leb from n h)
+  byte_within h = rw (le-leb from n h)
 
   -- a byte, and what stands after it
   window_byte : (rest : List ℕ) → in_window from out n (b ∷ rest) ≡ in_window from (in_window from out n (b ∷ [])) (n + 1) rest
   unfolding in_window
   window_byte rest =
       elim (dec_lt n from) [
-        | yes h ↦ rw (byte-before h) (before h rest)
+        | yes h ↦ rw (byte_before h) (before h rest)
         | no h ↦
             let d : n + 1 - from ≡ suc (n - from) = omega arith in
-            rw (byte-within (omega arith), le-leb from n (omega arith), le-leb from (n + 1) (omega arith), d)
+            rw (byte_within (omega arith), le-leb from n (omega arith), le-leb from (n + 1) (omega arith), d)
       ]
     where
       before : n < from → (rest : List ℕ) → in_window from out n (b ∷ rest) ≡ in_window from out (n + 1) rest
@@ -79,20 +79,20 @@ pub wrote_window : (from : ℕ) {out after : List ℕ} {n b : ℕ} → after ≡
 wrote_window from {out} {after} {n} {b} e = record { same = λ rest. rw e (window_byte from out n b rest); count = λ rest. omega arith }
 
 -- nothing is stored of no text
-pub nothing-more : (from : ℕ) (out : List ℕ) (n : ℕ) → in_window from out n [] ≡ out
+pub nothing_more : (from : ℕ) (out : List ℕ) (n : ℕ) → in_window from out n [] ≡ out
 unfolding in_window
-nothing-more from out n =
+nothing_more from out n =
     elim (dec_lt n from) [
       | yes h ↦ let none : List ℕ = [] in rw (lt-leb from n h, drop_of_length-le none {i = from - n} (omega arith))
       | no h ↦ rw (le-leb from n (omega arith))
     ]
 
 -- a text
-pub wrote-text : {out after : List ℕ} {n : ℕ} (t : List ℕ) → after ≡ sets out n t → Wrote (λ rest. t ++ rest) out n after (n + length t)
-wrote-text {out} {n = n} t e = record { same = λ rest. rw e (sets-append t rest out n); count = λ rest. rw length-append (omega arith) }
+pub wrote_text : {out after : List ℕ} {n : ℕ} (t : List ℕ) → after ≡ sets out n t → Wrote (λ rest. t ++ rest) out n after (n + length t)
+wrote_text {out} {n = n} t e = record { same = λ rest. rw e (sets-append t rest out n); count = λ rest. rw length-append (omega arith) }
 
 window_text : (from : ℕ) (t rest out : List ℕ) (n : ℕ) → in_window from out n (t ++ rest) ≡ in_window from (in_window from out n t) (n + length t) rest
-window_text from [] rest out n = let z : n + 0 ≡ n = omega arith in rw (nothing-more from out n, z)
+window_text from [] rest out n = let z : n + 0 ≡ n = omega arith in rw (nothing_more from out n, z)
 window_text from (b ∷ t) rest out n =
     let z : n + 1 + length t ≡ n + suc (length t) = omega arith in
     window_byte from out n b (t ++ rest) ∙ window_text from t rest (in_window from out n (b ∷ [])) (n + 1)
@@ -103,16 +103,16 @@ wrote_window_text from {out} {n = n} t e = record { same = λ rest. rw e (window
 
 module _ (from : ℕ) (out : List ℕ) (n : ℕ) (t : List ℕ) where
   -- a text in the window, one that begins before it, and one that ends before it
-  pub text-within : from ≤ n → in_window from out n t ≡ sets out (n - from) t
+  pub text_within : from ≤ n → in_window from out n t ≡ sets out (n - from) t
   unfolding in_window
-  text-within h = rw (le-leb from n h)
+  text_within h = rw (le-leb from n h)
 
   pub text_across : n < from → in_window from out n t ≡ sets out 0 (drop (from - n) t)
   unfolding in_window
   text_across h = rw (lt-leb from n h)
 
-  pub text-before : n < from → length t ≤ from - n → in_window from out n t ≡ out
-  text-before h k = text_across h ∙ rw (drop_of_length-le t {i = from - n} k)
+  pub text_before : n < from → length t ≤ from - n → in_window from out n t ≡ out
+  text_before h k = text_across h ∙ rw (drop_of_length-le t {i = from - n} k)
 
 -- from the text's start on, a window holds what stands from its own start on
 pub window_all : (from : ℕ) (out text : List ℕ) → in_window from out 0 text ≡ sets out 0 (drop from text)
@@ -135,8 +135,8 @@ abbrev pub Left : List ℕ → ℕ → (List ℕ → List ℕ) → List ℕ → 
 Left o n f o' n' g = LeftBy sets o n f o' n' g
 
 module _ {store : List ℕ → ℕ → List ℕ → List ℕ} where
-  pub left-all : (o : List ℕ) (n : ℕ) (f : List ℕ → List ℕ) → LeftBy store o n f o n f
-  left-all o n f = record { same = λ rest. refl; count = λ rest. refl }
+  pub left_all : (o : List ℕ) (n : ℕ) (f : List ℕ → List ℕ) → LeftBy store o n f o n f
+  left_all o n f = record { same = λ rest. refl; count = λ rest. refl }
 
   module _ {o o' : List ℕ} {n n' : ℕ} {f g : List ℕ → List ℕ} (l : LeftBy store o n f o' n' g) where
     -- the same text in other words
@@ -152,8 +152,8 @@ module _ {store : List ℕ → ℕ → List ℕ → List ℕ} where
         }
 
     -- nothing is left
-    pub left-none : ((rest : List ℕ) → g rest ≡ rest) → WroteBy store f o n o' n'
-    left-none e = record { same = λ rest. l.same rest ∙ ap (store o' n') (e rest); count = λ rest. l.count rest ∙ ap (λ t. n' + length t) (e rest) }
+    pub left_none : ((rest : List ℕ) → g rest ≡ rest) → WroteBy store f o n o' n'
+    left_none e = record { same = λ rest. l.same rest ∙ ap (store o' n') (e rest); count = λ rest. l.count rest ∙ ap (λ t. n' + length t) (e rest) }
 
 -- ---- number 11
 

@@ -95,9 +95,9 @@ above_tag = 9
 abbrev class_tag : ℕ → ℕ → ℕ
 class_tag b class = tag (pick (eqb b 13) (kind_of [] 13) (kind_of_class class))
 
-every-fits : T (every (λ b class. either (eqb (class_tag b class) above_tag) (fits b (class_tag b class))) 0 class_table)
+every_fits : T (every (λ b class. either (eqb (class_tag b class) above_tag) (fits b (class_tag b class))) 0 class_table)
 unfolding class_table class_of kind_of
-every-fits = tt
+every_fits = tt
 
 no_other : (x y : Bool) → T (either x y) → x ≡ false → T y
 no_other true y t e = absurd (let z : ◌≡◌ {A = ℕ} 0 1 = cc in omega arith)
@@ -114,6 +114,6 @@ pub datum : (b : ℕ) → eqb (tag (kind_of class_table b)) above_tag ≡ false 
 unfolding kind_of
 datum b e =
     elim (dec_lt b 256) [
-      | yes h ↦ no_other (eqb (class_tag b (get_or class_table b 0)) above_tag) _ (at (λ b class. either (eqb (class_tag b class) above_tag) (fits b (class_tag b class))) class_table 0 every-fits b (unfold class_table in omega arith)) e
+      | yes h ↦ no_other (eqb (class_tag b (get_or class_table b 0)) above_tag) _ (at (λ b class. either (eqb (class_tag b class) above_tag) (fits b (class_tag b class))) class_table 0 every_fits b (unfold class_table in omega arith)) e
       | no h ↦ past_table b (omega arith)
     ]

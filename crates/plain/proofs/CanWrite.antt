@@ -6,7 +6,7 @@ use mathlib.Core.List.{List}
 use borrow.Author.Tests.{ltb-true, leb-true, lt-ltb, le-ltb, le-leb, lt-leb}
 use lib.Dec.{leb}
 use lib.ListN.{length}
-use Rattle.octets.proofs.ChoiceLaws.{both-parts}
+use Rattle.octets.proofs.ChoiceLaws.{both_parts}
 use Rattle.plain.specs.Ties.Writing.{text_limit, written_limit, can_write}
 
 module _ (text : List ℕ) (start end n : ℕ) where
@@ -22,9 +22,9 @@ module _ (text : List ℕ) (start end n : ℕ) where
 
   pub can_written : can_write text start end n ≡ true → Written
   can_written e =
-      let (a, b) = both-parts _ _ e in
-      let (s, i) = both-parts _ _ a in
-      let (h, l) = both-parts _ _ b in
+      let (a, b) = both_parts _ _ e in
+      let (s, i) = both_parts _ _ a in
+      let (h, l) = both_parts _ _ b in
       record { starts = ltb-true start end s; inside = leb-true end (length text) i; short = leb-true (length text) text_limit h; low = leb-true n written_limit l }
 
   -- each test that fails

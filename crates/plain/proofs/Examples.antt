@@ -124,30 +124,30 @@ is_text (some u) t = same_bytes u t
 abbrev right : ℕ → Example → Bool
 right i e = both (leb (length e.body) message_limit) (is_text (plain_of e.body) e.plain)
 
-every-right : T (every right 0 table)
+every_right : T (every right 0 table)
 unfolding scan_from parted taken_data characters_from symbols_of unless_fault kind_of class_of class_table lower same
-every-right = tt
+every_right = tt
 
 -- ---- what the test says
 
-is-text : (o : Option (List ℕ)) (t : List ℕ) → T (is_text o t) → o ≡ some t
-is-text none t h = absurd h
-is-text (some u) t h = ap some (same_bytes_lem u t (is_true (same_bytes u t) h))
+is_text_lem : (o : Option (List ℕ)) (t : List ℕ) → T (is_text o t) → o ≡ some t
+is_text_lem none t h = absurd h
+is_text_lem (some u) t h = ap some (same_bytes_lem u t (is_true (same_bytes u t) h))
 
 of_verdict_lem : (v : Verdict Class Derivation) {t : List ℕ} → of_verdict v ≡ some t → (k : Derivation) × (v ≡ accepted k) × (plain_text k ≡ t)
 of_verdict_lem (accepted k) e = (k, refl, cc)
 of_verdict_lem (refused why rest) e = absurd (let o : ◌≡◌ {A = ℕ} 0 1 = cc in omega arith)
 
-no-fault : (s : Scanned) (o : Option (List ℕ)) {t : List ℕ} → unless_fault (λ number p. none) s o ≡ some t → (fault_of s ≡ Accepted 0) × (o ≡ some t)
+no_fault : (s : Scanned) (o : Option (List ℕ)) {t : List ℕ} → unless_fault (λ number p. none) s o ≡ some t → (fault_of s ≡ Accepted 0) × (o ≡ some t)
 unfolding unless_fault
-no-fault ended o e = (refl, e)
-no-fault (next x rest) o e = no-fault rest o e
-no-fault (fault_at number p) o e = absurd (let z : ◌≡◌ {A = ℕ} 0 1 = cc in omega arith)
+no_fault ended o e = (refl, e)
+no_fault (next x rest) o e = no_fault rest o e
+no_fault (fault_at number p) o e = absurd (let z : ◌≡◌ {A = ℕ} 0 1 = cc in omega arith)
 
 -- the body is accepted, and the text beside it is the plain text of its derivation
 accepted_as : (body : List ℕ) {t : List ℕ} → length body ≤ message_limit → plain_of body ≡ some t → (k : Derivation) × AcceptedBody body 0 (length body) k × (plain_text k ≡ t)
 accepted_as body h e =
-    let (f, g) = no-fault (scan body 0) (of_verdict (answer level_limit (symbols_of (scan body 0)))) e in
+    let (f, g) = no_fault (scan body 0) (of_verdict (answer level_limit (symbols_of (scan body 0)))) e in
     let (k, v, p) = of_verdict_lem (answer level_limit (symbols_of (scan body 0))) g in
     let (d, n) : DerivedList k (symbols_of (scan body 0)) × (levels k ≤ level_limit) = answer_derives level_limit v in
     let a : AcceptedBody body 0 (length body) k =
@@ -163,6 +163,6 @@ pub written : (i : ℕ) → i < length table
     (k : Derivation) × AcceptedBody e.body 0 (length e.body) k × (plain_text k ≡ e.plain)
 written i h =
     let e = get_or table i (kept []) in
-    let t = at right table (kept []) every-right i h in
+    let t = at right table (kept []) every_right i h in
     accepted_as e.body (leb→le _ _ (both_left (leb (length e.body) message_limit) (is_text (plain_of e.body) e.plain) t))
-    (is-text (plain_of e.body) e.plain (both_right (leb (length e.body) message_limit) (is_text (plain_of e.body) e.plain) t))
+    (is_text_lem (plain_of e.body) e.plain (both_right (leb (length e.body) message_limit) (is_text (plain_of e.body) e.plain) t))

@@ -15,7 +15,7 @@ use Rattle.grammar.specs.Executable.Trees733 as trees
 use Rattle.grammar.proofs.Rfc733.HouseRule.{slot_atom_group, list_atom_group, atom_colon_list}
 use Rattle.plain.specs.Believed.Meaning.{Word, atom, quoted_string, Words, no_word, and_word, Addresses, no_address, and_address, Address, address}
 use Rattle.plain.specs.Believed.PlainText.{atom_group, first_atom_group}
-use Rattle.plain.proofs.TreeMeanings.{word_meaning, phrase_meaning, name_meaning, nodes_meaning, slot_meaning, list_meaning, address_meaning, typed_meaning, atom-group, addresses_depth, list-depth}
+use Rattle.plain.proofs.TreeMeanings.{word_meaning, phrase_meaning, name_meaning, nodes_meaning, slot_meaning, list_meaning, address_meaning, typed_meaning, atom_group_lem, addresses_depth, list_depth}
 use Rattle.plain.proofs.Writable.{WritablePhrase, WritableList, empty, also, WritableAddress, mailbox, angle, group, quoted, typed, list_of, address_of, Mark, mark, marks, word_marks, phrase_marks, at_mark, nodes_marks, comma_mark, gap_marks, list_marks, address_marks}
 
 -- ---- the first symbol
@@ -42,9 +42,9 @@ record GrownWord (w : Word) (xs : List Sym) (ms : List Mark) : Type 0 where
   left : marks rest ≡ ms
   means : word_meaning tree ≡ w
 
-grow-word : (w : Word) (xs : List Sym) (ms : List Mark) → marks xs ≡ word_marks w ms → GrownWord w xs ms
-grow-word (atom bs) xs ms e = let g = pop Atom bs xs ms e in record { tree = atom_word g.lexeme; rest = g.rest; is = g.is; left = g.left; means = ap atom g.text }
-grow-word (quoted_string bs) xs ms e =
+grow_word : (w : Word) (xs : List Sym) (ms : List Mark) → marks xs ≡ word_marks w ms → GrownWord w xs ms
+grow_word (atom bs) xs ms e = let g = pop Atom bs xs ms e in record { tree = atom_word g.lexeme; rest = g.rest; is = g.is; left = g.left; means = ap atom g.text }
+grow_word (quoted_string bs) xs ms e =
     let g = pop Quoted bs xs ms e in record { tree = quoted_word g.lexeme; rest = g.rest; is = g.is; left = g.left; means = ap quoted_string g.text }
 
 record GrownPhrase (ws : Words) (xs : List Sym) (ms : List Mark) : Type 0 where
@@ -54,16 +54,16 @@ record GrownPhrase (ws : Words) (xs : List Sym) (ms : List Mark) : Type 0 where
   left : marks rest ≡ ms
   means : phrase_meaning tree ≡ ws
 
-grow-phrase : (before : Words) (w : Word) (xs : List Sym) (ms : List Mark) → marks xs ≡ phrase_marks (and_word before w) ms → GrownPhrase (and_word before w) xs ms
-grow-phrase no_word w xs ms e = let g = grow-word w xs ms e in record { tree = one g.tree; rest = g.rest; is = g.is; left = g.left; means = ap (and_word no_word) g.means }
-grow-phrase (and_word before v) w xs ms e =
-    let g = grow-phrase before v xs (word_marks w ms) e in
-    let h = grow-word w g.rest ms g.left in
+grow_phrase : (before : Words) (w : Word) (xs : List Sym) (ms : List Mark) → marks xs ≡ phrase_marks (and_word before w) ms → GrownPhrase (and_word before w) xs ms
+grow_phrase no_word w xs ms e = let g = grow_word w xs ms e in record { tree = one g.tree; rest = g.rest; is = g.is; left = g.left; means = ap (and_word no_word) g.means }
+grow_phrase (and_word before v) w xs ms e =
+    let g = grow_phrase before v xs (word_marks w ms) e in
+    let h = grow_word w g.rest ms g.left in
     record { tree = more g.tree h.tree; rest = h.rest; is = g.is ∙ ap (phrase_then g.tree) h.is; left = h.left; means = ap₂ and_word g.means h.means }
 
 some_phrase : (ws : Words) (xs : List Sym) (ms : List Mark) → WritablePhrase ws → marks xs ≡ phrase_marks ws ms → GrownPhrase ws xs ms
 some_phrase no_word xs ms f e = absurd f
-some_phrase (and_word before w) xs ms f e = grow-phrase before w xs ms e
+some_phrase (and_word before w) xs ms f e = grow_phrase before w xs ms e
 
 record GrownNodes (ws : Words) (xs : List Sym) (ms : List Mark) : Type 0 where
   tree : Nodes
@@ -72,15 +72,15 @@ record GrownNodes (ws : Words) (xs : List Sym) (ms : List Mark) : Type 0 where
   left : marks rest ≡ ms
   means : nodes_meaning tree ≡ ws
 
-grow-nodes : (before : Words) (w : Word) (xs : List Sym) (ms : List Mark) → marks xs ≡ nodes_marks (and_word before w) ms → GrownNodes (and_word before w) xs ms
-grow-nodes no_word w xs ms e =
+grow_nodes : (before : Words) (w : Word) (xs : List Sym) (ms : List Mark) → marks xs ≡ nodes_marks (and_word before w) ms → GrownNodes (and_word before w) xs ms
+grow_nodes no_word w xs ms e =
     let t = pop At (bytes "at") xs (word_marks w ms) e in
-    let g = grow-word w t.rest ms t.left in
+    let g = grow_word w t.rest ms t.left in
     record { tree = first t.lexeme g.tree; rest = g.rest; is = t.is ∙ ap (λ l. of At t.lexeme ∷ l) g.is; left = g.left; means = ap (and_word no_word) g.means }
-grow-nodes (and_word before v) w xs ms e =
-    let g = grow-nodes before v xs (at_mark ∷ word_marks w ms) e in
+grow_nodes (and_word before v) w xs ms e =
+    let g = grow_nodes before v xs (at_mark ∷ word_marks w ms) e in
     let t = pop At (bytes "at") g.rest (word_marks w ms) g.left in
-    let h = grow-word w t.rest ms t.left in
+    let h = grow_word w t.rest ms t.left in
     record {
       tree = next g.tree t.lexeme h.tree;
       rest = h.rest;
@@ -91,7 +91,7 @@ grow-nodes (and_word before v) w xs ms e =
 
 some_nodes : (ws : Words) (xs : List Sym) (ms : List Mark) → WritablePhrase ws → marks xs ≡ nodes_marks ws ms → GrownNodes ws xs ms
 some_nodes no_word xs ms f e = absurd f
-some_nodes (and_word before w) xs ms f e = grow-nodes before w xs ms e
+some_nodes (and_word before w) xs ms f e = grow_nodes before w xs ms e
 
 record GrownName (ws : Words) (xs : List Sym) (ms : List Mark) : Type 0 where
   tree : Option Phrase
@@ -100,10 +100,10 @@ record GrownName (ws : Words) (xs : List Sym) (ms : List Mark) : Type 0 where
   left : marks rest ≡ ms
   means : name_meaning tree ≡ ws
 
-grow-name : (ws : Words) (xs : List Sym) (ms : List Mark) → marks xs ≡ phrase_marks ws ms → GrownName ws xs ms
-grow-name no_word xs ms e = record { tree = none; rest = xs; is = refl; left = e; means = refl }
-grow-name (and_word before w) xs ms e =
-    let g = grow-phrase before w xs ms e in record { tree = some g.tree; rest = g.rest; is = g.is; left = g.left; means = g.means }
+grow_name : (ws : Words) (xs : List Sym) (ms : List Mark) → marks xs ≡ phrase_marks ws ms → GrownName ws xs ms
+grow_name no_word xs ms e = record { tree = none; rest = xs; is = refl; left = e; means = refl }
+grow_name (and_word before w) xs ms e =
+    let g = grow_phrase before w xs ms e in record { tree = some g.tree; rest = g.rest; is = g.is; left = g.left; means = g.means }
 
 -- ---- lists and addresses
 
@@ -159,13 +159,13 @@ grow_first a r xs ms e o g =
       left = g.left;
       means = ap₂ and_address e g.means;
       lawful = (o, g.lawful);
-      leading = ap (slot_atom_group r) (atom-group g.tree ∙ ap atom_group g.means);
+      leading = ap (slot_atom_group r) (atom_group_lem g.tree ∙ ap atom_group g.means);
     }
 
 -- the comma after a list
-grow-next : (a : Address) (l : Addresses) (b : Address) (r : Slot) (xs : List Sym) (ms ns : List Mark) → (g : GrownList (and_address l b) r xs (comma_mark ∷ ms)) → (t : Popped Comma (bytes ",") g.rest ms)
+grow_next : (a : Address) (l : Addresses) (b : Address) (r : Slot) (xs : List Sym) (ms ns : List Mark) → (g : GrownList (and_address l b) r xs (comma_mark ∷ ms)) → (t : Popped Comma (bytes ",") g.rest ms)
     → GrownAddress a t.rest ns → GrownList (and_address (and_address l b) a) r xs ns
-grow-next a l b r xs ms ns g t h =
+grow_next a l b r xs ms ns g t h =
     record {
       tree = full (comma g.tree t.lexeme) h.tree;
       rest = h.rest;
@@ -176,9 +176,9 @@ grow-next a l b r xs ms ns g t h =
       leading = g.leading;
     }
 
-house-of : (name : Words) (o : Option Phrase) (l : AddressList) (u : Lexeme) → name_meaning o ≡ name → (name ≡ no_word → list_atom_group l ≡ false) → house_rule o (list_then l (of Semicolon u ∷ []))
-house-of name none l u e h = atom_colon_list l (of Semicolon u ∷ []) refl ∙ h (sym e)
-house-of name (some p) l u e h = tt
+house_of : (name : Words) (o : Option Phrase) (l : AddressList) (u : Lexeme) → name_meaning o ≡ name → (name ≡ no_word → list_atom_group l ≡ false) → house_rule o (list_then l (of Semicolon u ∷ []))
+house_of name none l u e h = atom_colon_list l (of Semicolon u ∷ []) refl ∙ h (sym e)
+house_of name (some p) l u e h = tt
 
 angle_grown : {name : Words} {l : Addresses} {xs : List Sym} {ms ns ps qs : List Mark} (g : GrownName name xs ns) (t : Popped LessThan (bytes "<") g.rest ps)
     (h : GrownList l trees.empty t.rest qs) (u : Popped GreaterThan (bytes ">") h.rest ms) → GrownAddress (address (kind_number rfc733.angle_list) name no_word l) xs ms
@@ -201,7 +201,7 @@ group_grown {name} g t c h u =
       is = g.is ∙ ap (name_then g.tree) (t.is ∙ ap (λ s. of Colon t.lexeme ∷ s) (c.is ∙ h.is ∙ ap (list_then h.tree) u.is));
       left = u.left;
       means = ap₂ (λ p m. address (kind_number rfc733.group) p no_word m) g.means h.means;
-      lawful = (h.lawful, house-of name g.tree h.tree u.lexeme g.means (λ z. h.leading ∙ c.shut z));
+      lawful = (h.lawful, house_of name g.tree h.tree u.lexeme g.means (λ z. h.leading ∙ c.shut z));
     }
 
 typed_grown : {letters : List ℕ} {a : Address} {xs : List Sym} {ms ns ps qs : List Mark} (t : Popped Colon (bytes ":") xs ns) (v : Popped Atom letters t.rest ps)
@@ -217,16 +217,16 @@ typed_grown t v u h =
     }
 
 mutual
-  grow-list : (l : WritableList) (r : Slot) (xs : List Sym) (ms : List Mark) → slot_meaning r ≡ no_address → slot_lawful r → marks xs ≡ list_marks l ms → GrownList (list_of l) r xs ms
-  grow-list empty r xs ms e o q = record { tree = idle r; rest = xs; is = refl; left = q; means = e; lawful = o; leading = refl }
-  grow-list (also empty a) r xs ms e o q = grow_first (address_of a) r xs ms e o (grow-address a xs ms q)
-  grow-list (also (also l b) a) r xs ms e o q =
-      let g = grow-list (also l b) r xs (comma_mark ∷ address_marks a ms) e o q in
+  grow_list : (l : WritableList) (r : Slot) (xs : List Sym) (ms : List Mark) → slot_meaning r ≡ no_address → slot_lawful r → marks xs ≡ list_marks l ms → GrownList (list_of l) r xs ms
+  grow_list empty r xs ms e o q = record { tree = idle r; rest = xs; is = refl; left = q; means = e; lawful = o; leading = refl }
+  grow_list (also empty a) r xs ms e o q = grow_first (address_of a) r xs ms e o (grow_address a xs ms q)
+  grow_list (also (also l b) a) r xs ms e o q =
+      let g = grow_list (also l b) r xs (comma_mark ∷ address_marks a ms) e o q in
       let t = pop Comma (bytes ",") g.rest (address_marks a ms) g.left in
-      grow-next (address_of a) (list_of l) (address_of b) r xs (address_marks a ms) ms g t (grow-address a t.rest ms t.left)
+      grow_next (address_of a) (list_of l) (address_of b) r xs (address_marks a ms) ms g t (grow_address a t.rest ms t.left)
 
-  grow-address : (a : WritableAddress) (xs : List Sym) (ms : List Mark) → marks xs ≡ address_marks a ms → GrownAddress (address_of a) xs ms
-  grow-address (mailbox name nodes w v) xs ms e =
+  grow_address : (a : WritableAddress) (xs : List Sym) (ms : List Mark) → marks xs ≡ address_marks a ms → GrownAddress (address_of a) xs ms
+  grow_address (mailbox name nodes w v) xs ms e =
       let g = some_phrase name xs (nodes_marks nodes ms) w e in
       let h = some_nodes nodes g.rest ms v g.left in
       record {
@@ -237,18 +237,18 @@ mutual
         means = ap₂ (λ p m. address (kind_number rfc733.mailbox) p m no_address) g.means h.means;
         lawful = tt;
       }
-  grow-address (angle name w l) xs ms e =
-      let g = grow-name name xs _ e in
+  grow_address (angle name w l) xs ms e =
+      let g = grow_name name xs _ e in
       let t = pop LessThan (bytes "<") g.rest _ g.left in
-      let h = grow-list l trees.empty t.rest (mark GreaterThan (bytes ">") ∷ ms) refl tt t.left in
+      let h = grow_list l trees.empty t.rest (mark GreaterThan (bytes ">") ∷ ms) refl tt t.left in
       angle_grown g t h (pop GreaterThan (bytes ">") h.rest ms h.left)
-  grow-address (group name w l) xs ms e =
-      let g = grow-name name xs _ e in
+  grow_address (group name w l) xs ms e =
+      let g = grow_name name xs _ e in
       let t = pop Colon (bytes ":") g.rest _ g.left in
       let c = grow_gap name (list_of l) t.rest (list_marks l (mark Semicolon (bytes ";") ∷ ms)) t.left in
-      let h = grow-list l c.lead c.rest (mark Semicolon (bytes ";") ∷ ms) c.means c.lawful c.left in
+      let h = grow_list l c.lead c.rest (mark Semicolon (bytes ";") ∷ ms) c.means c.lawful c.left in
       group_grown g t c h (pop Semicolon (bytes ";") h.rest ms h.left)
-  grow-address (quoted content w) xs ms e =
+  grow_address (quoted content w) xs ms e =
       let g = pop Quoted content xs ms e in
       record {
         tree = trees.quoted g.lexeme;
@@ -258,11 +258,11 @@ mutual
         means = ap (λ c. address (kind_number rfc733.quoted) (and_word no_word (quoted_string c)) no_word no_address) g.text;
         lawful = tt;
       }
-  grow-address (typed letters w a) xs ms e =
+  grow_address (typed letters w a) xs ms e =
       let t = pop Colon (bytes ":") xs _ e in
       let v = pop Atom letters t.rest _ t.left in
       let u = pop Colon (bytes ":") v.rest _ v.left in
-      typed_grown t v u (grow-address a u.rest ms u.left)
+      typed_grown t v u (grow_address a u.rest ms u.left)
 
 no_marks : (xs : List Sym) → marks xs ≡ [] → xs ≡ []
 no_marks [] e = refl
@@ -271,5 +271,5 @@ no_marks (x ∷ xs) e = absurd (let o : ◌≡◌ {A = ℕ} 0 1 = cc in omega ar
 -- a derivation of the symbols with the meaning and its levels
 pub grown : (l : WritableList) (xs : List Sym) → marks xs ≡ list_marks l [] → (t : AddressList) × DerivedTree t xs × (list_meaning t ≡ list_of l) × (list_levels t ≡ addresses_depth (list_of l))
 grown l xs e =
-    let g = grow-list l trees.empty xs [] refl tt e in
-    (g.tree, record { yields = sym (g.is ∙ ap (list_then g.tree) (no_marks g.rest g.left)); lawful = g.lawful }, g.means, list-depth g.tree ∙ ap addresses_depth g.means)
+    let g = grow_list l trees.empty xs [] refl tt e in
+    (g.tree, record { yields = sym (g.is ∙ ap (list_then g.tree) (no_marks g.rest g.left)); lawful = g.lawful }, g.means, list_depth g.tree ∙ ap addresses_depth g.means)

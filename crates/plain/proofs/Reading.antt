@@ -24,7 +24,7 @@ use Rattle.scanner.proofs.MoveLaws.{tag, quoted_data, taken, taken_alone}
 use Rattle.grammar.specs.Executable.Trees733.{Class, Atom, Quoted, LessThan, GreaterThan, Semicolon, Colon}
 use Rattle.plain.specs.Believed.Meaning.{Word, atom, quoted_string, Words, no_word, and_word, Addresses, no_address, and_address}
 use Rattle.plain.specs.Believed.PlainText.{needs_backslash, backslash_text, data_text, quoted_text, word_text, space_behind, phrase_text, nodes_text, first_atom_group, group_gap, comma_behind, addresses_text, address_text}
-use Rattle.plain.proofs.TreeMeanings.{typed-text}
+use Rattle.plain.proofs.TreeMeanings.{typed_text}
 use Rattle.plain.proofs.ByteKinds.{KindView, is_white, is_control, is_return, is_plain, is_open, is_close, is_less, is_greater, is_at, is_comma, is_semicolon, is_colon, is_backslash, is_quote, is_above, data_keys, taken_keys, IsPlain, IsDatum}
 use Rattle.plain.proofs.Writable.{Each, WritableAtom, WritableWord, WritableWords, WritablePhrase, WritableList, empty, also, WritableAddress, mailbox, angle, group, quoted, typed, list_of, address_of, Mark, mark, marks, word_marks, phrase_marks, at_mark, nodes_marks, comma_mark, comma_marks, gap_marks, list_marks, address_marks}
 
@@ -78,25 +78,25 @@ module _ {r : List ℕ} {ms : List Mark} (R : Reads r ms) where
   unfolding characters_from scan_from kind_of class_table class_of
   reads_space = record { from = λ p. R.from (p + 1) }
 
-  reads-comma : Reads (44 ∷ r) (comma_mark ∷ ms)
+  reads_comma : Reads (44 ∷ r) (comma_mark ∷ ms)
   unfolding characters_from scan_from kind_of class_table class_of
-  reads-comma = record { from = λ p. then_one (R.from (p + 1)) }
+  reads_comma = record { from = λ p. then_one (R.from (p + 1)) }
 
-  reads-less : Reads (60 ∷ r) (mark LessThan (bytes "<") ∷ ms)
+  reads_less : Reads (60 ∷ r) (mark LessThan (bytes "<") ∷ ms)
   unfolding characters_from scan_from kind_of class_table class_of
-  reads-less = record { from = λ p. then_one (R.from (p + 1)) }
+  reads_less = record { from = λ p. then_one (R.from (p + 1)) }
 
-  reads-greater : Reads (62 ∷ r) (mark GreaterThan (bytes ">") ∷ ms)
+  reads_greater : Reads (62 ∷ r) (mark GreaterThan (bytes ">") ∷ ms)
   unfolding characters_from scan_from kind_of class_table class_of
-  reads-greater = record { from = λ p. then_one (R.from (p + 1)) }
+  reads_greater = record { from = λ p. then_one (R.from (p + 1)) }
 
-  reads-colon : Reads (58 ∷ r) (mark Colon (bytes ":") ∷ ms)
+  reads_colon : Reads (58 ∷ r) (mark Colon (bytes ":") ∷ ms)
   unfolding characters_from scan_from kind_of class_table class_of
-  reads-colon = record { from = λ p. then_one (R.from (p + 1)) }
+  reads_colon = record { from = λ p. then_one (R.from (p + 1)) }
 
-  reads-semicolon : Reads (59 ∷ r) (mark Semicolon (bytes ";") ∷ ms)
+  reads_semicolon : Reads (59 ∷ r) (mark Semicolon (bytes ";") ∷ ms)
   unfolding characters_from scan_from kind_of class_table class_of
-  reads-semicolon = record { from = λ p. then_one (R.from (p + 1)) }
+  reads_semicolon = record { from = λ p. then_one (R.from (p + 1)) }
 
   reads_at : Reads (32 ∷ 97 ∷ 116 ∷ 32 ∷ r) (at_mark ∷ ms)
   unfolding characters_from scan_from kind_of class_table class_of lower same
@@ -124,58 +124,58 @@ ender is_above = false
 
 -- the text ends, or its first byte ends an atom
 data Ends : List ℕ → Type 0 where
-  at-end : Ends []
+  at_end_lem : Ends []
   by_byte : {b : ℕ} {r : List ℕ} (v : KindView (kind_of class_table b)) → T (ender v) → eqb b 13 ≡ false → Ends (b ∷ r)
 
 no_fold : (b : ℕ) (r : List ℕ) → eqb b 13 ≡ false → fold_at (b ∷ r) 0 ≡ false
 no_fold b r e = rw e
 
-ends-move : {k : _} (v : KindView k) (s e : ℕ) (t : List ℕ) (b p : ℕ) (f : State → Scanned) → T (ender v)
+ends_move : {k : _} (v : KindView k) (s e : ℕ) (t : List ℕ) (b p : ℕ) (f : State → Scanned) → T (ender v)
     → then (move (in_atom s e t) k b p false) f ≡ next (scanning.atom s e t) (then (move outside k b p false) f)
-ends-move is_white s e t b p f h = refl
-ends-move is_control s e t b p f h = absurd h
-ends-move is_return s e t b p f h = absurd h
-ends-move is_plain s e t b p f h = absurd h
-ends-move is_open s e t b p f h = absurd h
-ends-move is_close s e t b p f h = absurd h
-ends-move is_less s e t b p f h = refl
-ends-move is_greater s e t b p f h = refl
-ends-move is_at s e t b p f h = refl
-ends-move is_comma s e t b p f h = refl
-ends-move is_semicolon s e t b p f h = refl
-ends-move is_colon s e t b p f h = refl
-ends-move is_backslash s e t b p f h = absurd h
-ends-move is_quote s e t b p f h = absurd h
-ends-move is_above s e t b p f h = absurd h
+ends_move is_white s e t b p f h = refl
+ends_move is_control s e t b p f h = absurd h
+ends_move is_return s e t b p f h = absurd h
+ends_move is_plain s e t b p f h = absurd h
+ends_move is_open s e t b p f h = absurd h
+ends_move is_close s e t b p f h = absurd h
+ends_move is_less s e t b p f h = refl
+ends_move is_greater s e t b p f h = refl
+ends_move is_at s e t b p f h = refl
+ends_move is_comma s e t b p f h = refl
+ends_move is_semicolon s e t b p f h = refl
+ends_move is_colon s e t b p f h = refl
+ends_move is_backslash s e t b p f h = absurd h
+ends_move is_quote s e t b p f h = absurd h
+ends_move is_above s e t b p f h = absurd h
 
-atom-ends : (r : List ℕ) (p s e : ℕ) (t : List ℕ) → Ends r → scan_as r p (in_atom s e t) ≡ next (scanning.atom s e t) (scan_as r p outside)
+atom_ends : (r : List ℕ) (p s e : ℕ) (t : List ℕ) → Ends r → scan_as r p (in_atom s e t) ≡ next (scanning.atom s e t) (scan_as r p outside)
 unfolding characters_from scan_from
-atom-ends [] p s e t at-end = refl
-atom-ends (b ∷ r) p s e t (by_byte v h n) =
+atom_ends [] p s e t at_end_lem = refl
+atom_ends (b ∷ r) p s e t (by_byte v h n) =
     let z : fold_at (b ∷ r) 0 ≡ false = no_fold b r n in
-    stepped b r p (in_atom s e t) z ∙ ends-move v s e t b p _ h ∙ ap (next (scanning.atom s e t)) (sym (stepped b r p outside z))
+    stepped b r p (in_atom s e t) z ∙ ends_move v s e t b p _ h ∙ ap (next (scanning.atom s e t)) (sym (stepped b r p outside z))
 
 not_return : (x : Bool) (class : ℕ) → pick x (kind_of [] 13) (kind_of_class class) ≡ kind_of_class letter → x ≡ false
 unfolding kind_of
 not_return true class e = absurd (let o : ◌≡◌ {A = ℕ} 0 1 = cc in omega arith)
 not_return false class e = refl
 
-plain-no_fold : (b : ℕ) (r : List ℕ) → IsPlain b → fold_at (b ∷ r) 0 ≡ false
+plain_no_fold : (b : ℕ) (r : List ℕ) → IsPlain b → fold_at (b ∷ r) 0 ≡ false
 unfolding kind_of
-plain-no_fold b r e = no_fold b r (not_return (eqb b 13) (get_or class_table b 0) e)
+plain_no_fold b r e = no_fold b r (not_return (eqb b 13) (get_or class_table b 0) e)
 
-atom-runs : (bs : List ℕ) {r : List ℕ} {ms : List Mark} → Each IsPlain bs → Ends r → Reads r ms → (p s e : ℕ) (t : List ℕ)
+atom_runs : (bs : List ℕ) {r : List ℕ} {ms : List Mark} → Each IsPlain bs → Ends r → Reads r ms → (p s e : ℕ) (t : List ℕ)
     → Seen (scan_as (bs ++ r) p (in_atom s e t)) (mark (atom_class (t ++ bs)) (t ++ bs) ∷ ms)
-atom-runs [] {r} {ms} f h R p s e t = rw (append-nil, atom-ends r p s e t h) (then_one (R.from p))
-atom-runs (b ∷ bs) {r} {ms} f h R p s e t =
+atom_runs [] {r} {ms} f h R p s e t = rw (append-nil, atom_ends r p s e t h) (then_one (R.from p))
+atom_runs (b ∷ bs) {r} {ms} f h R p s e t =
     let g : (t ++ (b ∷ [])) ++ bs ≡ t ++ (b ∷ bs) = append_assoc t (b ∷ []) bs in
-    rw (as_kind b (bs ++ r) p (in_atom s e t) (kind_of_class letter) (plain-no_fold b (bs ++ r) f.0) f.0)
-    (rw g at (atom-runs bs f.1 h R (p + 1) s (p + 1) (t ++ (b ∷ []))))
+    rw (as_kind b (bs ++ r) p (in_atom s e t) (kind_of_class letter) (plain_no_fold b (bs ++ r) f.0) f.0)
+    (rw g at (atom_runs bs f.1 h R (p + 1) s (p + 1) (t ++ (b ∷ []))))
 
-reads-atom : (bs : List ℕ) {r : List ℕ} {ms : List Mark} → WritableAtom bs → Ends r → Reads r ms → Reads (bs ++ r) (mark Atom bs ∷ ms)
-reads-atom [] f h R = absurd f
-reads-atom (b ∷ bs) {r} {ms} f h R =
-    record { from = λ p. rw (as_kind b (bs ++ r) p outside (kind_of_class letter) (plain-no_fold b (bs ++ r) f.0) f.0) (rw f.2 at (atom-runs bs f.1 h R (p + 1) p (p + 1) (b ∷ []))) }
+reads_atom : (bs : List ℕ) {r : List ℕ} {ms : List Mark} → WritableAtom bs → Ends r → Reads r ms → Reads (bs ++ r) (mark Atom bs ∷ ms)
+reads_atom [] f h R = absurd f
+reads_atom (b ∷ bs) {r} {ms} f h R =
+    record { from = λ p. rw (as_kind b (bs ++ r) p outside (kind_of_class letter) (plain_no_fold b (bs ++ r) f.0) f.0) (rw f.2 at (atom_runs bs f.1 h R (p + 1) p (p + 1) (b ∷ []))) }
 
 -- ---- quoted-strings
 
@@ -215,35 +215,35 @@ data_runs (b ∷ bs) {r} {ms} f R p s t =
     let g : (t ++ (b ∷ [])) ++ bs ≡ t ++ (b ∷ bs) = append_assoc t (b ∷ []) bs in
     rw e (rw g at (data_runs bs f.1 R q s (t ++ (b ∷ []))))
 
-reads-quoted : (bs : List ℕ) {r : List ℕ} {ms : List Mark} → Each IsDatum bs → Reads r ms → Reads (quoted_text bs r) (mark Quoted bs ∷ ms)
-reads-quoted bs {r} {ms} f R =
+reads_quoted : (bs : List ℕ) {r : List ℕ} {ms : List Mark} → Each IsDatum bs → Reads r ms → Reads (quoted_text bs r) (mark Quoted bs ∷ ms)
+reads_quoted bs {r} {ms} f R =
     record { from = λ p. rw (as_kind 34 (data_text bs (34 ∷ r)) p outside (kind_of_class quote) refl (unfold kind_of class_table class_of in refl)) (data_runs bs f R (p + 1) p []) }
 
 -- ---- words and what is made of them
 
 reads_word : (w : Word) {r : List ℕ} {ms : List Mark} → WritableWord w → Ends r → Reads r ms → Reads (word_text w r) (word_marks w ms)
-reads_word (atom bs) f h R = reads-atom bs f h R
-reads_word (quoted_string bs) f h R = reads-quoted bs f R
+reads_word (atom bs) f h R = reads_atom bs f h R
+reads_word (quoted_string bs) f h R = reads_quoted bs f R
 
 space : {r : List ℕ} → Ends (32 ∷ r)
 unfolding kind_of class_table class_of
 space = by_byte is_white tt refl
 
-comma-ends : {r : List ℕ} → Ends (44 ∷ r)
+comma_ends : {r : List ℕ} → Ends (44 ∷ r)
 unfolding kind_of class_table class_of
-comma-ends = by_byte is_comma tt refl
+comma_ends = by_byte is_comma tt refl
 
-colon-ends : {r : List ℕ} → Ends (58 ∷ r)
+colon_ends : {r : List ℕ} → Ends (58 ∷ r)
 unfolding kind_of class_table class_of
-colon-ends = by_byte is_colon tt refl
+colon_ends = by_byte is_colon tt refl
 
-semicolon-ends : {r : List ℕ} → Ends (59 ∷ r)
+semicolon_ends : {r : List ℕ} → Ends (59 ∷ r)
 unfolding kind_of class_table class_of
-semicolon-ends = by_byte is_semicolon tt refl
+semicolon_ends = by_byte is_semicolon tt refl
 
-greater-ends : {r : List ℕ} → Ends (62 ∷ r)
+greater_ends : {r : List ℕ} → Ends (62 ∷ r)
 unfolding kind_of class_table class_of
-greater-ends = by_byte is_greater tt refl
+greater_ends = by_byte is_greater tt refl
 
 -- after words an atom must end
 abbrev EndsWords : Words → List ℕ → Type 0
@@ -262,31 +262,31 @@ reads_space_behind : (ws : Words) {r : List ℕ} {ms : List Mark} → Reads r ms
 reads_space_behind no_word R = R
 reads_space_behind (and_word before w) R = reads_space R
 
-reads-phrase : (ws : Words) {r : List ℕ} {ms : List Mark} → WritableWords ws → EndsWords ws r → Reads r ms → Reads (phrase_text ws r) (phrase_marks ws ms)
-reads-phrase no_word f h R = R
-reads-phrase (and_word before w) f h R = reads-phrase before f.0 (ends_space before _) (reads_space_behind before (reads_word w f.1 h R))
+reads_phrase : (ws : Words) {r : List ℕ} {ms : List Mark} → WritableWords ws → EndsWords ws r → Reads r ms → Reads (phrase_text ws r) (phrase_marks ws ms)
+reads_phrase no_word f h R = R
+reads_phrase (and_word before w) f h R = reads_phrase before f.0 (ends_space before _) (reads_space_behind before (reads_word w f.1 h R))
 
-reads-nodes : (ws : Words) {r : List ℕ} {ms : List Mark} → WritableWords ws → EndsWords ws r → Reads r ms → Reads (nodes_text ws r) (nodes_marks ws ms)
-reads-nodes no_word f h R = R
-reads-nodes (and_word before w) f h R = reads-nodes before f.0 (ends_words before space) (reads_at (reads_word w f.1 h R))
+reads_nodes : (ws : Words) {r : List ℕ} {ms : List Mark} → WritableWords ws → EndsWords ws r → Reads r ms → Reads (nodes_text ws r) (nodes_marks ws ms)
+reads_nodes no_word f h R = R
+reads_nodes (and_word before w) f h R = reads_nodes before f.0 (ends_words before space) (reads_at (reads_word w f.1 h R))
 
 -- ---- lists and addresses
 
-phrase-words : (ws : Words) → WritablePhrase ws → WritableWords ws
-phrase-words no_word f = absurd f
-phrase-words (and_word before w) f = f
+phrase_words : (ws : Words) → WritablePhrase ws → WritableWords ws
+phrase_words no_word f = absurd f
+phrase_words (and_word before w) f = f
 
 -- after a phrase a node follows
-ends-nodes : (name nodes : Words) (r : List ℕ) → WritablePhrase nodes → EndsWords name (nodes_text nodes r)
-ends-nodes name no_word r f = absurd f
-ends-nodes name (and_word no_word w) r f = ends_words name space
-ends-nodes name (and_word (and_word before v) w) r f = ends-nodes name (and_word before v) _ f.0
+ends_nodes : (name nodes : Words) (r : List ℕ) → WritablePhrase nodes → EndsWords name (nodes_text nodes r)
+ends_nodes name no_word r f = absurd f
+ends_nodes name (and_word no_word w) r f = ends_words name space
+ends_nodes name (and_word (and_word before v) w) r f = ends_nodes name (and_word before v) _ f.0
 
 ends_space_less : (ws : Words) (r : List ℕ) → EndsWords ws (space_behind ws (60 ∷ r))
 ends_space_less ws r = ends_space ws (60 ∷ r)
 
 pick_gap : (x : Bool) {r : List ℕ} {ms : List Mark} → Reads r ms → Reads (pick x (bytes ", ") (bytes " ") ++ r) (pick x (comma_mark ∷ ms) ms)
-pick_gap true R = reads-comma (reads_space R)
+pick_gap true R = reads_comma (reads_space R)
 pick_gap false R = reads_space R
 
 reads_gap : (name : Words) (l : Addresses) {r : List ℕ} {ms : List Mark} → Reads r ms → Reads (group_gap name l r) (gap_marks name l ms)
@@ -300,30 +300,30 @@ abbrev EndsList : WritableList → List ℕ → Type 0
 EndsList empty r = Unit {0}
 EndsList (also l a) r = Ends r
 
-ends-comma : (l : WritableList) (r : List ℕ) → EndsList l (comma_behind (list_of l) r)
-ends-comma empty r = tt
-ends-comma (also l a) r = comma-ends
+ends_comma : (l : WritableList) (r : List ℕ) → EndsList l (comma_behind (list_of l) r)
+ends_comma empty r = tt
+ends_comma (also l a) r = comma_ends
 
-ends-list : (l : WritableList) {r : List ℕ} → Ends r → EndsList l r
-ends-list empty h = tt
-ends-list (also l a) h = h
+ends_list : (l : WritableList) {r : List ℕ} → Ends r → EndsList l r
+ends_list empty h = tt
+ends_list (also l a) h = h
 
-reads-comma-behind : (l : WritableList) {r : List ℕ} {ms : List Mark} → Reads r ms → Reads (comma_behind (list_of l) r) (comma_marks (list_of l) ms)
-reads-comma-behind empty R = R
-reads-comma-behind (also l a) R = reads-comma (reads_space R)
+reads_comma_behind : (l : WritableList) {r : List ℕ} {ms : List Mark} → Reads r ms → Reads (comma_behind (list_of l) r) (comma_marks (list_of l) ms)
+reads_comma_behind empty R = R
+reads_comma_behind (also l a) R = reads_comma (reads_space R)
 
 mutual
-  reads-list : (l : WritableList) {r : List ℕ} {ms : List Mark} → EndsList l r → Reads r ms → Reads (addresses_text (list_of l) r) (list_marks l ms)
-  reads-list empty h R = R
-  reads-list (also l a) h R = reads-list l (ends-comma l _) (reads-comma-behind l (reads-address a h R))
+  reads_list : (l : WritableList) {r : List ℕ} {ms : List Mark} → EndsList l r → Reads r ms → Reads (addresses_text (list_of l) r) (list_marks l ms)
+  reads_list empty h R = R
+  reads_list (also l a) h R = reads_list l (ends_comma l _) (reads_comma_behind l (reads_address a h R))
 
-  reads-address : (a : WritableAddress) {r : List ℕ} {ms : List Mark} → Ends r → Reads r ms → Reads (address_text (address_of a) r) (address_marks a ms)
-  reads-address (mailbox name nodes w v) {r} h R = reads-phrase name (phrase-words name w) (ends-nodes name nodes r v) (reads-nodes nodes (phrase-words nodes v) (ends_words nodes h) R)
-  reads-address (angle name w l) h R = reads-phrase name w (ends_space_less name _) (reads_space_behind name (reads-less (reads-list l (ends-list l greater-ends) (reads-greater R))))
-  reads-address (group name w l) h R = reads-phrase name w (ends_words name colon-ends) (reads-colon (reads_gap name (list_of l) (reads-list l (ends-list l semicolon-ends) (reads-semicolon R))))
-  reads-address (quoted content w) h R = reads-quoted content w R
-  reads-address (typed letters w a) h R = rw typed-text (reads-colon (reads-atom letters w colon-ends (reads-colon (reads_space (reads-address a h R)))))
+  reads_address : (a : WritableAddress) {r : List ℕ} {ms : List Mark} → Ends r → Reads r ms → Reads (address_text (address_of a) r) (address_marks a ms)
+  reads_address (mailbox name nodes w v) {r} h R = reads_phrase name (phrase_words name w) (ends_nodes name nodes r v) (reads_nodes nodes (phrase_words nodes v) (ends_words nodes h) R)
+  reads_address (angle name w l) h R = reads_phrase name w (ends_space_less name _) (reads_space_behind name (reads_less (reads_list l (ends_list l greater_ends) (reads_greater R))))
+  reads_address (group name w l) h R = reads_phrase name w (ends_words name colon_ends) (reads_colon (reads_gap name (list_of l) (reads_list l (ends_list l semicolon_ends) (reads_semicolon R))))
+  reads_address (quoted content w) h R = reads_quoted content w R
+  reads_address (typed letters w a) h R = rw typed_text (reads_colon (reads_atom letters w colon_ends (reads_colon (reads_space (reads_address a h R)))))
 
 -- a plain text scans to its marks
 pub reads_plain : (l : WritableList) → Reads (addresses_text (list_of l) []) (list_marks l [])
-reads_plain l = reads-list l (ends-list l at-end) reads_nothing
+reads_plain l = reads_list l (ends_list l at_end_lem) reads_nothing

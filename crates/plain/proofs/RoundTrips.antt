@@ -16,18 +16,18 @@ use Rattle.grammar.specs.Believed.Language.{accepted}
 use Rattle.grammar.specs.Believed.Rfc733.{Derivation, DerivedList}
 use Rattle.grammar.proofs.Rfc733.Trees.{list_then}
 use Rattle.grammar.specs.Executable.Trees733.{as_forest}
-use Rattle.grammar.proofs.Rfc733.Derivations.{forest_levels, forest_derived, tree-derived}
+use Rattle.grammar.proofs.Rfc733.Derivations.{forest_levels, forest_derived, tree_derived}
 use Rattle.grammar.specs.Executable.Machine733.{answer}
-use Rattle.grammar.proofs.Rfc733.Condition3.{one-derivation, answer_accepts}
+use Rattle.grammar.proofs.Rfc733.Condition3.{one_derivation, answer_accepts}
 use Rattle.plain.specs.Believed.Meaning.{Addresses, meaning, SameAddresses}
 use Rattle.plain.specs.Believed.PlainText.{addresses_text, plain_text}
 use Rattle.plain.specs.Ties.Walking.{written_text}
 use Rattle.plain.specs.Believed.RoundTrip.{AcceptedBody, RoundTrip}
-use Rattle.plain.proofs.TreeMeanings.{list_meaning, meaning_forest, addresses_depth, list-depth}
+use Rattle.plain.proofs.TreeMeanings.{list_meaning, meaning_forest, addresses_depth, list_depth}
 use Rattle.plain.proofs.Writable.{WritableList, list_of}
 use Rattle.plain.proofs.Reading.{seen_faultless, seen_marks, seen_parted, reads_plain}
 use Rattle.plain.proofs.Growing.{grown}
-use Rattle.plain.proofs.Walks.{walk-plain}
+use Rattle.plain.proofs.Walks.{walk_plain}
 use Rattle.plain.proofs.ScannedWords.{WritableSymbols, writable_symbols, writable_list}
 
 -- the text scans without fault to symbols with a derivation of this meaning
@@ -47,12 +47,12 @@ reread_writable w =
 -- the symbols of any text, if they are derived
 reread : (text : List ℕ) (at : ℕ) {k : Derivation} → DerivedList k (symbols_of (scan text at)) → Reread (plain_text k) (meaning k) × (levels k ≡ addresses_depth (meaning k))
 reread text at {k} d =
-    let (l, e, d') = tree-derived d in
+    let (l, e, d') = tree_derived d in
     let m : meaning k ≡ list_meaning l = ap meaning e ∙ meaning_forest l in
     let g : WritableSymbols (list_then l []) = rw d'.yields (writable_symbols text at) in
     let (w, f) = writable_list l g in
     let q : meaning k ≡ list_of w = m ∙ sym f in
-    (rw q (reread_writable w), ap levels e ∙ forest_levels l ∙ list-depth l ∙ ap addresses_depth (sym m))
+    (rw q (reread_writable w), ap levels e ∙ forest_levels l ∙ list_depth l ∙ ap addresses_depth (sym m))
 
 -- a plain text within the message limit is accepted, with the same addresses, nesting, words and nodes, and written again it is the same bytes
 pub round_trip : {message : List ℕ} {start end : ℕ} {k : Derivation} → AcceptedBody message start end k → length (plain_text k) ≤ message_limit → RoundTrip k
@@ -75,7 +75,7 @@ pub only_round_trip : {message : List ℕ} {start end : ℕ} {k again : Derivati
     → AcceptedBody (plain_text k) 0 (length (plain_text k)) again → SameAddresses again k × (plain_text again ≡ plain_text k)
 only_round_trip a h b =
     let r = round_trip a h in
-    let e = one-derivation b.list.derived r.accepted.list.derived in
+    let e = one_derivation b.list.derived r.accepted.list.derived in
     (ap meaning e ∙ r.same, ap plain_text e ∙ r.text)
 
 -- the reader's verdict on an accepted body is its derivation
@@ -83,8 +83,8 @@ pub verdict : {message : List ℕ} {start end : ℕ} {k : Derivation} → Accept
 verdict a = answer_accepts level_limit a.list.derived a.list.within
 
 -- what the walk writes of an accepted body is its plain text
-pub written-accepted : {message : List ℕ} {start end : ℕ} {k : Derivation} → AcceptedBody message start end k → written_text class_table (take end message) start ≡ plain_text k
-written-accepted a = walk-plain a.list.derived
+pub written_accepted : {message : List ℕ} {start end : ℕ} {k : Derivation} → AcceptedBody message start end k → written_text class_table (take end message) start ≡ plain_text k
+written_accepted a = walk_plain a.list.derived
 
 -- two accepted bodies have the same plain text exactly if they have the same addresses
 pub same_text : {message other : List ℕ} {start end start' end' : ℕ} {k k' : Derivation} → AcceptedBody message start end k → AcceptedBody other start' end' k'
@@ -96,4 +96,4 @@ same_text {message} {other} {start} {end} {start'} {end'} {k} {k'} a b = (there,
         let r = (reread (take end message) start a.list.derived).0 in
         let r' = (reread (take end' other) start' b.list.derived).0 in
         let d : DerivedList r'.again (symbols_of (scan (plain_text k) 0)) = rw e r'.derived in
-        sym r.means ∙ ap meaning (one-derivation r.derived d) ∙ r'.means
+        sym r.means ∙ ap meaning (one_derivation r.derived d) ∙ r'.means

@@ -14,7 +14,7 @@ use Rattle.octets.specs.Believed.Classes.{class_of, class_table, letter, white}
 use Rattle.octets.specs.Believed.Classes as classes
 use Rattle.octets.specs.Believed.Letters.{same_letters}
 use Rattle.octets.specs.Believed.Text.{bytes, crlf_at}
-use Rattle.octets.proofs.ChoiceLaws.{both-parts, either-parts}
+use Rattle.octets.proofs.ChoiceLaws.{both_parts, either_parts}
 use Rattle.scanner.specs.Believed.Kinds.{kind_of_class, kind_of, character_kind}
 use Rattle.scanner.specs.Believed.Characters.{Character, character, fold_at, InFold, line_feed, characters_from, characters_at}
 use Rattle.scanner.specs.Believed.Characters as characters
@@ -63,13 +63,13 @@ KnownAll [] = Unit {0}
 KnownAll (character b p folded ∷ cs) = Known b (character_kind class_table b folded) × KnownAll cs
 
 -- SPACE and HTAB
-white-byte : (b : ℕ) → (b ≡ 32) ⊎ (b ≡ 9) → Known b (kind_of_class white)
+white_byte : (b : ℕ) → (b ≡ 32) ⊎ (b ≡ 9) → Known b (kind_of_class white)
 unfolding kind_of class_table class_of
-white-byte b (inl e) = record { view = is_white; plain = λ q. absurd (let o : ◌≡◌ {A = ℕ} 0 1 = cc in omega arith); data_is = λ q. rw e tt }
-white-byte b (inr e) = record { view = is_white; plain = λ q. absurd (let o : ◌≡◌ {A = ℕ} 0 1 = cc in omega arith); data_is = λ q. rw e tt }
+white_byte b (inl e) = record { view = is_white; plain = λ q. absurd (let o : ◌≡◌ {A = ℕ} 0 1 = cc in omega arith); data_is = λ q. rw e tt }
+white_byte b (inr e) = record { view = is_white; plain = λ q. absurd (let o : ◌≡◌ {A = ℕ} 0 1 = cc in omega arith); data_is = λ q. rw e tt }
 
-white-known : (b : ℕ) → classes.is_white b ≡ true → Known b (kind_of_class white)
-white-known b e = white-byte b (⊎_elim (λ z. inl (eqb-true _ _ z)) (λ z. inr (eqb-true _ _ z)) (either-parts (eqb b 32) (eqb b 9) e))
+white_known : (b : ℕ) → classes.is_white b ≡ true → Known b (kind_of_class white)
+white_known b e = white_byte b (⊎_elim (λ z. inl (eqb-true _ _ z)) (λ z. inr (eqb-true _ _ z)) (either_parts (eqb b 32) (eqb b 9) e))
 
 -- in a fold its white space is still to come
 abbrev Folding : InFold → List ℕ → Type 0
@@ -80,7 +80,7 @@ Folding characters.white l = classes.is_white (get_or l 0 0) ≡ true
 -- a byte that may start a fold
 known_next : (x : Bool) (b : ℕ) (r : List ℕ) (p : ℕ) → fold_at (b ∷ r) 0 ≡ x → (Folding line_feed r → KnownAll (characters_from line_feed r (p + 1))) → KnownAll (characters_from characters.none r (p + 1))
     → KnownAll (elim x [ true ↦ characters_from line_feed r (p + 1) | false ↦ character b p false ∷ characters_from characters.none r (p + 1) ])
-known_next true b r p e f g = f (both-parts (crlf_at (b ∷ r) 0) _ e).1
+known_next true b r p e f g = f (both_parts (crlf_at (b ∷ r) 0) _ e).1
 known_next false b r p e f g = (record { view = byte_view b; plain = λ q. q; data_is = λ q. datum b q }, g)
 
 known : (fold : InFold) (l : List ℕ) (p : ℕ) → Folding fold l → KnownAll (characters_from fold l p)
@@ -89,7 +89,7 @@ known characters.none [] p h = tt
 known line_feed [] p h = tt
 known characters.white [] p h = tt
 known line_feed (b ∷ r) p h = known characters.white r (p + 1) h
-known characters.white (b ∷ r) p h = (white-known b h, known characters.none r (p + 1) tt)
+known characters.white (b ∷ r) p h = (white_known b h, known characters.none r (p + 1) tt)
 known characters.none (b ∷ r) p h = known_next (fold_at (b ∷ r) 0) b r p refl (λ q. known line_feed r (p + 1) q) (known characters.none r (p + 1) tt)
 
 -- ---- the machine
@@ -290,26 +290,26 @@ writable_symbols text at = good_parted at _ (good_from (characters_at text at) o
 
 -- ---- trees
 
-word-fine : (w : trees.Word) (xs : List Sym) → WritableSymbols (word_symbol w ∷ xs) → WritableWord (word_meaning w) × WritableSymbols xs
-word-fine (atom_word t) xs g = g
-word-fine (quoted_word t) xs g = g
+word_fine : (w : trees.Word) (xs : List Sym) → WritableSymbols (word_symbol w ∷ xs) → WritableWord (word_meaning w) × WritableSymbols xs
+word_fine (atom_word t) xs g = g
+word_fine (quoted_word t) xs g = g
 
-pub phrase-fine : (p : Phrase) (xs : List Sym) → WritableSymbols (phrase_then p xs) → WritablePhrase (phrase_meaning p) × WritableWords (phrase_meaning p) × WritableSymbols xs
-phrase-fine (one w) xs g = let (f, h) = word-fine w xs g in ((tt, f), (tt, f), h)
-phrase-fine (more p w) xs g =
-    let (e, f, h) = phrase-fine p (word_symbol w ∷ xs) g in
-    let (f', h') = word-fine w xs h in
+pub phrase_fine : (p : Phrase) (xs : List Sym) → WritableSymbols (phrase_then p xs) → WritablePhrase (phrase_meaning p) × WritableWords (phrase_meaning p) × WritableSymbols xs
+phrase_fine (one w) xs g = let (f, h) = word_fine w xs g in ((tt, f), (tt, f), h)
+phrase_fine (more p w) xs g =
+    let (e, f, h) = phrase_fine p (word_symbol w ∷ xs) g in
+    let (f', h') = word_fine w xs h in
     ((f, f'), (f, f'), h')
 
-pub name-fine : (o : Option Phrase) (xs : List Sym) → WritableSymbols (name_then o xs) → WritableWords (name_meaning o) × WritableSymbols xs
-name-fine none xs g = (tt, g)
-name-fine (some p) xs g = let (e, f, h) = phrase-fine p xs g in (f, h)
+pub name_fine : (o : Option Phrase) (xs : List Sym) → WritableSymbols (name_then o xs) → WritableWords (name_meaning o) × WritableSymbols xs
+name_fine none xs g = (tt, g)
+name_fine (some p) xs g = let (e, f, h) = phrase_fine p xs g in (f, h)
 
-pub nodes-fine : (m : Nodes) (xs : List Sym) → WritableSymbols (nodes_then m xs) → WritablePhrase (nodes_meaning m) × WritableWords (nodes_meaning m) × WritableSymbols xs
-nodes-fine (first t w) xs g = let (f, h) = word-fine w xs g.1 in ((tt, f), (tt, f), h)
-nodes-fine (trees.next m t w) xs g =
-    let (e, f, h) = nodes-fine m (of At t ∷ word_symbol w ∷ xs) g in
-    let (f', h') = word-fine w xs h.1 in
+pub nodes_fine : (m : Nodes) (xs : List Sym) → WritableSymbols (nodes_then m xs) → WritablePhrase (nodes_meaning m) × WritableWords (nodes_meaning m) × WritableSymbols xs
+nodes_fine (first t w) xs g = let (f, h) = word_fine w xs g.1 in ((tt, f), (tt, f), h)
+nodes_fine (trees.next m t w) xs g =
+    let (e, f, h) = nodes_fine m (of At t ∷ word_symbol w ∷ xs) g in
+    let (f', h') = word_fine w xs h.1 in
     ((f, f'), (f, f'), h')
 
 -- a writable list with the meaning of a tree, and the symbols after the tree
@@ -324,35 +324,35 @@ record FineAddress (m : Address) (xs : List Sym) : Type 0 where
   behind : WritableSymbols xs
 
 mutual
-  place-fine : (r : Slot) (xs : List Sym) → WritableSymbols (slot_then r xs) → FineList (slot_meaning r) xs
-  place-fine trees.empty xs g = record { list = empty; is = refl; behind = g }
-  place-fine (comma l t) xs g = let f = list-fine l (of Comma t ∷ xs) g in record { list = f.list; is = f.is; behind = f.behind.1 }
+  place_fine : (r : Slot) (xs : List Sym) → WritableSymbols (slot_then r xs) → FineList (slot_meaning r) xs
+  place_fine trees.empty xs g = record { list = empty; is = refl; behind = g }
+  place_fine (comma l t) xs g = let f = list_fine l (of Comma t ∷ xs) g in record { list = f.list; is = f.is; behind = f.behind.1 }
 
-  list-fine : (l : AddressList) (xs : List Sym) → WritableSymbols (list_then l xs) → FineList (list_meaning l) xs
-  list-fine (idle r) xs g = place-fine r xs g
-  list-fine (full r a) xs g =
-      let f = place-fine r (address_then a xs) g in
-      let h = address-fine a xs f.behind in
+  list_fine : (l : AddressList) (xs : List Sym) → WritableSymbols (list_then l xs) → FineList (list_meaning l) xs
+  list_fine (idle r) xs g = place_fine r xs g
+  list_fine (full r a) xs g =
+      let f = place_fine r (address_then a xs) g in
+      let h = address_fine a xs f.behind in
       record { list = also f.list h.address'; is = ap₂ and_address f.is h.is; behind = h.behind }
 
-  address-fine : (a : trees.Address) (xs : List Sym) → WritableSymbols (address_then a xs) → FineAddress (address_meaning a) xs
-  address-fine (trees.mailbox p m) xs g =
-      let (e, f, h) = phrase-fine p (nodes_then m xs) g in
-      let (e', f', h') = nodes-fine m xs h in
+  address_fine : (a : trees.Address) (xs : List Sym) → WritableSymbols (address_then a xs) → FineAddress (address_meaning a) xs
+  address_fine (trees.mailbox p m) xs g =
+      let (e, f, h) = phrase_fine p (nodes_then m xs) g in
+      let (e', f', h') = nodes_fine m xs h in
       record { address' = mailbox (phrase_meaning p) (nodes_meaning m) e e'; is = refl; behind = h' }
-  address-fine (trees.angle o t l u) xs g =
-      let (f, h) = name-fine o (of LessThan t ∷ list_then l (of GreaterThan u ∷ xs)) g in
-      let i = list-fine l (of GreaterThan u ∷ xs) h.1 in
+  address_fine (trees.angle o t l u) xs g =
+      let (f, h) = name_fine o (of LessThan t ∷ list_then l (of GreaterThan u ∷ xs)) g in
+      let i = list_fine l (of GreaterThan u ∷ xs) h.1 in
       record { address' = angle (name_meaning o) f i.list; is = ap (λ m. address (kind_number rfc733.angle_list) (name_meaning o) no_word m) i.is; behind = i.behind.1 }
-  address-fine (trees.group o t l u) xs g =
-      let (f, h) = name-fine o (of Colon t ∷ list_then l (of Semicolon u ∷ xs)) g in
-      let i = list-fine l (of Semicolon u ∷ xs) h.1 in
+  address_fine (trees.group o t l u) xs g =
+      let (f, h) = name_fine o (of Colon t ∷ list_then l (of Semicolon u ∷ xs)) g in
+      let i = list_fine l (of Semicolon u ∷ xs) h.1 in
       record { address' = group (name_meaning o) f i.list; is = ap (λ m. address (kind_number rfc733.group) (name_meaning o) no_word m) i.is; behind = i.behind.1 }
-  address-fine (trees.quoted t) xs g = record { address' = quoted t.meaning g.0; is = refl; behind = g.1 }
-  address-fine (trees.typed t a u b) xs g =
-      let i = address-fine b xs g.1.1.1 in
+  address_fine (trees.quoted t) xs g = record { address' = quoted t.meaning g.0; is = refl; behind = g.1 }
+  address_fine (trees.typed t a u b) xs g =
+      let i = address_fine b xs g.1.1.1 in
       record { address' = typed a.meaning g.1.0 i.address'; is = ap (typed_meaning a.meaning) i.is; behind = i.behind }
 
 -- the meaning of a tree of writable symbols is writable
 pub writable_list : (l : AddressList) → WritableSymbols (list_then l []) → (w : WritableList) × (list_of w ≡ list_meaning l)
-writable_list l g = let f = list-fine l [] g in (f.list, f.is)
+writable_list l g = let f = list_fine l [] g in (f.list, f.is)

@@ -34,20 +34,20 @@ gap_within Nothing rest = omega arith
 gap_within Space rest = omega arith
 gap_within CommaSpace rest = omega arith
 
-backslash-within : (needed : Bool) (rest : List ℕ) → length (backslash_text needed rest) ≤ 1 + length rest
-backslash-within true rest = omega arith
-backslash-within false rest = omega arith
+backslash_within : (needed : Bool) (rest : List ℕ) → length (backslash_text needed rest) ≤ 1 + length rest
+backslash_within true rest = omega arith
+backslash_within false rest = omega arith
 
 data_within : (t rest : List ℕ) → length (data_text t rest) ≤ 2 * length t + length rest
 data_within [] rest = omega arith
-data_within (b ∷ t) rest = omega (arith, data_within t rest, backslash-within (needs_backslash b) (b ∷ data_text t rest))
+data_within (b ∷ t) rest = omega (arith, data_within t rest, backslash_within (needs_backslash b) (b ∷ data_text t rest))
 
-quoted-within : (t : List ℕ) → Within Quoted t (4 + 2 * length t)
-quoted-within t place colon rest = omega (arith, gap_within (gap_before place false) (quoted_text t rest), data_within t (bytes "\"" ++ rest))
+quoted_within : (t : List ℕ) → Within Quoted t (4 + 2 * length t)
+quoted_within t place colon rest = omega (arith, gap_within (gap_before place false) (quoted_text t rest), data_within t (bytes "\"" ++ rest))
 
-atom-within : (test : Bool) (t : List ℕ) → Within (pick test At Atom) t (3 + length t)
-atom-within true t place colon rest = omega arith
-atom-within false t place colon rest = omega (arith, gap_within (gap_before place colon) (t ++ rest), length-append t rest)
+atom_within : (test : Bool) (t : List ℕ) → Within (pick test At Atom) t (3 + length t)
+atom_within true t place colon rest = omega arith
+atom_within false t place colon rest = omega (arith, gap_within (gap_before place colon) (t ++ rest), length-append t rest)
 
 -- ---- the kinds of characters, by cases
 
@@ -130,75 +130,75 @@ ends : (w k : ℕ) (x : Symbol Class) (m : Move) → Within x.class x.lexeme.mea
 ends w k x (go symbols s) b v rest n f place = omega (arith, most_next x (followed_by symbols (rest s)) k (w + 4 + n) b (v rest n f) place)
 ends w k x (halt symbols number p) b v rest n f place = omega (arith, most_next x (followed_by symbols (fault_at number p)) k (w + 4 + n) b (v rest n f) place)
 
-from-outside : {kind : _} (v : KindView kind) (b p : ℕ) → Adds 0 (move_outside kind b p)
+from_outside : {kind : _} (v : KindView kind) (b p : ℕ) → Adds 0 (move_outside kind b p)
 unfolding kind_of
-from-outside is_white b p = goes 0 outside (omega arith)
-from-outside is_control b p = halts 0 _ p
-from-outside is_return b p = halts 0 _ p
-from-outside is_plain b p = goes 0 (in_atom p (p + 1) (b ∷ [])) (omega arith)
-from-outside is_open b p = goes 0 (in_comment 0 p) (omega arith)
-from-outside is_close b p = lone 0 4 (single Stray b p) (λ place colon rest. omega arith) (omega arith)
-from-outside is_quote b p = goes 0 (in_quoted p []) (omega arith)
-from-outside is_backslash b p = lone 0 4 (single Stray b p) (λ place colon rest. omega arith) (omega arith)
-from-outside is_less b p = lone 0 4 (single LessThan b p) (λ place colon rest. omega (arith, gap_within (gap_before place false) (bytes "<" ++ rest))) (omega arith)
-from-outside is_greater b p = lone 0 4 (single GreaterThan b p) (λ place colon rest. omega arith) (omega arith)
-from-outside is_at b p = lone 0 4 (single At b p) (λ place colon rest. omega arith) (omega arith)
-from-outside is_comma b p = lone 0 4 (single Comma b p) (λ place colon rest. omega arith) (omega arith)
-from-outside is_semicolon b p = lone 0 4 (single Semicolon b p) (λ place colon rest. omega arith) (omega arith)
-from-outside is_colon b p = lone 0 4 (single Colon b p) (λ place colon rest. omega (arith, gap_within (gap_before_colon place) (bytes ":" ++ rest))) (omega arith)
-from-outside is_dot b p = lone 0 4 (single Dot b p) (λ place colon rest. omega arith) (omega arith)
-from-outside is_above b p = halts 0 _ p
-from-outside is_open_bracket b p = goes 0 (in_literal p) (omega arith)
-from-outside is_close_bracket b p = lone 0 4 (single Stray b p) (λ place colon rest. omega arith) (omega arith)
+from_outside is_white b p = goes 0 outside (omega arith)
+from_outside is_control b p = halts 0 _ p
+from_outside is_return b p = halts 0 _ p
+from_outside is_plain b p = goes 0 (in_atom p (p + 1) (b ∷ [])) (omega arith)
+from_outside is_open b p = goes 0 (in_comment 0 p) (omega arith)
+from_outside is_close b p = lone 0 4 (single Stray b p) (λ place colon rest. omega arith) (omega arith)
+from_outside is_quote b p = goes 0 (in_quoted p []) (omega arith)
+from_outside is_backslash b p = lone 0 4 (single Stray b p) (λ place colon rest. omega arith) (omega arith)
+from_outside is_less b p = lone 0 4 (single LessThan b p) (λ place colon rest. omega (arith, gap_within (gap_before place false) (bytes "<" ++ rest))) (omega arith)
+from_outside is_greater b p = lone 0 4 (single GreaterThan b p) (λ place colon rest. omega arith) (omega arith)
+from_outside is_at b p = lone 0 4 (single At b p) (λ place colon rest. omega arith) (omega arith)
+from_outside is_comma b p = lone 0 4 (single Comma b p) (λ place colon rest. omega arith) (omega arith)
+from_outside is_semicolon b p = lone 0 4 (single Semicolon b p) (λ place colon rest. omega arith) (omega arith)
+from_outside is_colon b p = lone 0 4 (single Colon b p) (λ place colon rest. omega (arith, gap_within (gap_before_colon place) (bytes ":" ++ rest))) (omega arith)
+from_outside is_dot b p = lone 0 4 (single Dot b p) (λ place colon rest. omega arith) (omega arith)
+from_outside is_above b p = halts 0 _ p
+from_outside is_open_bracket b p = goes 0 (in_literal p) (omega arith)
+from_outside is_close_bracket b p = lone 0 4 (single Stray b p) (λ place colon rest. omega arith) (omega arith)
 
-ended-atom : {kind : _} (v : KindView kind) (start end : ℕ) (t : List ℕ) (b p : ℕ) → Adds (3 + length t) (ending_with (atom start end t) (move_outside kind b p))
-ended-atom {kind} v start end t b p rest n f place =
-    omega (arith, ends 0 (3 + length t) (atom start end t) (move_outside kind b p) (atom-within (same_letters t (bytes "at")) t) (from-outside v b p) rest n f place)
+ended_atom : {kind : _} (v : KindView kind) (start end : ℕ) (t : List ℕ) (b p : ℕ) → Adds (3 + length t) (ending_with (atom start end t) (move_outside kind b p))
+ended_atom {kind} v start end t b p rest n f place =
+    omega (arith, ends 0 (3 + length t) (atom start end t) (move_outside kind b p) (atom_within (same_letters t (bytes "at")) t) (from_outside v b p) rest n f place)
 
-from-atom : {kind : _} (v : KindView kind) (start end : ℕ) (t : List ℕ) (b p : ℕ) → Adds (3 + length t) (move_in_atom kind start end t b p)
+from_atom : {kind : _} (v : KindView kind) (start end : ℕ) (t : List ℕ) (b p : ℕ) → Adds (3 + length t) (move_in_atom kind start end t b p)
 unfolding kind_of
-from-atom is_white start end t b p = ended-atom is_white start end t b p
-from-atom is_control start end t b p = ended-atom is_control start end t b p
-from-atom is_return start end t b p = ended-atom is_return start end t b p
-from-atom is_plain start end t b p = goes (3 + length t) (in_atom start (p + 1) (t ++ (b ∷ []))) (omega (arith, length-append t (b ∷ [])))
-from-atom is_open start end t b p = ended-atom is_open start end t b p
-from-atom is_close start end t b p = ended-atom is_close start end t b p
-from-atom is_quote start end t b p = ended-atom is_quote start end t b p
-from-atom is_backslash start end t b p = ended-atom is_backslash start end t b p
-from-atom is_less start end t b p = ended-atom is_less start end t b p
-from-atom is_greater start end t b p = ended-atom is_greater start end t b p
-from-atom is_at start end t b p = ended-atom is_at start end t b p
-from-atom is_comma start end t b p = ended-atom is_comma start end t b p
-from-atom is_semicolon start end t b p = ended-atom is_semicolon start end t b p
-from-atom is_colon start end t b p = ended-atom is_colon start end t b p
-from-atom is_dot start end t b p = ended-atom is_dot start end t b p
-from-atom is_above start end t b p = ended-atom is_above start end t b p
-from-atom is_open_bracket start end t b p = ended-atom is_open_bracket start end t b p
-from-atom is_close_bracket start end t b p = ended-atom is_close_bracket start end t b p
+from_atom is_white start end t b p = ended_atom is_white start end t b p
+from_atom is_control start end t b p = ended_atom is_control start end t b p
+from_atom is_return start end t b p = ended_atom is_return start end t b p
+from_atom is_plain start end t b p = goes (3 + length t) (in_atom start (p + 1) (t ++ (b ∷ []))) (omega (arith, length-append t (b ∷ [])))
+from_atom is_open start end t b p = ended_atom is_open start end t b p
+from_atom is_close start end t b p = ended_atom is_close start end t b p
+from_atom is_quote start end t b p = ended_atom is_quote start end t b p
+from_atom is_backslash start end t b p = ended_atom is_backslash start end t b p
+from_atom is_less start end t b p = ended_atom is_less start end t b p
+from_atom is_greater start end t b p = ended_atom is_greater start end t b p
+from_atom is_at start end t b p = ended_atom is_at start end t b p
+from_atom is_comma start end t b p = ended_atom is_comma start end t b p
+from_atom is_semicolon start end t b p = ended_atom is_semicolon start end t b p
+from_atom is_colon start end t b p = ended_atom is_colon start end t b p
+from_atom is_dot start end t b p = ended_atom is_dot start end t b p
+from_atom is_above start end t b p = ended_atom is_above start end t b p
+from_atom is_open_bracket start end t b p = ended_atom is_open_bracket start end t b p
+from_atom is_close_bracket start end t b p = ended_atom is_close_bracket start end t b p
 
 grown : (start : ℕ) (t : List ℕ) (b : ℕ) → Adds (4 + 2 * length t) (go [] (in_quoted start (t ++ (b ∷ []))))
 grown start t b = goes (4 + 2 * length t) (in_quoted start (t ++ (b ∷ []))) (omega (arith, length-append t (b ∷ [])))
 
-from-quoted : {kind : _} (v : KindView kind) (start : ℕ) (t : List ℕ) (b p : ℕ) → Adds (4 + 2 * length t) (move_in_quoted kind start t b p)
+from_quoted : {kind : _} (v : KindView kind) (start : ℕ) (t : List ℕ) (b p : ℕ) → Adds (4 + 2 * length t) (move_in_quoted kind start t b p)
 unfolding kind_of
-from-quoted is_white start t b p = grown start t b
-from-quoted is_control start t b p = grown start t b
-from-quoted is_return start t b p = halts (4 + 2 * length t) _ p
-from-quoted is_plain start t b p = grown start t b
-from-quoted is_open start t b p = grown start t b
-from-quoted is_close start t b p = grown start t b
-from-quoted is_quote start t b p = lone (4 + 2 * length t) (4 + 2 * length t) (symbol Quoted start (p + 1) t) (quoted-within t) (omega arith)
-from-quoted is_backslash start t b p = goes (4 + 2 * length t) (taking_in_quoted start t) (omega arith)
-from-quoted is_less start t b p = grown start t b
-from-quoted is_greater start t b p = grown start t b
-from-quoted is_at start t b p = grown start t b
-from-quoted is_comma start t b p = grown start t b
-from-quoted is_semicolon start t b p = grown start t b
-from-quoted is_colon start t b p = grown start t b
-from-quoted is_dot start t b p = grown start t b
-from-quoted is_above start t b p = halts (4 + 2 * length t) _ p
-from-quoted is_open_bracket start t b p = grown start t b
-from-quoted is_close_bracket start t b p = grown start t b
+from_quoted is_white start t b p = grown start t b
+from_quoted is_control start t b p = grown start t b
+from_quoted is_return start t b p = halts (4 + 2 * length t) _ p
+from_quoted is_plain start t b p = grown start t b
+from_quoted is_open start t b p = grown start t b
+from_quoted is_close start t b p = grown start t b
+from_quoted is_quote start t b p = lone (4 + 2 * length t) (4 + 2 * length t) (symbol Quoted start (p + 1) t) (quoted_within t) (omega arith)
+from_quoted is_backslash start t b p = goes (4 + 2 * length t) (taking_in_quoted start t) (omega arith)
+from_quoted is_less start t b p = grown start t b
+from_quoted is_greater start t b p = grown start t b
+from_quoted is_at start t b p = grown start t b
+from_quoted is_comma start t b p = grown start t b
+from_quoted is_semicolon start t b p = grown start t b
+from_quoted is_colon start t b p = grown start t b
+from_quoted is_dot start t b p = grown start t b
+from_quoted is_above start t b p = halts (4 + 2 * length t) _ p
+from_quoted is_open_bracket start t b p = grown start t b
+from_quoted is_close_bracket start t b p = grown start t b
 
 from_literal : {kind : _} (v : KindView kind) (start p : ℕ) → Adds 0 (move_in_literal kind start p)
 unfolding kind_of
@@ -225,26 +225,26 @@ closed_light : (depth start : ℕ) → weight (closed depth start) ≤ 4
 closed_light zero start = omega arith
 closed_light (suc depth) start = omega arith
 
-from-comment : {kind : _} (v : KindView kind) (depth start p : ℕ) → Adds 0 (move_in_comment kind depth start p)
+from_comment : {kind : _} (v : KindView kind) (depth start p : ℕ) → Adds 0 (move_in_comment kind depth start p)
 unfolding kind_of
-from-comment is_white depth start p = goes 0 (in_comment depth start) (omega arith)
-from-comment is_control depth start p = goes 0 (in_comment depth start) (omega arith)
-from-comment is_return depth start p = halts 0 _ p
-from-comment is_plain depth start p = goes 0 (in_comment depth start) (omega arith)
-from-comment is_open depth start p = goes 0 (in_comment (suc depth) start) (omega arith)
-from-comment is_close depth start p = goes 0 (closed depth start) (omega (arith, closed_light depth start))
-from-comment is_quote depth start p = goes 0 (in_comment depth start) (omega arith)
-from-comment is_backslash depth start p = goes 0 (taking_in_comment depth start) (omega arith)
-from-comment is_less depth start p = goes 0 (in_comment depth start) (omega arith)
-from-comment is_greater depth start p = goes 0 (in_comment depth start) (omega arith)
-from-comment is_at depth start p = goes 0 (in_comment depth start) (omega arith)
-from-comment is_comma depth start p = goes 0 (in_comment depth start) (omega arith)
-from-comment is_semicolon depth start p = goes 0 (in_comment depth start) (omega arith)
-from-comment is_colon depth start p = goes 0 (in_comment depth start) (omega arith)
-from-comment is_dot depth start p = goes 0 (in_comment depth start) (omega arith)
-from-comment is_above depth start p = halts 0 _ p
-from-comment is_open_bracket depth start p = goes 0 (in_comment depth start) (omega arith)
-from-comment is_close_bracket depth start p = goes 0 (in_comment depth start) (omega arith)
+from_comment is_white depth start p = goes 0 (in_comment depth start) (omega arith)
+from_comment is_control depth start p = goes 0 (in_comment depth start) (omega arith)
+from_comment is_return depth start p = halts 0 _ p
+from_comment is_plain depth start p = goes 0 (in_comment depth start) (omega arith)
+from_comment is_open depth start p = goes 0 (in_comment (suc depth) start) (omega arith)
+from_comment is_close depth start p = goes 0 (closed depth start) (omega (arith, closed_light depth start))
+from_comment is_quote depth start p = goes 0 (in_comment depth start) (omega arith)
+from_comment is_backslash depth start p = goes 0 (taking_in_comment depth start) (omega arith)
+from_comment is_less depth start p = goes 0 (in_comment depth start) (omega arith)
+from_comment is_greater depth start p = goes 0 (in_comment depth start) (omega arith)
+from_comment is_at depth start p = goes 0 (in_comment depth start) (omega arith)
+from_comment is_comma depth start p = goes 0 (in_comment depth start) (omega arith)
+from_comment is_semicolon depth start p = goes 0 (in_comment depth start) (omega arith)
+from_comment is_colon depth start p = goes 0 (in_comment depth start) (omega arith)
+from_comment is_dot depth start p = goes 0 (in_comment depth start) (omega arith)
+from_comment is_above depth start p = halts 0 _ p
+from_comment is_open_bracket depth start p = goes 0 (in_comment depth start) (omega arith)
+from_comment is_close_bracket depth start p = goes 0 (in_comment depth start) (omega arith)
 
 from_taking : {kind : _} (v : KindView kind) (w : ℕ) (s : State) (p : ℕ) → weight s ≤ w + 4 → Adds w (take kind s p)
 unfolding kind_of
@@ -267,38 +267,38 @@ from_taking is_above w s p h = halts w _ p
 from_taking is_open_bracket w s p h = goes w s h
 from_taking is_close_bracket w s p h = goes w s h
 
-taken-few : (b : ℕ) (folded : Bool) → length (taken_data b folded) ≤ 3
+taken_few : (b : ℕ) (folded : Bool) → length (taken_data b folded) ≤ 3
 unfolding taken_data
-taken-few b true = omega arith
-taken-few b false = omega arith
+taken_few b true = omega arith
+taken_few b false = omega arith
 
 moved : (s : State) {kind : _} (v : KindView kind) (b p : ℕ) (folded : Bool) → Adds (weight s) (move s kind b p folded)
-moved outside v b p folded = from-outside v b p
-moved (in_atom start end t) v b p folded = from-atom v start end t b p
-moved (in_quoted start t) v b p folded = from-quoted v start t b p
+moved outside v b p folded = from_outside v b p
+moved (in_atom start end t) v b p folded = from_atom v start end t b p
+moved (in_quoted start t) v b p folded = from_quoted v start t b p
 moved (taking_in_quoted start t) v b p folded =
-    from_taking v (8 + 2 * length t) (in_quoted start (t ++ taken_data b folded)) p (omega (arith, length-append t (taken_data b folded), taken-few b folded))
+    from_taking v (8 + 2 * length t) (in_quoted start (t ++ taken_data b folded)) p (omega (arith, length-append t (taken_data b folded), taken_few b folded))
 moved (in_literal start) v b p folded = from_literal v start p
 moved (taking_in_literal start) v b p folded = from_taking v 0 (in_literal start) p (omega arith)
-moved (in_comment depth start) v b p folded = from-comment v depth start p
+moved (in_comment depth start) v b p folded = from_comment v depth start p
 moved (taking_in_comment depth start) v b p folded = from_taking v 0 (in_comment depth start) p (omega arith)
 
 -- ---- all characters
 
-at-end : (s : State) → Most (scan_from [] [] s) (weight s)
+at_end_lem : (s : State) → Most (scan_from [] [] s) (weight s)
 unfolding scan_from symbols_of
-at-end outside place = omega arith
-at-end (in_atom start end t) place = omega (arith, atom-within (same_letters t (bytes "at")) t place false [])
-at-end (in_quoted start t) place = omega arith
-at-end (taking_in_quoted start t) place = omega arith
-at-end (in_literal start) place = omega arith
-at-end (taking_in_literal start) place = omega arith
-at-end (in_comment depth start) place = omega arith
-at-end (taking_in_comment depth start) place = omega arith
+at_end_lem outside place = omega arith
+at_end_lem (in_atom start end t) place = omega (arith, atom_within (same_letters t (bytes "at")) t place false [])
+at_end_lem (in_quoted start t) place = omega arith
+at_end_lem (taking_in_quoted start t) place = omega arith
+at_end_lem (in_literal start) place = omega arith
+at_end_lem (taking_in_literal start) place = omega arith
+at_end_lem (in_comment depth start) place = omega arith
+at_end_lem (taking_in_comment depth start) place = omega arith
 
 most : (classes : List ℕ) (cs : List Character) (s : State) → Most (scan_from classes cs s) (weight s + 4 * length cs)
 unfolding scan_from
-most classes [] s place = omega (arith, at-end s place)
+most classes [] s place = omega (arith, at_end_lem s place)
 most classes (character b p folded ∷ rest) s place =
     omega (arith, moved s (character_view classes b folded) b p folded (λ s'. scan_from classes rest s') (4 * length rest) (λ s'. most classes rest s') place)
 
@@ -316,18 +316,18 @@ fewer none (b ∷ rest) p =
     one_of (fold_at (b ∷ rest) 0) (characters_from line_feed rest (p + 1)) (character b p false ∷ characters_from none rest (p + 1)) (suc (length rest)) (omega (arith, fewer line_feed rest (p + 1))) (omega (arith, fewer none rest (p + 1)))
 
 -- the text of symbols does not depend on which stand apart
-colon-parted : (from : ℕ) (s : Scanned) → colon_next (symbols_of (parted from s)) ≡ colon_next (symbols_of s)
+colon_parted : (from : ℕ) (s : Scanned) → colon_next (symbols_of (parted from s)) ≡ colon_next (symbols_of s)
 unfolding parted symbols_of
-colon-parted from ended = refl
-colon-parted from (next x rest) = refl
-colon-parted from (fault_at n p) = refl
+colon_parted from ended = refl
+colon_parted from (next x rest) = refl
+colon_parted from (fault_at n p) = refl
 
-text-parted : (from : ℕ) (s : Scanned) (place : Place) → walk_text place (symbols_of (parted from s)) ≡ walk_text place (symbols_of s)
+text_parted : (from : ℕ) (s : Scanned) (place : Place) → walk_text place (symbols_of (parted from s)) ≡ walk_text place (symbols_of s)
 unfolding parted symbols_of
-text-parted from ended place = refl
-text-parted from (next x rest) place = rw (colon-parted x.lexeme.end rest, text-parted x.lexeme.end rest)
-text-parted from (fault_at n p) place = refl
+text_parted from ended place = refl
+text_parted from (next x rest) place = rw (colon_parted x.lexeme.end rest, text_parted x.lexeme.end rest)
+text_parted from (fault_at n p) place = refl
 
 -- what is written of a body
 pub written_most : (classes text : List ℕ) (start : ℕ) → length (written_text classes text start) ≤ 4 * (length text - start)
-written_most classes text start = rw (text-parted start (scan_from classes (characters_at text start) outside) Start) (omega (arith, most classes (characters_at text start) outside Start, fewer none (drop start text) start, length-drop start text))
+written_most classes text start = rw (text_parted start (scan_from classes (characters_at text start) outside) Start) (omega (arith, most classes (characters_at text start) outside Start, fewer none (drop start text) start, length-drop start text))

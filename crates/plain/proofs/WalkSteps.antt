@@ -9,7 +9,7 @@ use lib.Seq.{sets}
 use types.Run.{OneOf, miss}
 use denote.Enum.Declared.{tag_of}
 use Rattle.octets.specs.Ties.Writing.{Wrote}
-use Rattle.octets.proofs.Writes.{wrote_nothing, wrote-both}
+use Rattle.octets.proofs.Writes.{wrote_nothing, wrote_both}
 use Rattle.scanner.specs.contracts.Class.{the_type as class-type}
 use Rattle.scanner.specs.contracts.Next.{the_type as next-type}
 use Rattle.scanner.specs.contracts.cursor.Ahead.{the_type as ahead-type}
@@ -34,11 +34,11 @@ use Rattle.plain.specs.declared.places.Place.TheVariants.{Start}
 
 -- ---- the next symbol
 
-pub colon-of : (s : Scanned) → is_colon (next_of s) ≡ colon_next (symbols_of s)
+pub colon_of : (s : Scanned) → is_colon (next_of s) ≡ colon_next (symbols_of s)
 unfolding symbols_of
-colon-of ended = refl
-colon-of (next x rest) = refl
-colon-of (fault_at number p) = refl
+colon_of ended = refl
+colon_of (next x rest) = refl
+colon_of (fault_at number p) = refl
 
 -- a class that is not ":"
 pub not_colon : (class : Class) → OneOf (0 ∷ 1 ∷ 2 ∷ 3 ∷ 4 ∷ 5 ∷ 6 ∷ 8 ∷ 9 ∷ 10 ∷ []) (tag_of class-type class) → false ≡ same_class Colon class
@@ -86,10 +86,10 @@ none_from (Symbol class) o start end size apart = absurd (miss (1 ∷ 2 ∷ []) 
 none_from End o start end size apart = tt
 none_from Faulty o start end size apart = tt
 
-colon-from : (a : Ahead) (start end size : ℕ) (apart : Bool) → colon_ahead a ≡ is_colon (next_from a start end size apart)
-colon-from (Symbol class) start end size apart = refl
-colon-from End start end size apart = refl
-colon-from Faulty start end size apart = refl
+colon_from : (a : Ahead) (start end size : ℕ) (apart : Bool) → colon_ahead a ≡ is_colon (next_from a start end size apart)
+colon_from (Symbol class) start end size apart = refl
+colon_from End start end size apart = refl
+colon_from Faulty start end size apart = refl
 
 module _ (cursor : List ℕ) {a : Ahead} (e : a ≡ ahead_of (get_or cursor 0 0)) where
   pub none_ahead : OneOf (1 ∷ 2 ∷ []) (tag_of ahead-type a) → NoneComes (next_in cursor)
@@ -98,19 +98,19 @@ module _ (cursor : List ℕ) {a : Ahead} (e : a ≡ ahead_of (get_or cursor 0 0)
 
   pub colon_in : {colon : Bool} → colon ≡ colon_ahead a → colon ≡ is_colon (next_in cursor)
   unfolding next_in
-  colon_in c = rw (sym e) (c ∙ colon-from a (get_or cursor 1 0) (get_or cursor 2 0) (get_or cursor 3 0) (apart_in cursor))
+  colon_in c = rw (sym e) (c ∙ colon_from a (get_or cursor 1 0) (get_or cursor 2 0) (get_or cursor 3 0) (apart_in cursor))
 
-nothing-of : (place : Place) (s : Scanned) → NoneComes (next_of s) → walk_text place (symbols_of s) ≡ []
+nothing_of : (place : Place) (s : Scanned) → NoneComes (next_of s) → walk_text place (symbols_of s) ≡ []
 unfolding symbols_of
-nothing-of place ended h = refl
-nothing-of place (next x rest) h = absurd h
-nothing-of place (fault_at number p) h = refl
+nothing_of place ended h = refl
+nothing_of place (next x rest) h = absurd h
+nothing_of place (fault_at number p) h = refl
 
-text-one : {classes text : List ℕ} {at : ℕ} {class : Class} {start end : ℕ} (place : Place) → SymbolAt classes text at class start end
+text_one : {classes text : List ℕ} {at : ℕ} {class : Class} {start end : ℕ} (place : Place) → SymbolAt classes text at class start end
     → text_from classes text place at
     ≡ symbol_text class (meaning_at classes text class start end) place (colon_next (symbols_of (scan_by classes text end))) (text_from classes text (after class place (colon_next (symbols_of (scan_by classes text end)))) end)
 unfolding symbols_of
-text-one place x = rw x.same
+text_one place x = rw x.same
 
 -- what is left of the text, by the next symbol
 abbrev pub behind : ℕ → Next → ℕ
@@ -129,14 +129,14 @@ pub behind_falls : {classes text : List ℕ} {at : ℕ} {class : Class} {first e
     → next' ≡ next_of (scan_by classes text later) → behind (length text) next' < behind (length text) coming
 behind_falls {classes} {text} later x h e k = rw (e, k) (less_by later x h (unfolded classes text later))
 
-pub behind-less : {classes text : List ℕ} {at : ℕ} {class : Class} {first end size : ℕ} {apart : Bool} {coming later : Next} → SymbolAt classes text at class first end → coming ≡ found_at class first end size apart
+pub behind_less : {classes text : List ℕ} {at : ℕ} {class : Class} {first end size : ℕ} {apart : Bool} {coming later : Next} → SymbolAt classes text at class first end → coming ≡ found_at class first end size apart
     → later ≡ next_of (scan_by classes text end) → behind (length text) later < behind (length text) coming
-behind-less {end = end} x e k = behind_falls end x (omega arith) e k
+behind_less {end = end} x e k = behind_falls end x (omega arith) e k
 
 -- ---- a gap, and what stands after it
 
 pub wrote_gap : {gap gap' : Gap} {g : List ℕ → List ℕ} {o p q : List ℕ} {n m k : ℕ} → gap ≡ gap' → Wrote (gap_text gap) o n p m → Wrote g p m q k → Wrote (λ rest. gap_text gap' (g rest)) o n q k
-wrote_gap {gap} {gap'} {g} e a b = wrote-both {f = gap_text gap'} {g = g} (rw e at a) b
+wrote_gap {gap} {gap'} {g} e a b = wrote_both {f = gap_text gap'} {g = g} (rw e at a) b
 
 -- ---- the loop
 
@@ -164,9 +164,9 @@ module _ {classes text : List ℕ} {start : ℕ} {out₀ out : List ℕ} {n : �
       → Coming classes text start out₀ out' n' place' later
   coming_next {class} {first} {end} {colon = colon} {place' = place'} e h k c s w b p =
       let x = comes e in
-      let q : colon ≡ colon_next (symbols_of (scan_by classes text end)) = c ∙ ap is_colon k ∙ colon-of (scan_by classes text end) in
+      let q : colon ≡ colon_next (symbols_of (scan_by classes text end)) = c ∙ ap is_colon k ∙ colon_of (scan_by classes text end) in
       let t : text_from classes text place l.at ≡ symbol_text class (meaning_at classes text class first end) place colon (text_from classes text place' end) =
-      rw (p, q) (text-one place x) in
+      rw (p, q) (text_one place x) in
       record {
         at = end;
         is = k;
@@ -179,5 +179,5 @@ module _ {classes text : List ℕ} {start : ℕ} {out₀ out : List ℕ} {n : �
   -- the walk ends
   pub coming_none : NoneComes coming → (n ≡ length (written_text classes text start)) × (out ≡ sets out₀ 0 (written_text classes text start))
   coming_none h =
-      let e : text_from classes text place l.at ≡ [] = nothing-of place (scan_by classes text l.at) (rw l.is at h) in
+      let e : text_from classes text place l.at ≡ [] = nothing_of place (scan_by classes text l.at) (rw l.is at h) in
       (omega (arith, l.count, ap length e), sym (l.same ∙ ap (sets out n) e))

@@ -28,8 +28,8 @@ over (e ∷ es) (f ∷ fs) bs t j h =
     sym (set-sets (es ++ bs) (set t j e) j (suc j) f (omega arith)) ∙ ap (λ (l : List ℕ). sets l (suc j) (es ++ bs)) (set-again t j e f) in
     ap (λ (l : List ℕ). sets l (suc j) fs) k ∙ over es fs bs (set t j f) (suc j) (omega arith)
 
-over-at : (front es fs bs t : List ℕ) (i : ℕ) → length es ≡ length fs → sets (sets t i (front ++ (es ++ bs))) (i + length front) fs ≡ sets t i (front ++ (fs ++ bs))
-over-at front es fs bs t i h =
+over_at : (front es fs bs t : List ℕ) (i : ℕ) → length es ≡ length fs → sets (sets t i (front ++ (es ++ bs))) (i + length front) fs ≡ sets t i (front ++ (fs ++ bs))
+over_at front es fs bs t i h =
     ap (λ (l : List ℕ). sets l (i + length front) fs) (sets-append front (es ++ bs) t i) ∙ over es fs bs (sets t i front) (i + length front) h ∙ sym (sets-append front (fs ++ bs) t i)
 
 -- the bytes of a table around the end of a record
@@ -67,9 +67,9 @@ around (r ∷ rs) (suc i) e h =
     }
 
 -- the end of a record, stored again
-pub end-stored : (t : List ℕ) (rs : List AddressRecord) (i e : ℕ) → i < length rs → sets (sets t 0 (table_bytes rs)) (i * address_record_size + end_offset) (bytes_of number_width e) ≡ sets t 0 (table_bytes (set_end i e rs))
-end-stored t rs i e h =
+pub end_stored : (t : List ℕ) (rs : List AddressRecord) (i e : ℕ) → i < length rs → sets (sets t 0 (table_bytes rs)) (i * address_record_size + end_offset) (bytes_of number_width e) ≡ sets t 0 (table_bytes (set_end i e rs))
+end_stored t rs i e h =
     let a = around rs i e h in
     let n : 0 + length a.front ≡ i * address_record_size + end_offset = omega (arith, a.place) in
     let w : length a.end ≡ length (bytes_of number_width e) = a.width in
-    rw (a.before, a.after, ← n) (over-at a.front a.end (bytes_of number_width e) a.behind t 0 w)
+    rw (a.before, a.after, ← n) (over_at a.front a.end (bytes_of number_width e) a.behind t 0 w)

@@ -12,7 +12,7 @@ use Rattle.octets.proofs.Parts.{part-sets}
 use Rattle.records.specs.Believed.Layout.{Layout, size_in, bytes_in, table_in, record_with}
 use Rattle.records.specs.Believed.FieldRecords.{Field, no_field, field_layout, field_record_size, field_table, field_in}
 use Rattle.records.specs.Believed.AddressRecords.{AddressRecord, no_record, address_layout, address_record_size, table_bytes, record_in}
-use Rattle.records.proofs.LayoutLaws.{bytes-first, bytes_second, Fit, numbers_back}
+use Rattle.records.proofs.LayoutLaws.{bytes_first, bytes_second, Fit, numbers_back}
 use Rattle.records.proofs.TableLaws.{length-bytes, length-table}
 
 -- a run that is stored is read back, byte by byte
@@ -36,7 +36,7 @@ module _ {A : Type 0} (layout : Layout A) where
   table_at d [] i width k l h = absurd (omega arith)
   table_at d (r ∷ rs) zero width k l h =
       let e : zero * size_in layout + k ≡ k = omega arith in
-      rw e (bytes-first width (bytes_in layout r) (table_in layout rs) k (omega (arith, length-bytes layout r)))
+      rw e (bytes_first width (bytes_in layout r) (table_in layout rs) k (omega (arith, length-bytes layout r)))
   table_at d (r ∷ rs) (suc i) width k l h =
       let e : suc i * size_in layout + k ≡ length (bytes_in layout r) + (i * size_in layout + k) = omega (arith, length-bytes layout r, suc-mul i (size_in layout)) in
       rw e (bytes_second width (bytes_in layout r) (table_in layout rs) (i * size_in layout + k) ∙ table_at d rs i width k (omega arith) h)
@@ -63,25 +63,25 @@ Small x = x < 256 ^ number_width
 
 -- field records
 pub record SmallField (f : Field) : Type 0 where
-  pub name-start : Small f.name_start
-  pub name-end : Small f.name_end
-  pub body-start : Small f.body_start
+  pub name_start_lem : Small f.name_start
+  pub name_end_lem : Small f.name_end
+  pub body_start : Small f.body_start
   pub body_end : Small f.body_end
 
 pub field_back : (fs : List Field) (table : List ℕ) → length fs * field_record_size ≤ length table → (i : ℕ) → i < length fs → SmallField (get_or fs i no_field)
     → field_in (sets table 0 (field_table fs)) i ≡ get_or fs i no_field
 field_back fs table fits i l s =
-    record_back field_layout (λ f. refl) no_field fs table fits i l (s.name-start, (s.name-end, (s.body-start, (s.body_end, tt))))
+    record_back field_layout (λ f. refl) no_field fs table fits i l (s.name_start_lem, (s.name_end_lem, (s.body_start, (s.body_end, tt))))
 
 -- address records
 pub record SmallRecord (r : AddressRecord) : Type 0 where
   pub parent : Small r.parent
   pub start : Small r.start
   pub end : Small r.end
-  pub name-start : Small r.name_start
-  pub name-end : Small r.name_end
+  pub name_start_lem : Small r.name_start
+  pub name_end_lem : Small r.name_end
 
 pub address_back : (rs : List AddressRecord) (table : List ℕ) → length rs * address_record_size ≤ length table → (i : ℕ) → i < length rs → SmallRecord (get_or rs i no_record)
     → record_in (sets table 0 (table_bytes rs)) i ≡ get_or rs i no_record
 address_back rs table fits i l s =
-    record_back address_layout (λ r. refl) no_record rs table fits i l (tt, (tt, (s.parent, (s.start, (s.end, (s.name-start, (s.name-end, tt)))))))
+    record_back address_layout (λ r. refl) no_record rs table fits i l (tt, (tt, (s.parent, (s.start, (s.end, (s.name_start_lem, (s.name_end_lem, tt)))))))

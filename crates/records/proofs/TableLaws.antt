@@ -6,7 +6,7 @@ use native.Mathlib.Nat.{zero-mul, suc-mul, add-mul}
 use native.Mathlib.Omega.{arith}
 use lib.ListN.{length, length-append}
 use lib.Seq.{sets}
-use Rattle.octets.proofs.Parts.{sets-append, sets-behind-first}
+use Rattle.octets.proofs.Parts.{sets-append, sets-behind_first}
 use Rattle.records.specs.Believed.Layout.{Layout, size_in, bytes_in, table_in}
 use Rattle.records.proofs.LayoutLaws.{length_by}
 
@@ -24,16 +24,16 @@ module _ {A : Type 0} (layout : Layout A) where
   table-append (r ∷ rs) ss = ap (λ t. bytes_in layout r ++ t) (table-append rs ss) ∙ sym (append_assoc (bytes_in layout r) (table_in layout rs) (table_in layout ss))
 
   -- records after others
-  pub stored-behind : (table : List ℕ) (n : ℕ) (rs ss : List A)
+  pub stored_behind : (table : List ℕ) (n : ℕ) (rs ss : List A)
       → sets (sets table (n * size_in layout) (table_in layout rs)) ((n + length rs) * size_in layout) (table_in layout ss) ≡ sets table (n * size_in layout) (table_in layout (rs ++ ss))
-  stored-behind table n rs ss =
+  stored_behind table n rs ss =
       let q : (n + length rs) * size_in layout ≡ n * size_in layout + length (table_in layout rs) = omega (arith, add-mul n (length rs) (size_in layout), length-table rs) in
       rw (q, table-append rs ss) (sym (sets-append (table_in layout rs) (table_in layout ss) table (n * size_in layout)))
 
   -- a record, and then those after it
-  pub stored-first : (table : List ℕ) (n : ℕ) (r : A) (rs : List A)
+  pub stored_first : (table : List ℕ) (n : ℕ) (r : A) (rs : List A)
       → sets table (n * size_in layout) (table_in layout (r ∷ rs)) ≡ sets (sets table (n * size_in layout) (bytes_in layout r)) (suc n * size_in layout) (table_in layout rs)
-  stored-first table n r rs =
+  stored_first table n r rs =
       let q : suc n * size_in layout ≡ n * size_in layout + length (bytes_in layout r) = omega (arith, suc-mul n (size_in layout), length-bytes r) in
       rw q (sets-append (bytes_in layout r) (table_in layout rs) table (n * size_in layout))
 
@@ -42,7 +42,7 @@ module _ {A : Type 0} (layout : Layout A) where
       → after ≡ sets between (n * size_in layout) (bytes_in layout r) → after ≡ sets table (n * size_in layout) (table_in layout (r ∷ rs))
   stored_in_front table n r rs e f =
       let q : suc n * size_in layout ≡ n * size_in layout + length (bytes_in layout r) = omega (arith, suc-mul n (size_in layout), length-bytes r) in
-      f ∙ rw (e, q) (sets-behind-first (bytes_in layout r) (table_in layout rs) table (n * size_in layout))
+      f ∙ rw (e, q) (sets-behind_first (bytes_in layout r) (table_in layout rs) table (n * size_in layout))
 
   -- a record after all others
   pub stored_last : (table : List ℕ) (rs : List A) (r : A) → sets (sets table 0 (table_in layout rs)) (length rs * size_in layout) (bytes_in layout r) ≡ sets table 0 (table_in layout (rs ++ (r ∷ [])))

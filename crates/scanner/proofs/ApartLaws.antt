@@ -25,64 +25,64 @@ use Rattle.scanner.proofs.EveryCategory.{between_told}
 abbrev Between : Category → Type 0
 Between c = Told c → WhiteOrComment c
 
-outside-between : (kind : ByteKind) → Between (taken_outside kind)
-outside-between White t = t
-outside-between Control t = t
-outside-between Return t = t
-outside-between Plain t = t
-outside-between Open t = t
-outside-between Close t = t
-outside-between Quote t = t
-outside-between Backslash t = t
-outside-between (Mark class) t = t
-outside-between Above t = t
-outside-between OpenBracket t = t
-outside-between CloseBracket t = t
+outside_between : (kind : ByteKind) → Between (taken_outside kind)
+outside_between White t = t
+outside_between Control t = t
+outside_between Return t = t
+outside_between Plain t = t
+outside_between Open t = t
+outside_between Close t = t
+outside_between Quote t = t
+outside_between Backslash t = t
+outside_between (Mark class) t = t
+outside_between Above t = t
+outside_between OpenBracket t = t
+outside_between CloseBracket t = t
 
-taken-between : (state : State) (kind : ByteKind) → Between (taken_in state kind)
-taken-between outside kind = outside-between kind
-taken-between (in_atom start end t) kind = λ u. u
-taken-between (in_quoted start t) kind = λ u. u
-taken-between (taking_in_quoted start t) kind = λ u. u
-taken-between (in_literal start) kind = λ u. u
-taken-between (taking_in_literal start) kind = λ u. u
-taken-between (in_comment depth start) kind = λ u. u
-taken-between (taking_in_comment depth start) kind = λ u. u
+taken_between : (state : State) (kind : ByteKind) → Between (taken_in state kind)
+taken_between outside kind = outside_between kind
+taken_between (in_atom start end t) kind = λ u. u
+taken_between (in_quoted start t) kind = λ u. u
+taken_between (taking_in_quoted start t) kind = λ u. u
+taken_between (in_literal start) kind = λ u. u
+taken_between (taking_in_literal start) kind = λ u. u
+taken_between (in_comment depth start) kind = λ u. u
+taken_between (taking_in_comment depth start) kind = λ u. u
 
-behind-between : (m : Move) (rest : State → Category) → ((state : State) → Between (rest state)) → Between (behind m rest)
-behind-between (go [] outside) rest h = h outside
-behind-between (go [] (in_atom start end t)) rest h = λ u. u
-behind-between (go [] (in_quoted start t)) rest h = λ u. u
-behind-between (go [] (taking_in_quoted start t)) rest h = λ u. u
-behind-between (go [] (in_literal start)) rest h = λ u. u
-behind-between (go [] (taking_in_literal start)) rest h = λ u. u
-behind-between (go [] (in_comment depth start)) rest h = h (in_comment depth start)
-behind-between (go [] (taking_in_comment depth start)) rest h = h (taking_in_comment depth start)
-behind-between (go (x ∷ xs) state) rest h = λ u. u
-behind-between (halt xs number p) rest h = λ u. u
+behind_between : (m : Move) (rest : State → Category) → ((state : State) → Between (rest state)) → Between (behind m rest)
+behind_between (go [] outside) rest h = h outside
+behind_between (go [] (in_atom start end t)) rest h = λ u. u
+behind_between (go [] (in_quoted start t)) rest h = λ u. u
+behind_between (go [] (taking_in_quoted start t)) rest h = λ u. u
+behind_between (go [] (in_literal start)) rest h = λ u. u
+behind_between (go [] (taking_in_literal start)) rest h = λ u. u
+behind_between (go [] (in_comment depth start)) rest h = h (in_comment depth start)
+behind_between (go [] (taking_in_comment depth start)) rest h = h (taking_in_comment depth start)
+behind_between (go (x ∷ xs) state) rest h = λ u. u
+behind_between (halt xs number p) rest h = λ u. u
 
-either-between : (z : Bool) (a b : Category) → Between a → Between b → Between (elim z [ true ↦ a | false ↦ b ])
-either-between true a b x y = x
-either-between false a b x y = y
+either_between : (z : Bool) (a b : Category) → Between a → Between b → Between (elim z [ true ↦ a | false ↦ b ])
+either_between true a b x y = x
+either_between false a b x y = y
 
-is-between : (classes : List ℕ) (place : ℕ) (cs : List Character) (state : State) → Between (between classes place cs state)
+is_between : (classes : List ℕ) (place : ℕ) (cs : List Character) (state : State) → Between (between classes place cs state)
 unfolding between
-is-between classes place [] state = λ u. u
-is-between classes place (character b p folded ∷ rest) state =
-    either-between (ltb p place) _ _ (behind-between (move state (character_kind classes b folded) b p folded) (λ s. between classes place rest s) (λ s. is-between classes place rest s))
-    (taken-between state (character_kind classes b folded))
+is_between classes place [] state = λ u. u
+is_between classes place (character b p folded ∷ rest) state =
+    either_between (ltb p place) _ _ (behind_between (move state (character_kind classes b folded) b p folded) (λ s. between classes place rest s) (λ s. is_between classes place rest s))
+    (taken_between state (character_kind classes b folded))
 
 -- ---- the first symbol
 
 module _ (classes text : List ℕ) where
   module _ {at : ℕ} {class : Class} {start end : ℕ} (s : SymbolAt classes text at class start end) where
-    apart-is : ApartIs classes text at record { start = start; end = end; meaning = meaning_at classes text class start end; apart = ltb at start }
-    apart-is =
+    apart_is : ApartIs classes text at record { start = start; end = end; meaning = meaning_at classes text class start end; apart = ltb at start }
+    apart_is =
         record {
-          stands-apart = λ e.
+          stands_apart = λ e.
               let h : at < start = ltb-true at start e in (
                 h,
-                is-between classes (start - 1) (characters_at text at) outside (between_told classes text (start - 1) at (omega arith) (omega (arith, s.starts, s.within)) (rw s.same (omega arith))),
+                is_between classes (start - 1) (characters_at text at) outside (between_told classes text (start - 1) at (omega arith) (omega (arith, s.starts, s.within)) (rw s.same (omega arith))),
               );
           adjoins = λ e. let h : start ≤ at = ltb-false at start e in omega (arith, s.from);
         }
@@ -94,8 +94,8 @@ module _ (classes text : List ℕ) where
       let f : next x rest ≡ next y (scan_by classes text end) = sym e ∙ s.same in
       let g : x ≡ y = cc in
       let h : rest ≡ scan_by classes text end = cc in
-      rw (g, h) (apart-is s, refl)
+      rw (g, h) (apart_is s, refl)
   by_first at x rest e (a_fault f) = absurd (let z : ◌≡◌ {A = ℕ} 0 1 = cc in omega arith)
 
-pub each-from_the_end-before : EachFromTheEndBefore
-each-from_the_end-before classes text at x rest e = by_first classes text at x rest e (unfolded classes text at)
+pub each_from_the_end_before : EachFromTheEndBefore
+each_from_the_end_before classes text at x rest e = by_first classes text at x rest e (unfolded classes text at)

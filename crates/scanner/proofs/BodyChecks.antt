@@ -51,9 +51,9 @@ module _ {A : Type 0} (refused : ℕ → ℕ → A) where
   unless_none (fault_at n p) otherwise e = absurd (let z : ◌≡◌ {A = ℕ} 0 1 = cc in omega arith)
 
 -- where there is no fault, none is scanned
-pub no-fault : (s : Scanned) {number p : ℕ} → fault_of s ≡ Accepted 0 → s ≡ fault_at number p → ⊥
+pub no_fault : (s : Scanned) {number p : ℕ} → fault_of s ≡ Accepted 0 → s ≡ fault_at number p → ⊥
 unfolding unless_fault
-no-fault s {number} {p} h e = let f : Refused number p ≡ Accepted 0 = rw e at h in let z : ◌≡◌ {A = ℕ} 0 1 = cc in omega arith
+no_fault s {number} {p} h e = let f : Refused number p ≡ Accepted 0 = rw e at h in let z : ◌≡◌ {A = ℕ} 0 1 = cc in omega arith
 
 -- any but Refused
 abbrev pub NotRefused : Answer → Type 0
@@ -128,8 +128,8 @@ pub record CleanBy (classes message : List ℕ) (start end : ℕ) : Type 0 where
 
 -- a body is refused, or clean
 pub data BodyCaseBy (classes message : List ℕ) (start end : ℕ) : Type 0 where
-  refused-body : (number p : ℕ) → Refused number p ≡ scanned_by classes message start end → BodyCaseBy classes message start end
-  clean-body : CleanBy classes message start end → BodyCaseBy classes message start end
+  refused_body : (number p : ℕ) → Refused number p ≡ scanned_by classes message start end → BodyCaseBy classes message start end
+  clean_body : CleanBy classes message start end → BodyCaseBy classes message start end
 
 -- a scan has a first fault or none
 data FaultCase (r : Answer) : Type 0 where
@@ -146,16 +146,16 @@ module _ (classes message : List ℕ) (start end : ℕ) where
   pub body_case_by : BodyCaseBy classes message start end
   body_case_by =
       elim (check_case message start end) [
-        | unfit number p f ↦ refused-body number p (sym (not_passed message start end Refused _ f))
+        | unfit number p f ↦ refused_body number p (sym (not_passed message start end Refused _ f))
         | fit x ↦ elim (fault_case (scan_by classes (take end message) start)) [
-          | faulty number p e ↦ refused-body number p (e ∙ sym (in_its_order message start end Refused _ x))
-          | faultless e ↦ clean-body (record { short = x.short; ordered = x.ordered; inside = x.inside; faultless = e })
+          | faulty number p e ↦ refused_body number p (e ∙ sym (in_its_order message start end Refused _ x))
+          | faultless e ↦ clean_body (record { short = x.short; ordered = x.ordered; inside = x.inside; faultless = e })
         ]
       ]
 
   -- what `scan_by` does not refuse
   pub clean_by : (r : Answer) → r ≡ scanned_by classes message start end → NotRefused r → CleanBy classes message start end
-  clean_by r e o = elim body_case_by [ refused-body number p f ↦ absurd (not_refused o (e ∙ sym f)) | clean-body x ↦ x ]
+  clean_by r e o = elim body_case_by [ refused_body number p f ↦ absurd (not_refused o (e ∙ sym f)) | clean_body x ↦ x ]
 
   module _ {A : Type 0} (refused : ℕ → ℕ → A) (otherwise : A) where
     -- .. so something else is answered

@@ -51,8 +51,8 @@ quotes = whole (bytes "(x) \"q\"") (Comment ∷ Comment ∷ Comment ∷ White �
 at_alone : Row
 at_alone = whole (bytes "a At b") (Word ∷ White ∷ At ∷ At ∷ White ∷ Word ∷ Nothing ∷ [])
 
-at-quoted : Row
-at-quoted = whole (bytes "\"at\"@b") (Word ∷ Word ∷ Word ∷ Word ∷ Mark ∷ Word ∷ Nothing ∷ [])
+at_quoted : Row
+at_quoted = whole (bytes "\"at\"@b") (Word ∷ Word ∷ Word ∷ Word ∷ Mark ∷ Word ∷ Nothing ∷ [])
 
 -- a fold between symbols, in a comment and in a quoted-string
 fold_between : Row
@@ -90,9 +90,9 @@ out_of_order = row (bytes "a@b") 0 4 (replicate 4 Nothing)
 
 pub table : List Row
 table =
-    marks ∷ quotes ∷ at_alone ∷ at-quoted ∷ fold_between ∷ fold_in_comment ∷ fold_in_quoted ∷ comments ∷ no_symbol ∷ stray ∷ faulty ∷ inner ∷ out_of_order ∷ []
+    marks ∷ quotes ∷ at_alone ∷ at_quoted ∷ fold_between ∷ fold_in_comment ∷ fold_in_quoted ∷ comments ∷ no_symbol ∷ stray ∷ faulty ∷ inner ∷ out_of_order ∷ []
 
 pub right : Right table
-unfolding crlf row whole told_from marks quotes at_alone at-quoted fold_between fold_in_comment fold_in_quoted comments no_symbol stray faulty inner out_of_order table between category_of unless_fault parted scan_from characters_from kind_of class_of class_table lower same
+unfolding crlf row whole told_from marks quotes at_alone at_quoted fold_between fold_in_comment fold_in_quoted comments no_symbol stray faulty inner out_of_order table between category_of unless_fault parted scan_from characters_from kind_of class_of class_table lower same
 right =
     and refl (and refl (and refl (and refl (and refl (and refl (and refl (and refl (and refl (and refl (and refl (and refl (and refl none))))))))))))

@@ -32,37 +32,37 @@ use Rattle.scanner.specs.declared.Category.TheVariants as category
 use Rattle.scanner.specs.contracts.Class.{the_type}
 use Rattle.scanner.specs.Ties.Meanings.{meaning_at}
 use Rattle.scanner.specs.contracts.Gap as gap-declared
-use Rattle.scanner.proofs.MoveLaws.{tag, Text, Taken, taken, comment-text, closed-inner}
+use Rattle.scanner.proofs.MoveLaws.{tag, Text, Taken, taken, comment_text, closed_inner}
 use Rattle.scanner.proofs.Unfolding.{SymbolAt}
 use Rattle.scanner.proofs.BodyChecks.{Clean, when_clean, when_refused}
 
 -- ---- in a symbol: the classes that an arm of the code stands for
 
-pub word-symbol : (class : Class) (t : List ℕ) → OneOf (0 ∷ 1 ∷ []) (tag_of the_type class) → category.Word ≡ of_symbol class t
-word-symbol Atom t o = refl
-word-symbol Quoted t o = refl
-word-symbol At t o = absurd (miss (0 ∷ 1 ∷ []) 2 tt o)
-word-symbol LessThan t o = absurd (miss (0 ∷ 1 ∷ []) 3 tt o)
-word-symbol GreaterThan t o = absurd (miss (0 ∷ 1 ∷ []) 4 tt o)
-word-symbol Comma t o = absurd (miss (0 ∷ 1 ∷ []) 5 tt o)
-word-symbol Semicolon t o = absurd (miss (0 ∷ 1 ∷ []) 6 tt o)
-word-symbol Colon t o = absurd (miss (0 ∷ 1 ∷ []) 7 tt o)
-word-symbol Stray t o = absurd (miss (0 ∷ 1 ∷ []) 8 tt o)
-word-symbol Dot t o = absurd (miss (0 ∷ 1 ∷ []) 9 tt o)
-word-symbol Literal t o = absurd (miss (0 ∷ 1 ∷ []) 10 tt o)
+pub word_symbol_lem : (class : Class) (t : List ℕ) → OneOf (0 ∷ 1 ∷ []) (tag_of the_type class) → category.Word ≡ of_symbol class t
+word_symbol_lem Atom t o = refl
+word_symbol_lem Quoted t o = refl
+word_symbol_lem At t o = absurd (miss (0 ∷ 1 ∷ []) 2 tt o)
+word_symbol_lem LessThan t o = absurd (miss (0 ∷ 1 ∷ []) 3 tt o)
+word_symbol_lem GreaterThan t o = absurd (miss (0 ∷ 1 ∷ []) 4 tt o)
+word_symbol_lem Comma t o = absurd (miss (0 ∷ 1 ∷ []) 5 tt o)
+word_symbol_lem Semicolon t o = absurd (miss (0 ∷ 1 ∷ []) 6 tt o)
+word_symbol_lem Colon t o = absurd (miss (0 ∷ 1 ∷ []) 7 tt o)
+word_symbol_lem Stray t o = absurd (miss (0 ∷ 1 ∷ []) 8 tt o)
+word_symbol_lem Dot t o = absurd (miss (0 ∷ 1 ∷ []) 9 tt o)
+word_symbol_lem Literal t o = absurd (miss (0 ∷ 1 ∷ []) 10 tt o)
 
-pub mark-symbol : (class : Class) (t : List ℕ) → OneOf (3 ∷ 4 ∷ 5 ∷ 6 ∷ 7 ∷ 9 ∷ 10 ∷ []) (tag_of the_type class) → category.Mark ≡ of_symbol class t
-mark-symbol Atom t o = absurd (miss (3 ∷ 4 ∷ 5 ∷ 6 ∷ 7 ∷ 9 ∷ 10 ∷ []) 0 tt o)
-mark-symbol Quoted t o = absurd (miss (3 ∷ 4 ∷ 5 ∷ 6 ∷ 7 ∷ 9 ∷ 10 ∷ []) 1 tt o)
-mark-symbol At t o = absurd (miss (3 ∷ 4 ∷ 5 ∷ 6 ∷ 7 ∷ 9 ∷ 10 ∷ []) 2 tt o)
-mark-symbol LessThan t o = refl
-mark-symbol GreaterThan t o = refl
-mark-symbol Comma t o = refl
-mark-symbol Semicolon t o = refl
-mark-symbol Colon t o = refl
-mark-symbol Stray t o = absurd (miss (3 ∷ 4 ∷ 5 ∷ 6 ∷ 7 ∷ 9 ∷ 10 ∷ []) 8 tt o)
-mark-symbol Dot t o = refl
-mark-symbol Literal t o = refl
+pub mark_symbol : (class : Class) (t : List ℕ) → OneOf (3 ∷ 4 ∷ 5 ∷ 6 ∷ 7 ∷ 9 ∷ 10 ∷ []) (tag_of the_type class) → category.Mark ≡ of_symbol class t
+mark_symbol Atom t o = absurd (miss (3 ∷ 4 ∷ 5 ∷ 6 ∷ 7 ∷ 9 ∷ 10 ∷ []) 0 tt o)
+mark_symbol Quoted t o = absurd (miss (3 ∷ 4 ∷ 5 ∷ 6 ∷ 7 ∷ 9 ∷ 10 ∷ []) 1 tt o)
+mark_symbol At t o = absurd (miss (3 ∷ 4 ∷ 5 ∷ 6 ∷ 7 ∷ 9 ∷ 10 ∷ []) 2 tt o)
+mark_symbol LessThan t o = refl
+mark_symbol GreaterThan t o = refl
+mark_symbol Comma t o = refl
+mark_symbol Semicolon t o = refl
+mark_symbol Colon t o = refl
+mark_symbol Stray t o = absurd (miss (3 ∷ 4 ∷ 5 ∷ 6 ∷ 7 ∷ 9 ∷ 10 ∷ []) 8 tt o)
+mark_symbol Dot t o = refl
+mark_symbol Literal t o = refl
 
 -- the bytes of a symbol tell as much as its meaning
 by_place : (classes text : List ℕ) (class : Class) (start end : ℕ) → of_symbol class (meaning_at classes text class start end) ≡ of_symbol class (part text start end)
@@ -104,13 +104,13 @@ leads_nowhere CloseBracket b p folded rest o = (refl, refl)
 pub moves_on : {classes text : List ℕ} {at : ℕ} {kind : ByteKind} {p q : ℕ} → (x : FirstCharacter classes text at kind p q) (state : State) (place : ℕ) → q ≤ place
     → between classes place (characters_at text at) state ≡ behind (move state kind (get_or text p 0) p x.folded) (λ state'. between classes place (characters_at text q) state')
 unfolding between
-moves_on {p = p} x state place h = rw (x.characters, between, lt-ltb p place (omega (arith, x.behind)), ← x.kind-is)
+moves_on {p = p} x state place h = rw (x.characters, between, lt-ltb p place (omega (arith, x.behind)), ← x.kind_is)
 
 -- .. and at a place up to it, it tells itself
 pub tells : {classes text : List ℕ} {at : ℕ} {kind : ByteKind} {p q : ℕ} → FirstCharacter classes text at kind p q → (state : State) (place : ℕ) → place < q
     → between classes place (characters_at text at) state ≡ taken_in state kind
 unfolding between
-tells {p = p} x state place h = rw (x.characters, between, le-ltb p place (omega (arith, x.behind)), ← x.kind-is)
+tells {p = p} x state place h = rw (x.characters, between, le-ltb p place (omega (arith, x.behind)), ← x.kind_is)
 
 -- the text ends
 over : (classes text : List ℕ) (at place : ℕ) (state : State) → characters_at text at ≡ [] → between classes place (characters_at text at) state ≡ category.Nothing
@@ -128,17 +128,17 @@ pub walked_none : (classes text : List ℕ) (place at : ℕ) → Walked classes 
 walked_none classes text place at = record { outermost = 0; same = refl }
 
 module _ {classes text : List ℕ} {place at p : ℕ} {gap : Gap} (w : Walked classes text place at p gap) where
-  pub walk-over : characters_at text p ≡ [] → category.Nothing ≡ between classes place (characters_at text at) outside
-  walk-over e = sym (w.same ∙ over classes text p place (state_of gap w.outermost) e)
+  pub walk_over : characters_at text p ≡ [] → category.Nothing ≡ between classes place (characters_at text at) outside
+  walk_over e = sym (w.same ∙ over classes text p place (state_of gap w.outermost) e)
 
-  pub walk-tells : {kind : ByteKind} {here q : ℕ} {r : Category} → FirstCharacter classes text p kind here q → place < q → GapCategoryIs gap kind r → r ≡ between classes place (characters_at text at) outside
-  walk-tells x h e = e w.outermost ∙ sym (w.same ∙ tells x (state_of gap w.outermost) place h)
+  pub walk_tells : {kind : ByteKind} {here q : ℕ} {r : Category} → FirstCharacter classes text p kind here q → place < q → GapCategoryIs gap kind r → r ≡ between classes place (characters_at text at) outside
+  walk_tells x h e = e w.outermost ∙ sym (w.same ∙ tells x (state_of gap w.outermost) place h)
 
   pub walk_ends : {kind : ByteKind} {here q : ℕ} → FirstCharacter classes text p kind here q → q ≤ place → PassedIs gap kind Over → category.Nothing ≡ between classes place (characters_at text at) outside
   walk_ends {here = here} x h e = sym (w.same ∙ moves_on x (state_of gap w.outermost) place h ∙ e w.outermost (get_or text here 0) here x.folded _)
 
-  pub walk-on : {kind : ByteKind} {here q : ℕ} {next : Gap} → FirstCharacter classes text p kind here q → q ≤ place → PassedIs gap kind (To next) → Walked classes text place at q next
-  walk-on {here = here} x h e =
+  pub walk_on : {kind : ByteKind} {here q : ℕ} {next : Gap} → FirstCharacter classes text p kind here q → q ≤ place → PassedIs gap kind (To next) → Walked classes text place at q next
+  walk_on {here = here} x h e =
       let l = e w.outermost (get_or text here 0) here x.folded in
       record { outermost = l.outermost; same = w.same ∙ moves_on x (state_of gap w.outermost) place h ∙ l.same _ }
 
@@ -158,17 +158,17 @@ none_passed kind o start b p folded rest = (leads_nowhere kind b p folded rest o
 pub deeper : (depth : ℕ) → PassedIs (Comment depth) Open (To (Comment (depth + 1)))
 deeper depth start b p folded = record { outermost = start; same = λ rest. rw add-one }
 
-pub closes-all : (depth : ℕ) → depth ≡ 0 → PassedIs (Comment depth) Close (To Outside)
-closes-all depth e start b p folded = record { outermost = start; same = λ rest. rw e }
+pub closes_all : (depth : ℕ) → depth ≡ 0 → PassedIs (Comment depth) Close (To Outside)
+closes_all depth e start b p folded = record { outermost = start; same = λ rest. rw e }
 
-pub closes-one : (depth : ℕ) → (depth ≡ 0 → ⊥) → PassedIs (Comment depth) Close (To (Comment (depth - 1)))
-closes-one depth n start b p folded = record { outermost = start; same = λ rest. rw (closed-inner depth start n) }
+pub closes_one : (depth : ℕ) → (depth ≡ 0 → ⊥) → PassedIs (Comment depth) Close (To (Comment (depth - 1)))
+closes_one depth n start b p folded = record { outermost = start; same = λ rest. rw (closed_inner depth start n) }
 
-pub takes-next : (depth : ℕ) → PassedIs (Comment depth) Backslash (To (Taking depth))
-takes-next depth start b p folded = record { outermost = start; same = λ rest. refl }
+pub takes_next : (depth : ℕ) → PassedIs (Comment depth) Backslash (To (Taking depth))
+takes_next depth start b p folded = record { outermost = start; same = λ rest. refl }
 
 pub text_passed : (depth : ℕ) (kind : ByteKind) → Text kind → PassedIs (Comment depth) kind (To (Comment depth))
-text_passed depth kind o start b p folded = record { outermost = start; same = λ rest. rw (comment-text kind depth start b p folded o) }
+text_passed depth kind o start b p folded = record { outermost = start; same = λ rest. rw (comment_text kind depth start b p folded o) }
 
 pub taken_passed : (depth : ℕ) (kind : ByteKind) → Taken kind → PassedIs (Taking depth) kind (To (Comment depth))
 taken_passed depth kind o start b p folded = record { outermost = start; same = λ rest. rw (taken kind (in_comment depth start) p o) }

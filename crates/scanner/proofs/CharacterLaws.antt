@@ -14,8 +14,8 @@ use lib.Seq.{get_or-drop}
 use Rattle.octets.specs.Believed.Classes.{is_white}
 use Rattle.octets.specs.Believed.Octets.{return_byte}
 use Rattle.octets.specs.Believed.Text.{crlf_at}
-use Rattle.octets.proofs.ChoiceLaws.{both_false, both-parts, either-parts}
-use Rattle.octets.proofs.Parts.{from-here}
+use Rattle.octets.proofs.ChoiceLaws.{both_false, both_parts, either_parts}
+use Rattle.octets.proofs.Parts.{from_here}
 use Rattle.scanner.specs.Believed.Kinds.{kind_of}
 use Rattle.scanner.specs.Believed.Characters.{character, fold_at, none, characters_from, characters_at}
 use Rattle.scanner.specs.Ties.Steps.{FirstCharacter}
@@ -23,9 +23,9 @@ use Rattle.scanner.specs.declared.ByteKind.{ByteKind}
 use Rattle.scanner.specs.declared.ByteKind.TheVariants.{White, Return}
 
 -- past the end there is none
-pub no-character : (text : List ℕ) (at : ℕ) → length text ≤ at → characters_at text at ≡ []
+pub no_character : (text : List ℕ) (at : ℕ) → length text ≤ at → characters_at text at ≡ []
 unfolding characters_from
-no-character text at h = rw (drop_of_length-le text h)
+no_character text at h = rw (drop_of_length-le text h)
 
 -- ---- a byte that starts no fold
 
@@ -38,7 +38,7 @@ fold_drop text at = simp (get_or-drop, add-zero)
 
 pub plain_at : (text : List ℕ) (at : ℕ) → at < length text → fold_at text at ≡ false → characters_at text at ≡ character (get_or text at 0) at false ∷ characters_at text (at + 1)
 plain_at text at h e =
-    let d : drop at text ≡ get_or text at 0 ∷ drop (at + 1) text = from-here text at 0 h in
+    let d : drop at text ≡ get_or text at 0 ∷ drop (at + 1) text = from_here text at 0 h in
     ap (λ (l : List ℕ). characters_from none l at) d ∙ plain_here (get_or text at 0) (drop (at + 1) text) at (rw d at (fold_drop text at ∙ e))
 
 -- ---- a fold
@@ -50,8 +50,8 @@ fold_here a b c rest p h = rw (h, characters_from)
 -- after its CRLF stands SPACE or HTAB
 fold_white : (text : List ℕ) (i : ℕ) → fold_at text i ≡ true → (get_or text (i + 2) 0 ≡ 32) ⊎ (get_or text (i + 2) 0 ≡ 9)
 fold_white text i e =
-    let two = both-parts (crlf_at text i) _ e in
-    ⊎_elim (λ z. inl (eqb-true _ _ z)) (λ z. inr (eqb-true _ _ z)) (either-parts (eqb (get_or text (i + 2) 0) 32) (eqb (get_or text (i + 2) 0) 9) two.1)
+    let two = both_parts (crlf_at text i) _ e in
+    ⊎_elim (λ z. inl (eqb-true _ _ z)) (λ z. inr (eqb-true _ _ z)) (either_parts (eqb (get_or text (i + 2) 0) 32) (eqb (get_or text (i + 2) 0) 9) two.1)
 
 in_range : (text : List ℕ) (i v : ℕ) → get_or text i 0 ≡ suc v → i < length text
 in_range text i v e = elim (dec_lt i (length text)) [ yes h ↦ h | no h ↦ absurd (omega (arith, get_or-eq_default {A = ℕ} text 0 {n = i} (omega arith))) ]
@@ -67,7 +67,7 @@ fold_at_lem text at e =
     let two : at + 1 + 1 ≡ at + 2 = omega arith in
     let three : at + 2 + 1 ≡ at + 3 = omega arith in
     let d : drop at text ≡ get_or text at 0 ∷ get_or text (at + 1) 0 ∷ get_or text (at + 2) 0 ∷ drop (at + 3) text =
-    from-here text at 0 (omega arith) ∙ rw (from-here text (at + 1) 0 (omega arith), two, from-here text (at + 2) 0 h, three) in
+    from_here text at 0 (omega arith) ∙ rw (from_here text (at + 1) 0 (omega arith), two, from_here text (at + 2) 0 h, three) in
     ap (λ (l : List ℕ). characters_from none l at) d
     ∙ fold_here (get_or text at 0) (get_or text (at + 1) 0) (get_or text (at + 2) 0) (drop (at + 3) text) at (rw d at (fold_drop text at ∙ e))
     ∙ rw (two, three)
@@ -86,24 +86,24 @@ return_kind classes b e = rw (eq-eqb b return_byte e)
 pub no_return : (text : List ℕ) (i : ℕ) → (get_or text i 0 ≡ 13 → ⊥) → fold_at text i ≡ false
 no_return text i n = rw (ne_eqb (get_or text i 0) 13 n)
 
-pub no-crlf : (text : List ℕ) (i : ℕ) → crlf_at text i ≡ false → fold_at text i ≡ false
-no-crlf text i e = rw e
+pub no_crlf : (text : List ℕ) (i : ℕ) → crlf_at text i ≡ false → fold_at text i ≡ false
+no_crlf text i e = rw e
 
-pub line-end : (text : List ℕ) (i : ℕ) → crlf_at text i ≡ true → fold_at text i ≡ is_white (get_or text (i + 2) 0)
-line-end text i e = rw e
+pub line_end : (text : List ℕ) (i : ℕ) → crlf_at text i ≡ true → fold_at text i ≡ is_white (get_or text (i + 2) 0)
+line_end text i e = rw e
 
 -- ---- the first character
 
 module _ (classes text : List ℕ) (at : ℕ) where
   -- a byte that starts no fold
-  pub plain-first : {kind : ByteKind} → at < length text → fold_at text at ≡ false → kind ≡ kind_of classes (get_or text at 0) → FirstCharacter classes text at kind at (at + 1)
-  plain-first h e k =
-      record { folded = false; characters = plain_at text at h e; kind-is = k; from = omega arith; distance = refl; behind = refl; within = omega arith; tight = λ n. refl }
+  pub plain_first : {kind : ByteKind} → at < length text → fold_at text at ≡ false → kind ≡ kind_of classes (get_or text at 0) → FirstCharacter classes text at kind at (at + 1)
+  plain_first h e k =
+      record { folded = false; characters = plain_at text at h e; kind_is = k; from = omega arith; distance = refl; behind = refl; within = omega arith; tight = λ n. refl }
 
   -- the white space of a fold
   pub fold_first : fold_at text at ≡ true → FirstCharacter classes text at White (at + 2) (at + 3)
   fold_first e =
-      record { folded = true; characters = fold_at_lem text at e; kind-is = refl; from = omega arith; distance = refl; behind = omega arith; within = omega (arith, fold_within text at e); tight = λ n. absurd (n refl) }
+      record { folded = true; characters = fold_at_lem text at e; kind_is = refl; from = omega arith; distance = refl; behind = omega arith; within = omega (arith, fold_within text at e); tight = λ n. absurd (n refl) }
 
   -- there is a first character, or the text has ended
   pub data View : Type 0 where
@@ -112,10 +112,10 @@ module _ (classes text : List ℕ) (at : ℕ) where
 
   by_fold : (fold : Bool) → at < length text → fold_at text at ≡ fold → View
   by_fold true h e = one (fold_first e)
-  by_fold false h e = one (plain-first h e refl)
+  by_fold false h e = one (plain_first h e refl)
 
   pub view : View
-  view = elim (dec_lt at (length text)) [ yes h ↦ by_fold (fold_at text at) h refl | no h ↦ over (no-character text at (omega arith)) ]
+  view = elim (dec_lt at (length text)) [ yes h ↦ by_fold (fold_at text at) h refl | no h ↦ over (no_character text at (omega arith)) ]
 
 -- where there is none, the text has ended
 pub none_left : (text : List ℕ) (at : ℕ) → characters_at text at ≡ [] → length text ≤ at

@@ -14,19 +14,19 @@ use Rattle.scanner.specs.declared.Next.{Next}
 use Rattle.scanner.specs.declared.cursor.Ahead.TheVariants.{Symbol}
 
 -- a class has a number of its own
-class-ahead : (class : Class) → ahead_of (class_number class) ≡ Symbol class
+class_ahead : (class : Class) → ahead_of (class_number class) ≡ Symbol class
 unfolding ahead_of
-class-ahead Atom = refl
-class-ahead Quoted = refl
-class-ahead At = refl
-class-ahead LessThan = refl
-class-ahead GreaterThan = refl
-class-ahead Comma = refl
-class-ahead Semicolon = refl
-class-ahead Colon = refl
-class-ahead Stray = refl
-class-ahead Dot = refl
-class-ahead Literal = refl
+class_ahead Atom = refl
+class_ahead Quoted = refl
+class_ahead At = refl
+class_ahead LessThan = refl
+class_ahead GreaterThan = refl
+class_ahead Comma = refl
+class_ahead Semicolon = refl
+class_ahead Colon = refl
+class_ahead Stray = refl
+class_ahead Dot = refl
+class_ahead Literal = refl
 
 -- what holds of every list of seven numbers holds of a cursor
 pub each_cursor : (P : List ℕ → Type 0) → ((a b c d e f g : ℕ) → P (a ∷ b ∷ c ∷ d ∷ e ∷ f ∷ g ∷ [])) → (cursor : List ℕ) → length cursor ≡ cursor_size → P cursor
@@ -59,7 +59,7 @@ pub leads_on : (cursor : List ℕ) → length cursor ≡ cursor_size → {after 
 unfolding ahead_of parted
 leads_on cursor l ended e = rw e (leads_placed cursor l end_number 0 0 0)
 leads_on cursor l (next x rest) e =
-    rw e (rw (class-ahead x.class) at (leads_placed cursor l (class_number x.class) x.lexeme.start x.lexeme.end (length x.lexeme.meaning)))
+    rw e (rw (class_ahead x.class) at (leads_placed cursor l (class_number x.class) x.lexeme.start x.lexeme.end (length x.lexeme.meaning)))
 leads_on cursor l (fault_at number p) e = rw e (leads_placed cursor l fault_number p number 0)
 
 -- a cursor with another number of its own

@@ -29,8 +29,8 @@ use Rattle.scanner.specs.declared.Category.{Category}
 use Rattle.scanner.specs.declared.Category.TheVariants as category
 use Rattle.scanner.proofs.CharacterLaws.{View, over, one, view, none_left}
 use Rattle.scanner.proofs.MoveLaws.{moves}
-use Rattle.scanner.proofs.Unfolding.{SymbolAt, Unfolded, no_symbol, a_symbol, a_fault, unfolded, OutsideIs, white_space, opens-comment, begins, faulty, outside-is, faultless-on}
-use Rattle.scanner.proofs.BodyChecks.{no-fault, Clean, clean}
+use Rattle.scanner.proofs.Unfolding.{SymbolAt, Unfolded, no_symbol, a_symbol, a_fault, unfolded, OutsideIs, white_space, opens_comment_lem, begins, faulty, outside_is, faultless_on}
+use Rattle.scanner.proofs.BodyChecks.{no_fault, Clean, clean}
 use Rattle.scanner.proofs.CategoryLaws.{moves_on, tells, category_over, category_before, category_in, category_behind, category_inside}
 
 -- ---- in a symbol
@@ -112,18 +112,18 @@ module _ (classes text : List ℕ) (place : ℕ) where
   ToldFrom at state = Told (between classes place (characters_at text at) state)
 
   -- outside, such a character is white space or opens a comment
-  outside-stays : {at p : ℕ} {kind : ByteKind} (b : ℕ) (folded : Bool) → OutsideIs classes text at kind p → at ≤ place → None at outside → Told (taken_in outside kind) × Stays (move outside kind b p folded)
-  outside-stays {p = p} b folded white_space h n = (tt, stays Outside 0 refl)
-  outside-stays {p = p} b folded opens-comment h n = (tt, stays (Comment 0) p refl)
-  outside-stays b folded (begins e s) h n = let l = rw s.same at n in absurd (omega arith)
-  outside-stays b folded (faulty e) h n = absurd (rw e at n)
+  outside_stays : {at p : ℕ} {kind : ByteKind} (b : ℕ) (folded : Bool) → OutsideIs classes text at kind p → at ≤ place → None at outside → Told (taken_in outside kind) × Stays (move outside kind b p folded)
+  outside_stays {p = p} b folded white_space h n = (tt, stays Outside 0 refl)
+  outside_stays {p = p} b folded opens_comment_lem h n = (tt, stays (Comment 0) p refl)
+  outside_stays b folded (begins e s) h n = let l = rw s.same at n in absurd (omega arith)
+  outside_stays b folded (faulty e) h n = absurd (rw e at n)
 
   -- .. and in a comment it is comment
-  each-stays : (gap : Gap) (start : ℕ) {at p q : ℕ} {kind : ByteKind} (x : FirstCharacter classes text at kind p q) → at ≤ place → None at (state_of gap start)
+  each_stays : (gap : Gap) (start : ℕ) {at p q : ℕ} {kind : ByteKind} (x : FirstCharacter classes text at kind p q) → at ≤ place → None at (state_of gap start)
       → Told (taken_in (state_of gap start) kind) × Stays (move (state_of gap start) kind (get_or text p 0) p x.folded)
-  each-stays Outside start x h n = outside-stays _ x.folded (outside-is classes text x) h n
-  each-stays (Comment depth) start {p = p} {kind = kind} x h n = (tt, in_comment_lem kind depth start p)
-  each-stays (Taking depth) start {p = p} {kind = kind} x h n = (tt, taking kind depth start p)
+  each_stays Outside start x h n = outside_stays _ x.folded (outside_is classes text x) h n
+  each_stays (Comment depth) start {p = p} {kind = kind} x h n = (tt, in_comment_lem kind depth start p)
+  each_stays (Taking depth) start {p = p} {kind = kind} x h n = (tt, taking kind depth start p)
 
   -- one character on
   goes_on : {at p q : ℕ} {kind : ByteKind} (state : State) (x : FirstCharacter classes text at kind p q) → q ≤ place → None at state → Stays (move state kind (get_or text p 0) p x.folded)
@@ -135,7 +135,7 @@ module _ (classes text : List ℕ) (place : ℕ) where
       → ((q : ℕ) → at < q → q ≤ place → (gap : Gap) (start : ℕ) → None q (state_of gap start) → ToldFrom q (state_of gap start)) → ToldFrom at (state_of gap start)
   by_view at gap start (over e) h k n f = absurd (omega (arith, none_left text at e))
   by_view at gap start (one {q = q} x) h k n f =
-      let (t, m) = each-stays gap start x h n in
+      let (t, m) = each_stays gap start x h n in
       elim (dec_lt place q) [
         | yes l ↦ rw (tells x (state_of gap start) place l) t
         | no l ↦ goes_on (state_of gap start) x (omega arith) n m (f q (omega (arith, x.from, x.behind)) (omega arith))
@@ -146,15 +146,15 @@ module _ (classes text : List ℕ) (place : ℕ) where
   walk (suc n) at gap start m h k o = by_view at gap start (view classes text at) h k o (λ q a b g s. walk n q g s (omega arith) b k)
 
   -- whether symbols stand apart is all the same
-  none-parted : (from : ℕ) (s : Scanned) → NoneUpTo place (parted from s) → NoneUpTo place s
+  none_parted : (from : ℕ) (s : Scanned) → NoneUpTo place (parted from s) → NoneUpTo place s
   unfolding parted
-  none-parted from ended n = n
-  none-parted from (next x rest) n = n
-  none-parted from (fault_at number p) n = n
+  none_parted from ended n = n
+  none_parted from (next x rest) n = n
+  none_parted from (fault_at number p) n = n
 
   -- a byte before the first symbol
   pub between_told : (at : ℕ) → at ≤ place → place < length text → NoneUpTo place (scan_by classes text at) → ToldFrom at outside
-  between_told at h k n = walk place at Outside 0 (omega arith) h k (none-parted at _ n)
+  between_told at h k n = walk place at Outside 0 (omega arith) h k (none_parted at _ n)
 
   -- ---- in a text
 
@@ -169,9 +169,9 @@ module _ (classes text : List ℕ) (place : ℕ) where
   unfolding symbols_of
   in_symbol x n h k e = n (rw x.same (here e h k))
 
-  behind-symbol : {at : ℕ} {class : Class} {start end : ℕ} → SymbolAt classes text at class start end → OffStray at → OffStray end
+  behind_symbol : {at : ℕ} {class : Class} {start end : ℕ} → SymbolAt classes text at class start end → OffStray at → OffStray end
   unfolding symbols_of
-  behind-symbol x n i = n (rw x.same (further i))
+  behind_symbol x n i = n (rw x.same (further i))
 
   by_symbol : (at : ℕ) → Unfolded classes text at → at ≤ place → place < length text → Faultless classes text at → OffStray at
       → ((q : ℕ) → at < q → q ≤ place → Faultless classes text q → OffStray q → ToldIn q) → ToldIn at
@@ -182,10 +182,10 @@ module _ (classes text : List ℕ) (place : ℕ) where
         | no l ↦ elim (dec_lt place end) [
           | yes m ↦ rw (category_in x place (omega arith) m) (symbol_told class (part text start end) (in_symbol x n (omega arith) m))
           | no m ↦ rw (category_behind x place (omega arith))
-              (f end (omega (arith, x.from, x.starts)) (omega arith) (faultless-on classes text c x) (behind-symbol x n))
+              (f end (omega (arith, x.from, x.starts)) (omega arith) (faultless_on classes text c x) (behind_symbol x n))
         ]
       ]
-  by_symbol at (a_fault e) h k c n f = absurd (no-fault _ c.none e)
+  by_symbol at (a_fault e) h k c n f = absurd (no_fault _ c.none e)
 
   run : (n at : ℕ) → place ≤ at + n → at ≤ place → place < length text → Faultless classes text at → OffStray at → ToldIn at
   run zero at m h k c o = by_symbol at (unfolded classes text at) h k c o (λ q a b. absurd (omega arith))

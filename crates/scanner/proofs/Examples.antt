@@ -49,22 +49,22 @@ folded_atoms : Row
 folded_atoms = row (bytes "ab" ++ (crlf ++ bytes " cd")) (next (symbol Atom 0 2 (bytes "ab")) (next (apart (symbol Atom 5 7 (bytes "cd"))) ended))
 
 -- in a quoted-string its CRLF is no datum, and its white space is
-folded-quoted : Row
-folded-quoted = row (bytes "\"a" ++ (crlf ++ bytes " b\"")) (next (symbol Quoted 0 7 (bytes "a b")) ended)
+folded_quoted : Row
+folded_quoted = row (bytes "\"a" ++ (crlf ++ bytes " b\"")) (next (symbol Quoted 0 7 (bytes "a b")) ended)
 
 -- a backslash right before it takes its CRLF, and not the white space after it
-folded-taken : Row
-folded-taken = row (bytes "\"a\\" ++ (crlf ++ bytes " b\"")) (next (symbol Quoted 0 8 (bytes "a" ++ (crlf ++ bytes " b"))) ended)
+folded_taken : Row
+folded_taken = row (bytes "\"a\\" ++ (crlf ++ bytes " b\"")) (next (symbol Quoted 0 8 (bytes "a" ++ (crlf ++ bytes " b"))) ended)
 
-closed-after-taken : Row
-closed-after-taken = row (bytes "\"\\" ++ (crlf ++ bytes " \"x")) (next (symbol Quoted 0 6 (crlf ++ bytes " ")) (next (symbol Atom 6 7 (bytes "x")) ended))
+closed_after_taken : Row
+closed_after_taken = row (bytes "\"\\" ++ (crlf ++ bytes " \"x")) (next (symbol Quoted 0 6 (crlf ++ bytes " ")) (next (symbol Atom 6 7 (bytes "x")) ended))
 
 taken_twice : Row
 taken_twice = row (bytes "\"\\" ++ (crlf ++ bytes "\t\\" ++ (crlf ++ bytes "\t\""))) (next (symbol Quoted 0 10 (crlf ++ bytes "\t" ++ (crlf ++ bytes "\t"))) ended)
 
 -- .. unless the backslash is itself taken
-folded-after-taken : Row
-folded-after-taken = row (bytes "\"a\\\\" ++ (crlf ++ bytes " b\"")) (next (symbol Quoted 0 9 (bytes "a\\ b")) ended)
+folded_after_taken : Row
+folded_after_taken = row (bytes "\"a\\\\" ++ (crlf ++ bytes " b\"")) (next (symbol Quoted 0 9 (bytes "a\\ b")) ended)
 
 third_backslash : Row
 third_backslash = row (bytes "\"a\\\\\\" ++ (crlf ++ bytes " \"")) (next (symbol Quoted 0 9 (bytes "a\\" ++ (crlf ++ bytes " "))) ended)
@@ -74,16 +74,16 @@ return_before_fold : Row
 return_before_fold = row (bytes "\"a\\" ++ (13 ∷ crlf ++ bytes " b\"")) (next (symbol Quoted 0 9 (bytes "a" ++ (13 ∷ bytes " b"))) ended)
 
 -- no fold: CR is taken, and LF is a datum by itself
-return_then-line_feed : Row
-return_then-line_feed = row (bytes "\"\\" ++ (crlf ++ bytes "b\"")) (next (symbol Quoted 0 6 (crlf ++ bytes "b")) ended)
+return_then_line_feed : Row
+return_then_line_feed = row (bytes "\"\\" ++ (crlf ++ bytes "b\"")) (next (symbol Quoted 0 6 (crlf ++ bytes "b")) ended)
 
 -- the white space of the fold is not there
 half_taken : Row
 half_taken = row (bytes "\"a\\" ++ crlf) (fault_at 5 0)
 
 -- in a comment, also after a backslash
-folded-comment : Row
-folded-comment = row (bytes "(a" ++ (crlf ++ bytes " b) c")) (next (apart (symbol Atom 8 9 (bytes "c"))) ended)
+folded_comment : Row
+folded_comment = row (bytes "(a" ++ (crlf ++ bytes " b) c")) (next (apart (symbol Atom 8 9 (bytes "c"))) ended)
 
 taken_in_comment : Row
 taken_in_comment = row (bytes "(a\\" ++ (crlf ++ bytes " ) c")) (next (apart (symbol Atom 8 9 (bytes "c"))) ended)
@@ -114,8 +114,8 @@ open_comment = row (bytes "(") (fault_at 6 0)
 open_inner : Row
 open_inner = row (bytes "x (a (b) ") (next (symbol Atom 0 1 (bytes "x")) (fault_at 6 2))
 
-taking_at-end : Row
-taking_at-end = row (bytes "\"ab\\") (fault_at 5 0)
+taking_at_end : Row
+taking_at_end = row (bytes "\"ab\\") (fault_at 5 0)
 
 -- a CR in an open quoted-string is 7 before 5
 return_quoted : Row
@@ -156,16 +156,16 @@ comment_in_quoted : Row
 comment_in_quoted = row (bytes "\"(\" x") (next (symbol Quoted 0 3 (bytes "(")) (next (apart (symbol Atom 4 5 (bytes "x"))) ended))
 
 -- comments nest without a limit of their own
-deep-comment : Row
-deep-comment = row (replicate 300 40 ++ (replicate 300 41 ++ bytes "x")) (next (apart (symbol Atom 600 601 (bytes "x"))) ended)
+deep_comment : Row
+deep_comment = row (replicate 300 40 ++ (replicate 300 41 ++ bytes "x")) (next (apart (symbol Atom 600 601 (bytes "x"))) ended)
 
 pub table : List Row
 table =
-    nested ∷ sysmail ∷ folded_atoms ∷ folded-quoted ∷ folded-taken ∷ closed-after-taken ∷ taken_twice ∷ folded-after-taken ∷ third_backslash ∷ return_before_fold ∷ return_then-line_feed ∷ half_taken ∷ folded-comment ∷ taken_in_comment ∷ half_fold ∷ marks ∷ at_cases ∷ open_quoted ∷ open_comment ∷ open_inner ∷ taking_at-end
+    nested ∷ sysmail ∷ folded_atoms ∷ folded_quoted ∷ folded_taken ∷ closed_after_taken ∷ taken_twice ∷ folded_after_taken ∷ third_backslash ∷ return_before_fold ∷ return_then_line_feed ∷ half_taken ∷ folded_comment ∷ taken_in_comment ∷ half_fold ∷ marks ∷ at_cases ∷ open_quoted ∷ open_comment ∷ open_inner ∷ taking_at_end
     ∷ return_quoted ∷ return_taken ∷ above ∷ above_taken ∷ above_comment ∷ delete ∷ line_feed ∷ controls_quoted ∷ controls_comment ∷ quote_in_comment ∷ comment_in_quoted
-    ∷ deep-comment ∷ []
+    ∷ deep_comment ∷ []
 
 pub right : Right table
-unfolding row crlf nested sysmail folded_atoms folded-quoted folded-taken closed-after-taken taken_twice folded-after-taken third_backslash return_before_fold return_then-line_feed half_taken folded-comment taken_in_comment half_fold marks at_cases open_quoted open_comment open_inner taking_at-end return_quoted return_taken above above_taken above_comment delete line_feed controls_quoted controls_comment quote_in_comment comment_in_quoted deep-comment table parted scan_from taken_data characters_from kind_of class_of class_table lower same
+unfolding row crlf nested sysmail folded_atoms folded_quoted folded_taken closed_after_taken taken_twice folded_after_taken third_backslash return_before_fold return_then_line_feed half_taken folded_comment taken_in_comment half_fold marks at_cases open_quoted open_comment open_inner taking_at_end return_quoted return_taken above above_taken above_comment delete line_feed controls_quoted controls_comment quote_in_comment comment_in_quoted deep_comment table parted scan_from taken_data characters_from kind_of class_of class_table lower same
 right =
     and refl (and refl (and refl (and refl (and refl (and refl (and refl (and refl (and refl (and refl (and refl (and refl (and refl (and refl (and refl (and refl (and refl (and refl (and refl (and refl (and refl (and refl (and refl (and refl (and refl (and refl (and refl (and refl (and refl (and refl (and refl (and refl (and refl none))))))))))))))))))))))))))))))))

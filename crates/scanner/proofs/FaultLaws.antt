@@ -15,9 +15,9 @@ use Rattle.scanner.specs.declared.Class.TheVariants.{Stray}
 use Rattle.scanner.specs.declared.ByteKind.{ByteKind}
 use Rattle.scanner.specs.declared.ByteKind.TheVariants.{White, Control, Return, Plain, Open, Close, Quote, Backslash, Mark, Above, OpenBracket, CloseBracket}
 use Rattle.scanner.specs.contracts.ByteKind.{the_type}
-use Rattle.scanner.proofs.CharacterLaws.{return_kind, no_return, plain-first}
+use Rattle.scanner.proofs.CharacterLaws.{return_kind, no_return, plain_first}
 use Rattle.scanner.proofs.MoveLaws.{moves}
-use Rattle.scanner.proofs.PartedLaws.{fault-parted}
+use Rattle.scanner.proofs.PartedLaws.{fault_parted}
 
 -- in an atom the faults are those outside
 abbrev AsOutside : List ℕ → List Character → Type 0
@@ -39,10 +39,10 @@ by_kind classes rest h Above start end t b p = refl
 by_kind classes rest h OpenBracket start end t b p = refl
 by_kind classes rest h CloseBracket start end t b p = refl
 
-atom-faults : (classes : List ℕ) (rest : List Character) → AsOutside classes rest
+atom_faults : (classes : List ℕ) (rest : List Character) → AsOutside classes rest
 unfolding scan_from unless_fault
-atom-faults classes [] start end t = refl
-atom-faults classes (character b p folded ∷ rest) start end t = by_kind classes rest (atom-faults classes rest) (character_kind classes b folded) start end t b p
+atom_faults classes [] start end t = refl
+atom_faults classes (character b p folded ∷ rest) start end t = by_kind classes rest (atom_faults classes rest) (character_kind classes b folded) start end t b p
 
 -- a byte that is no fault and opens nothing
 module _ {classes text : List ℕ} {at p q : ℕ} where
@@ -51,7 +51,7 @@ module _ {classes text : List ℕ} {at p q : ℕ} where
   harmless White x o = ap fault_of (moves x outside (go [] outside) refl)
   harmless Control x o = absurd (miss (0 ∷ 3 ∷ 5 ∷ 7 ∷ 8 ∷ []) 1 tt o)
   harmless Return x o = absurd (miss (0 ∷ 3 ∷ 5 ∷ 7 ∷ 8 ∷ []) 2 tt o)
-  harmless Plain x o = ap fault_of (moves x outside (go [] (in_atom p (p + 1) (get_or text p 0 ∷ []))) refl) ∙ atom-faults classes (characters_at text q) p (p + 1) (get_or text p 0 ∷ [])
+  harmless Plain x o = ap fault_of (moves x outside (go [] (in_atom p (p + 1) (get_or text p 0 ∷ []))) refl) ∙ atom_faults classes (characters_at text q) p (p + 1) (get_or text p 0 ∷ [])
   harmless Open x o = absurd (miss (0 ∷ 3 ∷ 5 ∷ 7 ∷ 8 ∷ []) 4 tt o)
   harmless Close x o = ap fault_of (moves x outside (go (single Stray (get_or text p 0) p ∷ []) outside) refl)
   harmless Quote x o = absurd (miss (0 ∷ 3 ∷ 5 ∷ 7 ∷ 8 ∷ []) 6 tt o)
@@ -65,7 +65,7 @@ module _ {classes text : List ℕ} {at p q : ℕ} where
 pub harmless_byte : (classes text : List ℕ) (p : ℕ) (kind : ByteKind) → p < length text → kind ≡ kind_of classes (get_or text p 0) → OneOf (0 ∷ 3 ∷ 5 ∷ 7 ∷ 8 ∷ []) (tag_of the_type kind)
     → fault_of (scan_by classes text p) ≡ fault_of (scan_by classes text (p + 1))
 harmless_byte classes text p kind h k o =
-    fault-parted p (outside_at classes text p) ∙ harmless kind (plain-first classes text p h (no_return text p no_cr) k) o ∙ sym (fault-parted (p + 1) (outside_at classes text (p + 1)))
+    fault_parted p (outside_at classes text p) ∙ harmless kind (plain_first classes text p h (no_return text p no_cr) k) o ∙ sym (fault_parted (p + 1) (outside_at classes text (p + 1)))
   where
     no_cr : get_or text p 0 ≡ return_byte → ⊥
     no_cr e = miss (0 ∷ 3 ∷ 5 ∷ 7 ∷ 8 ∷ []) 2 tt (rw (k ∙ sym (return_kind classes (get_or text p 0) e)) at o)

@@ -118,25 +118,25 @@ taking Above state p = refl
 taking OpenBracket state p = tt
 taking CloseBracket state p = tt
 
-each-move : (state : State) (kind : ByteKind) (b p : ℕ) (folded : Bool) → MoveNumbered (move state kind b p folded)
-each-move outside kind b p folded = in_outside kind b p
-each-move (in_atom start end t) kind b p folded = in_atom_lem kind start end t b p
-each-move (in_quoted start t) kind b p folded = in_quoted_lem kind start t b p
-each-move (taking_in_quoted start t) kind b p folded = taking kind _ p
-each-move (in_literal start) kind b p folded = in_literal_lem kind start p
-each-move (taking_in_literal start) kind b p folded = taking kind _ p
-each-move (in_comment depth start) kind b p folded = in_comment_lem kind depth start p
-each-move (taking_in_comment depth start) kind b p folded = taking kind _ p
+each_move : (state : State) (kind : ByteKind) (b p : ℕ) (folded : Bool) → MoveNumbered (move state kind b p folded)
+each_move outside kind b p folded = in_outside kind b p
+each_move (in_atom start end t) kind b p folded = in_atom_lem kind start end t b p
+each_move (in_quoted start t) kind b p folded = in_quoted_lem kind start t b p
+each_move (taking_in_quoted start t) kind b p folded = taking kind _ p
+each_move (in_literal start) kind b p folded = in_literal_lem kind start p
+each_move (taking_in_literal start) kind b p folded = taking kind _ p
+each_move (in_comment depth start) kind b p folded = in_comment_lem kind depth start p
+each_move (taking_in_comment depth start) kind b p folded = taking kind _ p
 
-at-end : (state : State) → Numbered (at_end state)
-at-end outside = tt
-at-end (in_atom start end t) = tt
-at-end (in_quoted start t) = refl
-at-end (taking_in_quoted start t) = refl
-at-end (in_literal start) = refl
-at-end (taking_in_literal start) = refl
-at-end (in_comment depth start) = refl
-at-end (taking_in_comment depth start) = refl
+at_end_lem : (state : State) → Numbered (at_end state)
+at_end_lem outside = tt
+at_end_lem (in_atom start end t) = tt
+at_end_lem (in_quoted start t) = refl
+at_end_lem (taking_in_quoted start t) = refl
+at_end_lem (in_literal start) = refl
+at_end_lem (taking_in_literal start) = refl
+at_end_lem (in_comment depth start) = refl
+at_end_lem (taking_in_comment depth start) = refl
 
 followed : (symbols : List (Symbol Class)) (rest : Scanned) → Numbered rest → Numbered (followed_by symbols rest)
 followed [] rest h = h
@@ -149,9 +149,9 @@ moved (halt symbols n p) rest h f = followed symbols (fault_at n p) h
 -- whatever is scanned
 numbered : (classes : List ℕ) (characters : List Character) (state : State) → Numbered (scan_from classes characters state)
 unfolding scan_from
-numbered classes [] state = at-end state
+numbered classes [] state = at_end_lem state
 numbered classes (character b p folded ∷ rest) state =
-    moved (move state (character_kind classes b folded) b p folded) (λ state'. scan_from classes rest state') (each-move state (character_kind classes b folded) b p folded) (λ state'. numbered classes rest state')
+    moved (move state (character_kind classes b folded) b p folded) (λ state'. scan_from classes rest state') (each_move state (character_kind classes b folded) b p folded) (λ state'. numbered classes rest state')
 
 numbered_parted : (from : ℕ) (s : Scanned) → Numbered s → Numbered (parted from s)
 unfolding parted

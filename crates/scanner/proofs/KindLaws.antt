@@ -13,6 +13,6 @@ unfolding kind_of
 return_kind classes b e = rw (eq-eqb b 13 e)
 
 -- a byte other than CR has the kind of its class
-pub class-kind : (classes : List ℕ) (b : ℕ) {class : ℕ} {kind : ByteKind} → (b ≡ 13 → ⊥) → class ≡ get_or classes b 0 → kind ≡ kind_of_class class → kind ≡ kind_of classes b
+pub class_kind : (classes : List ℕ) (b : ℕ) {class : ℕ} {kind : ByteKind} → (b ≡ 13 → ⊥) → class ≡ get_or classes b 0 → kind ≡ kind_of_class class → kind ≡ kind_of classes b
 unfolding kind_of
-class-kind classes b n e k = k ∙ rw (ne_eqb b 13 n, ← e)
+class_kind classes b n e k = k ∙ rw (ne_eqb b 13 n, ← e)

@@ -16,7 +16,7 @@ use Rattle.scanner.specs.declared.Datum.{Datum}
 use Rattle.scanner.specs.declared.Datum.TheVariants.{Byte, LineEnd, Over}
 use Rattle.scanner.specs.declared.ByteKind.{ByteKind}
 use Rattle.scanner.specs.declared.ByteKind.TheVariants.{White, Control, Return, Plain, Open, Close, Quote, Backslash, Mark, Above, OpenBracket, CloseBracket}
-use Rattle.scanner.proofs.CharacterLaws.{no-character, plain_at, fold_within, fold_at_lem, View, one, view}
+use Rattle.scanner.proofs.CharacterLaws.{no_character, plain_at, fold_within, fold_at_lem, View, one, view}
 use Rattle.scanner.proofs.CharacterLaws as characters
 use Rattle.scanner.proofs.MoveLaws.{tag}
 
@@ -48,19 +48,19 @@ data_over classes [] = refl
 data_over classes (character b p folded ∷ rest) = data_over classes rest
 
 -- the character after a backslash: what it takes
-taken-first : (classes text : List ℕ) (at q : ℕ) {b p : ℕ} {folded : Bool} → characters_at text at ≡ character b p folded ∷ characters_at text q
+taken_first : (classes text : List ℕ) (at q : ℕ) {b p : ℕ} {folded : Bool} → characters_at text at ≡ character b p folded ∷ characters_at text q
     → data_from classes taking (characters_at text at) ≡ taken_data b folded ++ data_at classes text q
 unfolding data_from
-taken-first classes text at q e = rw e
+taken_first classes text at q e = rw e
 
 module _ {classes text : List ℕ} {at p q : ℕ} {kind : ByteKind} (x : FirstCharacter classes text at kind p q) where
   step : (walk : Walk) → data_from classes walk (characters_at text at) ≡ data_of walk kind (get_or text p 0) x.folded ++ data_from classes (walked walk kind) (characters_at text q)
   unfolding data_from
-  step walk = rw (x.characters, ← x.kind-is)
+  step walk = rw (x.characters, ← x.kind_is)
 
   datum_step : datum_at classes text at ≡ first_or (data_of inside kind (get_or text p 0) x.folded) (p + 1) (walked inside kind) (characters_at text q)
   unfolding datum_from
-  datum_step = rw (x.characters, ← x.kind-is)
+  datum_step = rw (x.characters, ← x.kind_is)
 
   -- data as they are
   pub data_on : AsData kind → data_at classes text at ≡ get_or text p 0 ∷ data_at classes text q
@@ -70,7 +70,7 @@ module _ {classes text : List ℕ} {at p q : ℕ} {kind : ByteKind} (x : FirstCh
   datum_on d = datum_step ∙ rw ((d (get_or text p 0) x.folded).0, x.behind)
 
   pub data_taken : data_from classes taking (characters_at text at) ≡ taken_data (get_or text p 0) x.folded ++ data_at classes text q
-  data_taken = taken-first classes text at q x.characters
+  data_taken = taken_first classes text at q x.characters
 
 module _ {classes text : List ℕ} {at p q : ℕ} where
   -- a backslash
@@ -120,13 +120,13 @@ module _ (classes text : List ℕ) where
     takes x true e =
         let three : q + 2 + 1 ≡ q + 3 = omega arith in
         rw (datum_backslash x, fold_at_lem text q e, three)
-        record { first = data_backslash x ∙ taken-first classes text q (q + 3) (fold_at_lem text q e); passed = omega (arith, x.from, x.behind); within = omega (arith, fold_within text q e) }
-    takes x false e = elim (dec_lt q (length text)) [ yes h ↦ takes_one h | no h ↦ takes_none (no-character text q (omega arith)) ]
+        record { first = data_backslash x ∙ taken_first classes text q (q + 3) (fold_at_lem text q e); passed = omega (arith, x.from, x.behind); within = omega (arith, fold_within text q e) }
+    takes x false e = elim (dec_lt q (length text)) [ yes h ↦ takes_one h | no h ↦ takes_none (no_character text q (omega arith)) ]
       where
         takes_one : q < length text → DatumIs classes text at (datum_at classes text at)
         takes_one h =
             rw (datum_backslash x, plain_at text q h e)
-            record { first = data_backslash x ∙ taken-first classes text q (q + 1) (plain_at text q h e); passed = omega (arith, x.from, x.behind); within = omega arith }
+            record { first = data_backslash x ∙ taken_first classes text q (q + 1) (plain_at text q h e); passed = omega (arith, x.from, x.behind); within = omega arith }
 
         takes_none : characters_at text q ≡ [] → DatumIs classes text at (datum_at classes text at)
         takes_none o = rw (datum_backslash x, o) (data_backslash x ∙ data_end classes text taking q o)

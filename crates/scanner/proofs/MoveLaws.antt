@@ -28,15 +28,15 @@ abbrev pub tag : ByteKind → ℕ
 tag kind = tag_of the_type kind
 
 -- the text ends
-pub at-end : (classes text : List ℕ) (at : ℕ) (state : State) → characters_at text at ≡ [] → scan_from classes (characters_at text at) state ≡ at_end state
+pub at_end_lem : (classes text : List ℕ) (at : ℕ) (state : State) → characters_at text at ≡ [] → scan_from classes (characters_at text at) state ≡ at_end state
 unfolding scan_from
-at-end classes text at state e = rw e
+at_end_lem classes text at state e = rw e
 
 -- a character makes its move
 pub moves : {classes text : List ℕ} {at : ℕ} {kind : ByteKind} {p q : ℕ} → (x : FirstCharacter classes text at kind p q) (state : State) (m : Move) → move state kind (get_or text p 0) p x.folded ≡ m
     → scan_from classes (characters_at text at) state ≡ then m (λ state'. scan_from classes (characters_at text q) state')
 unfolding scan_from
-moves x state m e = rw (x.characters, ← x.kind-is, e)
+moves x state m e = rw (x.characters, ← x.kind_is, e)
 
 -- ---- the kinds that an arm of the code stands for
 
@@ -56,26 +56,26 @@ Text kind = OneOf (0 ∷ 1 ∷ 3 ∷ 6 ∷ 8 ∷ 10 ∷ 11 ∷ []) (tag kind)
 abbrev pub Taken : ByteKind → Type 0
 Taken kind = OneOf (0 ∷ 1 ∷ 2 ∷ 3 ∷ 4 ∷ 5 ∷ 6 ∷ 7 ∷ 8 ∷ 10 ∷ 11 ∷ []) (tag kind)
 
-ends-atom : (classes : List ℕ) (kind : ByteKind) (b p : ℕ) (folded : Bool) (start end : ℕ) (t : List ℕ) (rest : State → Scanned) → NotPlain kind
+ends_atom : (classes : List ℕ) (kind : ByteKind) (b p : ℕ) (folded : Bool) (start end : ℕ) (t : List ℕ) (rest : State → Scanned) → NotPlain kind
     → then (move (in_atom start end t) kind b p folded) rest ≡ next (atom start end t) (then (move outside kind b p folded) rest)
-ends-atom classes White b p folded start end t rest o = refl
-ends-atom classes Control b p folded start end t rest o = refl
-ends-atom classes Return b p folded start end t rest o = refl
-ends-atom classes Plain b p folded start end t rest o = absurd (miss (0 ∷ 1 ∷ 2 ∷ 4 ∷ 5 ∷ 6 ∷ 7 ∷ 8 ∷ 9 ∷ 10 ∷ 11 ∷ []) 3 tt o)
-ends-atom classes Open b p folded start end t rest o = refl
-ends-atom classes Close b p folded start end t rest o = refl
-ends-atom classes Quote b p folded start end t rest o = refl
-ends-atom classes Backslash b p folded start end t rest o = refl
-ends-atom classes (Mark class) b p folded start end t rest o = refl
-ends-atom classes Above b p folded start end t rest o = refl
-ends-atom classes OpenBracket b p folded start end t rest o = refl
-ends-atom classes CloseBracket b p folded start end t rest o = refl
+ends_atom classes White b p folded start end t rest o = refl
+ends_atom classes Control b p folded start end t rest o = refl
+ends_atom classes Return b p folded start end t rest o = refl
+ends_atom classes Plain b p folded start end t rest o = absurd (miss (0 ∷ 1 ∷ 2 ∷ 4 ∷ 5 ∷ 6 ∷ 7 ∷ 8 ∷ 9 ∷ 10 ∷ 11 ∷ []) 3 tt o)
+ends_atom classes Open b p folded start end t rest o = refl
+ends_atom classes Close b p folded start end t rest o = refl
+ends_atom classes Quote b p folded start end t rest o = refl
+ends_atom classes Backslash b p folded start end t rest o = refl
+ends_atom classes (Mark class) b p folded start end t rest o = refl
+ends_atom classes Above b p folded start end t rest o = refl
+ends_atom classes OpenBracket b p folded start end t rest o = refl
+ends_atom classes CloseBracket b p folded start end t rest o = refl
 
 -- an atom ends before any other byte, which then does what it does outside
-pub atom-ends : {classes text : List ℕ} {at p q : ℕ} {kind : ByteKind} (start : ℕ) (t : List ℕ) → FirstCharacter classes text at kind p q → NotPlain kind
+pub atom_ends : {classes text : List ℕ} {at p q : ℕ} {kind : ByteKind} (start : ℕ) (t : List ℕ) → FirstCharacter classes text at kind p q → NotPlain kind
     → scan_from classes (characters_at text at) (in_atom start at t) ≡ next (atom start at t) (outside_at classes text at)
-atom-ends {classes} {text} {at} {p} {q} {kind} start t x o =
-    moves x (in_atom start at t) _ refl ∙ ends-atom classes kind (get_or text p 0) p x.folded start at t (λ s. scan_from classes (characters_at text q) s) o
+atom_ends {classes} {text} {at} {p} {q} {kind} start t x o =
+    moves x (in_atom start at t) _ refl ∙ ends_atom classes kind (get_or text p 0) p x.folded start at t (λ s. scan_from classes (characters_at text q) s) o
     ∙ ap (next (atom start at t)) (sym (moves x outside _ refl))
 
 pub quoted_data : (kind : ByteKind) (start : ℕ) (t : List ℕ) (b p : ℕ) (folded : Bool) → Data kind → move (in_quoted start t) kind b p folded ≡ go [] (in_quoted start (t ++ (b ∷ [])))
@@ -111,19 +111,19 @@ pub taken_alone : (b : ℕ) → taken_data b false ≡ b ∷ []
 unfolding taken_data
 taken_alone b = refl
 
-pub comment-text : (kind : ByteKind) (depth start b p : ℕ) (folded : Bool) → Text kind → move (in_comment depth start) kind b p folded ≡ go [] (in_comment depth start)
-comment-text White depth start b p folded o = refl
-comment-text Control depth start b p folded o = refl
-comment-text Return depth start b p folded o = absurd (miss (0 ∷ 1 ∷ 3 ∷ 6 ∷ 8 ∷ 10 ∷ 11 ∷ []) 2 tt o)
-comment-text Plain depth start b p folded o = refl
-comment-text Open depth start b p folded o = absurd (miss (0 ∷ 1 ∷ 3 ∷ 6 ∷ 8 ∷ 10 ∷ 11 ∷ []) 4 tt o)
-comment-text Close depth start b p folded o = absurd (miss (0 ∷ 1 ∷ 3 ∷ 6 ∷ 8 ∷ 10 ∷ 11 ∷ []) 5 tt o)
-comment-text Quote depth start b p folded o = refl
-comment-text Backslash depth start b p folded o = absurd (miss (0 ∷ 1 ∷ 3 ∷ 6 ∷ 8 ∷ 10 ∷ 11 ∷ []) 7 tt o)
-comment-text (Mark class) depth start b p folded o = refl
-comment-text Above depth start b p folded o = absurd (miss (0 ∷ 1 ∷ 3 ∷ 6 ∷ 8 ∷ 10 ∷ 11 ∷ []) 9 tt o)
-comment-text OpenBracket depth start b p folded o = refl
-comment-text CloseBracket depth start b p folded o = refl
+pub comment_text : (kind : ByteKind) (depth start b p : ℕ) (folded : Bool) → Text kind → move (in_comment depth start) kind b p folded ≡ go [] (in_comment depth start)
+comment_text White depth start b p folded o = refl
+comment_text Control depth start b p folded o = refl
+comment_text Return depth start b p folded o = absurd (miss (0 ∷ 1 ∷ 3 ∷ 6 ∷ 8 ∷ 10 ∷ 11 ∷ []) 2 tt o)
+comment_text Plain depth start b p folded o = refl
+comment_text Open depth start b p folded o = absurd (miss (0 ∷ 1 ∷ 3 ∷ 6 ∷ 8 ∷ 10 ∷ 11 ∷ []) 4 tt o)
+comment_text Close depth start b p folded o = absurd (miss (0 ∷ 1 ∷ 3 ∷ 6 ∷ 8 ∷ 10 ∷ 11 ∷ []) 5 tt o)
+comment_text Quote depth start b p folded o = refl
+comment_text Backslash depth start b p folded o = absurd (miss (0 ∷ 1 ∷ 3 ∷ 6 ∷ 8 ∷ 10 ∷ 11 ∷ []) 7 tt o)
+comment_text (Mark class) depth start b p folded o = refl
+comment_text Above depth start b p folded o = absurd (miss (0 ∷ 1 ∷ 3 ∷ 6 ∷ 8 ∷ 10 ∷ 11 ∷ []) 9 tt o)
+comment_text OpenBracket depth start b p folded o = refl
+comment_text CloseBracket depth start b p folded o = refl
 
 -- a lone ")" or backslash
 stray : (kind : ByteKind) (b p : ℕ) (folded : Bool) → OneOf (5 ∷ 7 ∷ 11 ∷ []) (tag kind) → move outside kind b p folded ≡ go (single Stray b p ∷ []) outside
@@ -141,24 +141,24 @@ stray OpenBracket b p folded o = absurd (miss (5 ∷ 7 ∷ 11 ∷ []) 10 tt o)
 stray CloseBracket b p folded o = refl
 
 -- a control byte outside
-stray-control : (kind : ByteKind) (b p : ℕ) (folded : Bool) → OneOf (1 ∷ 2 ∷ []) (tag kind) → move outside kind b p folded ≡ halt [] stray_control p
-stray-control White b p folded o = absurd (miss (1 ∷ 2 ∷ []) 0 tt o)
-stray-control Control b p folded o = refl
-stray-control Return b p folded o = refl
-stray-control Plain b p folded o = absurd (miss (1 ∷ 2 ∷ []) 3 tt o)
-stray-control Open b p folded o = absurd (miss (1 ∷ 2 ∷ []) 4 tt o)
-stray-control Close b p folded o = absurd (miss (1 ∷ 2 ∷ []) 5 tt o)
-stray-control Quote b p folded o = absurd (miss (1 ∷ 2 ∷ []) 6 tt o)
-stray-control Backslash b p folded o = absurd (miss (1 ∷ 2 ∷ []) 7 tt o)
-stray-control (Mark class) b p folded o = absurd (miss (1 ∷ 2 ∷ []) 8 tt o)
-stray-control Above b p folded o = absurd (miss (1 ∷ 2 ∷ []) 9 tt o)
-stray-control OpenBracket b p folded o = absurd (miss (1 ∷ 2 ∷ []) 10 tt o)
-stray-control CloseBracket b p folded o = absurd (miss (1 ∷ 2 ∷ []) 11 tt o)
+stray_control_lem : (kind : ByteKind) (b p : ℕ) (folded : Bool) → OneOf (1 ∷ 2 ∷ []) (tag kind) → move outside kind b p folded ≡ halt [] stray_control p
+stray_control_lem White b p folded o = absurd (miss (1 ∷ 2 ∷ []) 0 tt o)
+stray_control_lem Control b p folded o = refl
+stray_control_lem Return b p folded o = refl
+stray_control_lem Plain b p folded o = absurd (miss (1 ∷ 2 ∷ []) 3 tt o)
+stray_control_lem Open b p folded o = absurd (miss (1 ∷ 2 ∷ []) 4 tt o)
+stray_control_lem Close b p folded o = absurd (miss (1 ∷ 2 ∷ []) 5 tt o)
+stray_control_lem Quote b p folded o = absurd (miss (1 ∷ 2 ∷ []) 6 tt o)
+stray_control_lem Backslash b p folded o = absurd (miss (1 ∷ 2 ∷ []) 7 tt o)
+stray_control_lem (Mark class) b p folded o = absurd (miss (1 ∷ 2 ∷ []) 8 tt o)
+stray_control_lem Above b p folded o = absurd (miss (1 ∷ 2 ∷ []) 9 tt o)
+stray_control_lem OpenBracket b p folded o = absurd (miss (1 ∷ 2 ∷ []) 10 tt o)
+stray_control_lem CloseBracket b p folded o = absurd (miss (1 ∷ 2 ∷ []) 11 tt o)
 
 -- ---- an atom and its bytes
 
-pub part-more : (text : List ℕ) (start p : ℕ) → start ≤ p → p < length text → part text start p ++ (get_or text p 0 ∷ []) ≡ part text start (p + 1)
-part-more text start p h k =
+pub part_more : (text : List ℕ) (start p : ℕ) → start ≤ p → p < length text → part text start p ++ (get_or text p 0 ∷ []) ≡ part text start (p + 1)
+part_more text start p h k =
     let e : p + 1 - start ≡ suc (p - start) = omega arith in
     let n : start + (p - start) ≡ p = omega arith in
     let g : get_or (drop start text) (p - start) 0 ≡ get_or text p 0 = rw (get_or-drop, n) in
@@ -166,32 +166,32 @@ part-more text start p h k =
     rw e (sym (take-suc (drop start text) (p - start) 0 j ∙ rw g))
 
 -- the part of one byte
-pub part-one : (text : List ℕ) (p q : ℕ) → q ≡ p + 1 → q ≤ length text → get_or text p 0 ∷ [] ≡ part text p q
-part-one text p q e h = rw e (ap (λ l. l ++ (get_or text p 0 ∷ [])) (sym (part_none text p p (omega arith))) ∙ part-more text p p (omega arith) (omega arith))
+pub part_one : (text : List ℕ) (p q : ℕ) → q ≡ p + 1 → q ≤ length text → get_or text p 0 ∷ [] ≡ part text p q
+part_one text p q e h = rw e (ap (λ l. l ++ (get_or text p 0 ∷ [])) (sym (part_none text p p (omega arith))) ∙ part_more text p p (omega arith) (omega arith))
 
-plain-white : Plain ≡ White → ⊥
-plain-white e = let o : ◌≡◌ {A = ℕ} 0 1 = cc in omega arith
+plain_white : Plain ≡ White → ⊥
+plain_white e = let o : ◌≡◌ {A = ℕ} 0 1 = cc in omega arith
 
 -- a plain byte goes on with the atom
-pub atom-on : {classes text : List ℕ} {at p q : ℕ} (start : ℕ) → start ≤ at → FirstCharacter classes text at Plain p q
+pub atom_on : {classes text : List ℕ} {at p q : ℕ} (start : ℕ) → start ≤ at → FirstCharacter classes text at Plain p q
     → scan_from classes (characters_at text at) (in_atom start at (part text start at)) ≡ scan_from classes (characters_at text q) (in_atom start q (part text start q))
-atom-on {classes} {text} {at} {p} {q} start l x =
-    let e : p ≡ at = x.tight plain-white in
+atom_on {classes} {text} {at} {p} {q} start l x =
+    let e : p ≡ at = x.tight plain_white in
     let n : q ≡ p + 1 = x.behind in
     let w : q ≤ length text = x.within in
-    let k : part text start at ++ (get_or text p 0 ∷ []) ≡ part text start q = rw (n, e) (part-more text start at l (omega arith)) in
+    let k : part text start at ++ (get_or text p 0 ∷ []) ≡ part text start q = rw (n, e) (part_more text start at l (omega arith)) in
     moves x (in_atom start at (part text start at)) (go [] (in_atom start (p + 1) (part text start at ++ (get_or text p 0 ∷ [])))) refl ∙ rw (k, ← n)
 
 -- a plain byte outside begins one
-pub atom-begins : {classes text : List ℕ} {at p q : ℕ} → FirstCharacter classes text at Plain p q
+pub atom_begins : {classes text : List ℕ} {at p q : ℕ} → FirstCharacter classes text at Plain p q
     → outside_at classes text at ≡ scan_from classes (characters_at text q) (in_atom p q (part text p q))
-atom-begins {classes} {text} {at} {p} {q} x =
-    moves x outside (go [] (in_atom p (p + 1) (get_or text p 0 ∷ []))) refl ∙ rw (part-one text p q x.behind x.within, ← x.behind)
+atom_begins {classes} {text} {at} {p} {q} x =
+    moves x outside (go [] (in_atom p (p + 1) (get_or text p 0 ∷ []))) refl ∙ rw (part_one text p q x.behind x.within, ← x.behind)
 
 -- the text ends in an atom
-pub atom-last : (classes text : List ℕ) (start at : ℕ) (t : List ℕ) → characters_at text at ≡ []
+pub atom_last : (classes text : List ℕ) (start at : ℕ) (t : List ℕ) → characters_at text at ≡ []
     → scan_from classes (characters_at text at) (in_atom start at t) ≡ next (atom start at t) (outside_at classes text at)
-atom-last classes text start at t e = at-end classes text at (in_atom start at t) e ∙ ap (next (atom start at t)) (sym (at-end classes text at outside e))
+atom_last classes text start at t e = at_end_lem classes text at (in_atom start at t) e ∙ ap (next (atom start at t)) (sym (at_end_lem classes text at outside e))
 
 -- ---- a quoted-string
 
@@ -206,8 +206,8 @@ module _ {classes text : List ℕ} {start at p : ℕ} (w : Quoting classes text 
   quoted_moves x m e = w.same ∙ moves x (in_quoted start w.meaning) m e
 
   -- data as they are
-  unfoldable pub quoted-on : {q r : ℕ} {kind : ByteKind} → FirstCharacter classes text p kind q r → Data kind → Quoting classes text start at r
-  quoted-on {q} {kind = kind} x o =
+  unfoldable pub quoted_on : {q r : ℕ} {kind : ByteKind} → FirstCharacter classes text p kind q r → Data kind → Quoting classes text start at r
+  quoted_on {q} {kind = kind} x o =
       record { meaning = w.meaning ++ (get_or text q 0 ∷ []); same = quoted_moves x (go [] (in_quoted start (w.meaning ++ (get_or text q 0 ∷ [])))) (quoted_data kind start w.meaning (get_or text q 0) q x.folded o) }
 
   -- a backslash, and what comes of the character after it
@@ -216,8 +216,8 @@ module _ {classes text : List ℕ} {start at p : ℕ} (w : Quoting classes text 
       → scan_from classes (characters_at text at) (in_quoted start []) ≡ then m (λ state. scan_from classes (characters_at text u) state)
   quoted_taking x y m e = quoted_moves x (go [] (taking_in_quoted start w.meaning)) refl ∙ moves y (taking_in_quoted start w.meaning) m e
 
-  unfoldable pub quoted-taken : {q r s u : ℕ} {kind : ByteKind} → FirstCharacter classes text p Backslash q r → FirstCharacter classes text r kind s u → Taken kind → Quoting classes text start at u
-  quoted-taken {s = s} {kind = kind} x y o =
+  unfoldable pub quoted_taken : {q r s u : ℕ} {kind : ByteKind} → FirstCharacter classes text p Backslash q r → FirstCharacter classes text r kind s u → Taken kind → Quoting classes text start at u
+  quoted_taken {s = s} {kind = kind} x y o =
       let t : List ℕ = w.meaning ++ taken_data (get_or text s 0) y.folded in
       record { meaning = t; same = quoted_taking x y (go [] (in_quoted start t)) (taken kind (in_quoted start t) s o) }
 
@@ -235,19 +235,19 @@ pub record Counting (classes text : List ℕ) (start at p size : ℕ) : Type 0 w
 
 module _ {classes text : List ℕ} {start at p size : ℕ} (w : Counting classes text start at p size) where
   pub counting_on : {q r : ℕ} {kind : ByteKind} → FirstCharacter classes text p kind q r → Data kind → Counting classes text start at r (size + 1)
-  unfolding quoted-on
+  unfolding quoted_on
   counting_on {q} x o =
       record {
-        quoting = quoted-on w.quoting x o;
+        quoting = quoted_on w.quoting x o;
         size_is = rw w.size_is (sym (length-append w.quoting.meaning (get_or text q 0 ∷ [])));
         low = omega (arith, w.low, x.from, x.behind);
       }
 
   pub counting_taken : {q r s u : ℕ} {kind : ByteKind} → FirstCharacter classes text p Backslash q r → FirstCharacter classes text r kind s u → Taken kind → Counting classes text start at u (size + (u - r))
-  unfolding quoted-taken
+  unfolding quoted_taken
   counting_taken {r = r} {s = s} {u = u} x y o =
       record {
-        quoting = quoted-taken w.quoting x y o;
+        quoting = quoted_taken w.quoting x y o;
         size_is = rw (w.size_is, ← (taken-length (get_or text s 0) r s u y.folded y.distance y.behind)) (sym (length-append w.quoting.meaning (taken_data (get_or text s 0) y.folded)));
         low = omega (arith, w.low, x.from, x.behind, y.from, y.behind);
       }
@@ -298,9 +298,9 @@ module _ {classes text : List ℕ} {start at p : ℕ} (w : InLiteral classes tex
 pub record Commenting (classes text : List ℕ) (start at depth p : ℕ) : Type 0 where
   pub same : scan_from classes (characters_at text at) (in_comment 0 start) ≡ scan_from classes (characters_at text p) (in_comment depth start)
 
-pub closed-inner : (depth start : ℕ) → (depth ≡ 0 → ⊥) → closed depth start ≡ in_comment (depth - 1) start
-closed-inner zero start n = absurd (n refl)
-closed-inner (suc depth) start n = let e : depth ≡ suc depth - 1 = omega arith in ap (λ (d : ℕ). in_comment d start) e
+pub closed_inner : (depth start : ℕ) → (depth ≡ 0 → ⊥) → closed depth start ≡ in_comment (depth - 1) start
+closed_inner zero start n = absurd (n refl)
+closed_inner (suc depth) start n = let e : depth ≡ suc depth - 1 = omega arith in ap (λ (d : ℕ). in_comment d start) e
 
 module _ {classes text : List ℕ} {start at depth p : ℕ} (w : Commenting classes text start at depth p) where
   pub comment_moves : {q r : ℕ} {kind : ByteKind} (x : FirstCharacter classes text p kind q r) (m : Move) → move (in_comment depth start) kind (get_or text q 0) q x.folded ≡ m
@@ -308,20 +308,20 @@ module _ {classes text : List ℕ} {start at depth p : ℕ} (w : Commenting clas
   comment_moves x m e = w.same ∙ moves x (in_comment depth start) m e
 
   -- text as it is
-  pub comment-on : {q r : ℕ} {kind : ByteKind} → FirstCharacter classes text p kind q r → Text kind → Commenting classes text start at depth r
-  comment-on {q} {kind = kind} x o = record { same = comment_moves x (go [] (in_comment depth start)) (comment-text kind depth start (get_or text q 0) q x.folded o) }
+  pub comment_on : {q r : ℕ} {kind : ByteKind} → FirstCharacter classes text p kind q r → Text kind → Commenting classes text start at depth r
+  comment_on {q} {kind = kind} x o = record { same = comment_moves x (go [] (in_comment depth start)) (comment_text kind depth start (get_or text q 0) q x.folded o) }
 
   -- a comment in it opens
-  pub comment-opens : {q r : ℕ} → FirstCharacter classes text p Open q r → Commenting classes text start at (depth + 1) r
-  comment-opens x = record { same = comment_moves x (go [] (in_comment (suc depth) start)) refl ∙ rw add-one }
+  pub comment_opens : {q r : ℕ} → FirstCharacter classes text p Open q r → Commenting classes text start at (depth + 1) r
+  comment_opens x = record { same = comment_moves x (go [] (in_comment (suc depth) start)) refl ∙ rw add-one }
 
   -- a comment in it closes
-  pub comment-closes : {q r : ℕ} → FirstCharacter classes text p Close q r → (depth ≡ 0 → ⊥) → Commenting classes text start at (depth - 1) r
-  comment-closes x n = record { same = comment_moves x (go [] (closed depth start)) refl ∙ rw (closed-inner depth start n) }
+  pub comment_closes : {q r : ℕ} → FirstCharacter classes text p Close q r → (depth ≡ 0 → ⊥) → Commenting classes text start at (depth - 1) r
+  comment_closes x n = record { same = comment_moves x (go [] (closed depth start)) refl ∙ rw (closed_inner depth start n) }
 
   -- it closes itself, and scanning goes on outside
-  pub comment-over : {q r : ℕ} → FirstCharacter classes text p Close q r → depth ≡ 0 → scan_from classes (characters_at text at) (in_comment 0 start) ≡ outside_at classes text r
-  comment-over x e = comment_moves x (go [] (closed depth start)) refl ∙ rw e
+  pub comment_over : {q r : ℕ} → FirstCharacter classes text p Close q r → depth ≡ 0 → scan_from classes (characters_at text at) (in_comment 0 start) ≡ outside_at classes text r
+  comment_over x e = comment_moves x (go [] (closed depth start)) refl ∙ rw e
 
   -- a backslash, and what comes of the character after it
   pub comment_taking : {q r s u : ℕ} {kind : ByteKind} → FirstCharacter classes text p Backslash q r → FirstCharacter classes text r kind s u → (m : Move)
@@ -329,25 +329,25 @@ module _ {classes text : List ℕ} {start at depth p : ℕ} (w : Commenting clas
       → scan_from classes (characters_at text at) (in_comment 0 start) ≡ then m (λ state. scan_from classes (characters_at text u) state)
   comment_taking x y m e = comment_moves x (go [] (taking_in_comment depth start)) refl ∙ moves y (taking_in_comment depth start) m e
 
-  pub comment-taken : {q r s u : ℕ} {kind : ByteKind} → FirstCharacter classes text p Backslash q r → FirstCharacter classes text r kind s u → Taken kind → Commenting classes text start at depth u
-  comment-taken {s = s} {kind = kind} x y o =
+  pub comment_taken : {q r s u : ℕ} {kind : ByteKind} → FirstCharacter classes text p Backslash q r → FirstCharacter classes text r kind s u → Taken kind → Commenting classes text start at depth u
+  comment_taken {s = s} {kind = kind} x y o =
       record { same = comment_taking x y (go [] (in_comment depth start)) (taken kind (in_comment depth start) s o) }
 
 -- ---- symbols and faults of one character, outside
 
 module _ {classes text : List ℕ} {at p q : ℕ} where
   -- a single byte that is a symbol
-  single-next : {kind : ByteKind} (class : Class) (x : FirstCharacter classes text at kind p q) → move outside kind (get_or text p 0) p x.folded ≡ go (single class (get_or text p 0) p ∷ []) outside
+  single_next : {kind : ByteKind} (class : Class) (x : FirstCharacter classes text at kind p q) → move outside kind (get_or text p 0) p x.folded ≡ go (single class (get_or text p 0) p ∷ []) outside
       → outside_at classes text at ≡ next (symbol class p q (get_or text p 0 ∷ [])) (outside_at classes text q)
-  single-next class x e =
+  single_next class x e =
       moves x outside (go (single class (get_or text p 0) p ∷ []) outside) e
       ∙ ap (λ (end : ℕ). next (symbol class p end (get_or text p 0 ∷ [])) (outside_at classes text q)) (sym x.behind)
 
-  pub mark-next : {class : Class} → FirstCharacter classes text at (Mark class) p q → outside_at classes text at ≡ next (symbol class p q (get_or text p 0 ∷ [])) (outside_at classes text q)
-  mark-next {class} x = single-next class x refl
+  pub mark_next : {class : Class} → FirstCharacter classes text at (Mark class) p q → outside_at classes text at ≡ next (symbol class p q (get_or text p 0 ∷ [])) (outside_at classes text q)
+  mark_next {class} x = single_next class x refl
 
-  pub stray-next : {kind : ByteKind} → FirstCharacter classes text at kind p q → OneOf (5 ∷ 7 ∷ 11 ∷ []) (tag kind) → outside_at classes text at ≡ next (symbol Stray p q (get_or text p 0 ∷ [])) (outside_at classes text q)
-  stray-next {kind} x o = single-next Stray x (stray kind (get_or text p 0) p x.folded o)
+  pub stray_next : {kind : ByteKind} → FirstCharacter classes text at kind p q → OneOf (5 ∷ 7 ∷ 11 ∷ []) (tag kind) → outside_at classes text at ≡ next (symbol Stray p q (get_or text p 0 ∷ [])) (outside_at classes text q)
+  stray_next {kind} x o = single_next Stray x (stray kind (get_or text p 0) p x.folded o)
 
-  pub control-next : {kind : ByteKind} → FirstCharacter classes text at kind p q → OneOf (1 ∷ 2 ∷ []) (tag kind) → outside_at classes text at ≡ fault_at stray_control p
-  control-next {kind} x o = moves x outside (halt [] stray_control p) (stray-control kind (get_or text p 0) p x.folded o)
+  pub control_next : {kind : ByteKind} → FirstCharacter classes text at kind p q → OneOf (1 ∷ 2 ∷ []) (tag kind) → outside_at classes text at ≡ fault_at stray_control p
+  control_next {kind} x o = moves x outside (halt [] stray_control p) (stray_control_lem kind (get_or text p 0) p x.folded o)

@@ -8,18 +8,18 @@ use Rattle.scanner.specs.Believed.Answers.{next_of, unless_fault, fault_of}
 use Rattle.scanner.specs.Ties.Cursors.{moved}
 
 -- the first fault is the same
-pub same-fault : {A : Type 0} (refused : ℕ → ℕ → A) (from : ℕ) (s : Scanned) (otherwise : A) → unless_fault refused (parted from s) otherwise ≡ unless_fault refused s otherwise
+pub same_fault : {A : Type 0} (refused : ℕ → ℕ → A) (from : ℕ) (s : Scanned) (otherwise : A) → unless_fault refused (parted from s) otherwise ≡ unless_fault refused s otherwise
 unfolding parted unless_fault
-same-fault refused from ended otherwise = refl
-same-fault refused from (next x rest) otherwise = same-fault refused x.lexeme.end rest otherwise
-same-fault refused from (fault_at number p) otherwise = refl
+same_fault refused from ended otherwise = refl
+same_fault refused from (next x rest) otherwise = same_fault refused x.lexeme.end rest otherwise
+same_fault refused from (fault_at number p) otherwise = refl
 
-pub fault-parted : (from : ℕ) (s : Scanned) → fault_of (parted from s) ≡ fault_of s
-fault-parted from s = same-fault Refused from s (Accepted 0)
+pub fault_parted : (from : ℕ) (s : Scanned) → fault_of (parted from s) ≡ fault_of s
+fault_parted from s = same_fault Refused from s (Accepted 0)
 
 -- a cursor moves on to the same places
-pub moved-parted : (from p : ℕ) (s : Scanned) (cursor : List ℕ) → moved (next_of (parted p s)) cursor ≡ moved (next_of (parted from s)) cursor
+pub moved_parted : (from p : ℕ) (s : Scanned) (cursor : List ℕ) → moved (next_of (parted p s)) cursor ≡ moved (next_of (parted from s)) cursor
 unfolding parted
-moved-parted from p ended cursor = refl
-moved-parted from p (next x rest) cursor = refl
-moved-parted from p (fault_at number q) cursor = refl
+moved_parted from p ended cursor = refl
+moved_parted from p (next x rest) cursor = refl
+moved_parted from p (fault_at number q) cursor = refl

@@ -1,4 +1,4 @@
--- What a text scans to is the unfolding of the next-symbol step: a symbol lies in the text, after the position asked, and scanning goes on from its end.
+-- What a text scans to is the unfolding of the next_symbol step: a symbol lies in the text, after the position asked, and scanning goes on from its end.
 -- Assumes nothing.
 use mathlib.Core.Path.{◌≡◌, refl, sym, ap, ◌∙◌}
 use mathlib.Core.Bool.{Bool, true, false}
@@ -26,7 +26,7 @@ use Rattle.scanner.specs.declared.Next.TheVariants.{Ended, Fault}
 use Rattle.scanner.specs.declared.ByteKind.{ByteKind}
 use Rattle.scanner.specs.declared.ByteKind.TheVariants.{White, Control, Return, Plain, Open, Close, Quote, Backslash, Mark, Above, OpenBracket, CloseBracket}
 use Rattle.scanner.proofs.CharacterLaws.{View, over, one, view}
-use Rattle.scanner.proofs.MoveLaws.{tag, part-one, NotPlain, Data, Taken, at-end, moves, atom-on, atom-begins, atom-ends, atom-last, Quoting, quoted_moves, quoted-on, quoted_taking, quoted-taken, InLiteral, literal_moves, literal_on, literal_taking, literal_taken, Commenting, comment_moves, comment-on, comment-opens, comment-closes, comment-over, comment_taking, comment-taken, mark-next, stray-next, control-next}
+use Rattle.scanner.proofs.MoveLaws.{tag, part_one, NotPlain, Data, Taken, at_end_lem, moves, atom_on, atom_begins, atom_ends, atom_last, Quoting, quoted_moves, quoted_on, quoted_taking, quoted_taken, InLiteral, literal_moves, literal_on, literal_taking, literal_taken, Commenting, comment_moves, comment_on, comment_opens, comment_closes, comment_over, comment_taking, comment_taken, mark_next, stray_next, control_next}
 use Rattle.scanner.specs.Ties.Meanings.{data_at, meaning_at}
 use Rattle.scanner.proofs.Meanings.{AsData, data_on, data_backslash, data_taken, data_quote}
 
@@ -37,35 +37,35 @@ module _ (classes text : List ℕ) where
     end : ℕ
     is : AtomEnds classes text start at end
 
-  atom-further : {start at p q : ℕ} → start ≤ at → FirstCharacter classes text at Plain p q → Ends start q → Ends start at
-  atom-further {start} l x e =
-      record { end = e.end; is = record { same = atom-on start l x ∙ e.is.same; from = omega (arith, x.from, x.behind, e.is.from); within = e.is.within } }
+  atom_further : {start at p q : ℕ} → start ≤ at → FirstCharacter classes text at Plain p q → Ends start q → Ends start at
+  atom_further {start} l x e =
+      record { end = e.end; is = record { same = atom_on start l x ∙ e.is.same; from = omega (arith, x.from, x.behind, e.is.from); within = e.is.within } }
 
-  atom-here : {start at p q : ℕ} {kind : ByteKind} → at ≤ length text → FirstCharacter classes text at kind p q → NotPlain kind → Ends start at
-  atom-here {start} {at} h x o = record { end = at; is = record { same = atom-ends start (part text start at) x o; from = omega arith; within = h } }
+  atom_here : {start at p q : ℕ} {kind : ByteKind} → at ≤ length text → FirstCharacter classes text at kind p q → NotPlain kind → Ends start at
+  atom_here {start} {at} h x o = record { end = at; is = record { same = atom_ends start (part text start at) x o; from = omega arith; within = h } }
 
   atom_by : (start at : ℕ) {p q : ℕ} (kind : ByteKind) → start ≤ at → at ≤ length text → FirstCharacter classes text at kind p q → Ends start q → Ends start at
-  atom_by start at White l h x e = atom-here h x (hit (0 ∷ 1 ∷ 2 ∷ 4 ∷ 5 ∷ 6 ∷ 7 ∷ 8 ∷ 9 ∷ 10 ∷ 11 ∷ []) 0 tt)
-  atom_by start at Control l h x e = atom-here h x (hit (0 ∷ 1 ∷ 2 ∷ 4 ∷ 5 ∷ 6 ∷ 7 ∷ 8 ∷ 9 ∷ 10 ∷ 11 ∷ []) 1 tt)
-  atom_by start at Return l h x e = atom-here h x (hit (0 ∷ 1 ∷ 2 ∷ 4 ∷ 5 ∷ 6 ∷ 7 ∷ 8 ∷ 9 ∷ 10 ∷ 11 ∷ []) 2 tt)
-  atom_by start at Plain l h x e = atom-further l x e
-  atom_by start at Open l h x e = atom-here h x (hit (0 ∷ 1 ∷ 2 ∷ 4 ∷ 5 ∷ 6 ∷ 7 ∷ 8 ∷ 9 ∷ 10 ∷ 11 ∷ []) 4 tt)
-  atom_by start at Close l h x e = atom-here h x (hit (0 ∷ 1 ∷ 2 ∷ 4 ∷ 5 ∷ 6 ∷ 7 ∷ 8 ∷ 9 ∷ 10 ∷ 11 ∷ []) 5 tt)
-  atom_by start at Quote l h x e = atom-here h x (hit (0 ∷ 1 ∷ 2 ∷ 4 ∷ 5 ∷ 6 ∷ 7 ∷ 8 ∷ 9 ∷ 10 ∷ 11 ∷ []) 6 tt)
-  atom_by start at Backslash l h x e = atom-here h x (hit (0 ∷ 1 ∷ 2 ∷ 4 ∷ 5 ∷ 6 ∷ 7 ∷ 8 ∷ 9 ∷ 10 ∷ 11 ∷ []) 7 tt)
-  atom_by start at (Mark class) l h x e = atom-here h x (hit (0 ∷ 1 ∷ 2 ∷ 4 ∷ 5 ∷ 6 ∷ 7 ∷ 8 ∷ 9 ∷ 10 ∷ 11 ∷ []) 8 tt)
-  atom_by start at Above l h x e = atom-here h x (hit (0 ∷ 1 ∷ 2 ∷ 4 ∷ 5 ∷ 6 ∷ 7 ∷ 8 ∷ 9 ∷ 10 ∷ 11 ∷ []) 9 tt)
-  atom_by start at OpenBracket l h x e = atom-here h x (hit (0 ∷ 1 ∷ 2 ∷ 4 ∷ 5 ∷ 6 ∷ 7 ∷ 8 ∷ 9 ∷ 10 ∷ 11 ∷ []) 10 tt)
-  atom_by start at CloseBracket l h x e = atom-here h x (hit (0 ∷ 1 ∷ 2 ∷ 4 ∷ 5 ∷ 6 ∷ 7 ∷ 8 ∷ 9 ∷ 10 ∷ 11 ∷ []) 11 tt)
+  atom_by start at White l h x e = atom_here h x (hit (0 ∷ 1 ∷ 2 ∷ 4 ∷ 5 ∷ 6 ∷ 7 ∷ 8 ∷ 9 ∷ 10 ∷ 11 ∷ []) 0 tt)
+  atom_by start at Control l h x e = atom_here h x (hit (0 ∷ 1 ∷ 2 ∷ 4 ∷ 5 ∷ 6 ∷ 7 ∷ 8 ∷ 9 ∷ 10 ∷ 11 ∷ []) 1 tt)
+  atom_by start at Return l h x e = atom_here h x (hit (0 ∷ 1 ∷ 2 ∷ 4 ∷ 5 ∷ 6 ∷ 7 ∷ 8 ∷ 9 ∷ 10 ∷ 11 ∷ []) 2 tt)
+  atom_by start at Plain l h x e = atom_further l x e
+  atom_by start at Open l h x e = atom_here h x (hit (0 ∷ 1 ∷ 2 ∷ 4 ∷ 5 ∷ 6 ∷ 7 ∷ 8 ∷ 9 ∷ 10 ∷ 11 ∷ []) 4 tt)
+  atom_by start at Close l h x e = atom_here h x (hit (0 ∷ 1 ∷ 2 ∷ 4 ∷ 5 ∷ 6 ∷ 7 ∷ 8 ∷ 9 ∷ 10 ∷ 11 ∷ []) 5 tt)
+  atom_by start at Quote l h x e = atom_here h x (hit (0 ∷ 1 ∷ 2 ∷ 4 ∷ 5 ∷ 6 ∷ 7 ∷ 8 ∷ 9 ∷ 10 ∷ 11 ∷ []) 6 tt)
+  atom_by start at Backslash l h x e = atom_here h x (hit (0 ∷ 1 ∷ 2 ∷ 4 ∷ 5 ∷ 6 ∷ 7 ∷ 8 ∷ 9 ∷ 10 ∷ 11 ∷ []) 7 tt)
+  atom_by start at (Mark class) l h x e = atom_here h x (hit (0 ∷ 1 ∷ 2 ∷ 4 ∷ 5 ∷ 6 ∷ 7 ∷ 8 ∷ 9 ∷ 10 ∷ 11 ∷ []) 8 tt)
+  atom_by start at Above l h x e = atom_here h x (hit (0 ∷ 1 ∷ 2 ∷ 4 ∷ 5 ∷ 6 ∷ 7 ∷ 8 ∷ 9 ∷ 10 ∷ 11 ∷ []) 9 tt)
+  atom_by start at OpenBracket l h x e = atom_here h x (hit (0 ∷ 1 ∷ 2 ∷ 4 ∷ 5 ∷ 6 ∷ 7 ∷ 8 ∷ 9 ∷ 10 ∷ 11 ∷ []) 10 tt)
+  atom_by start at CloseBracket l h x e = atom_here h x (hit (0 ∷ 1 ∷ 2 ∷ 4 ∷ 5 ∷ 6 ∷ 7 ∷ 8 ∷ 9 ∷ 10 ∷ 11 ∷ []) 11 tt)
 
   atom_view : (start at : ℕ) → start ≤ at → at ≤ length text → View classes text at → ((q : ℕ) → at < q → q ≤ length text → Ends start q) → Ends start at
-  atom_view start at l h (over e) f = record { end = at; is = record { same = atom-last classes text start at (part text start at) e; from = omega arith; within = h } }
+  atom_view start at l h (over e) f = record { end = at; is = record { same = atom_last classes text start at (part text start at) e; from = omega arith; within = h } }
   atom_view start at l h (one {kind} {q = q} x) f = atom_by start at kind l h x (f q (omega (arith, x.from, x.behind)) x.within)
 
   -- from any position in an atom, with at most `n` bytes left
-  atom-run : (n start at : ℕ) → length text ≤ at + n → start ≤ at → at ≤ length text → Ends start at
-  atom-run zero start at m l h = atom_view start at l h (view classes text at) (λ q a b. absurd (omega arith))
-  atom-run (suc n) start at m l h = atom_view start at l h (view classes text at) (λ q a b. atom-run n start q (omega arith) (omega arith) b)
+  atom_run : (n start at : ℕ) → length text ≤ at + n → start ≤ at → at ≤ length text → Ends start at
+  atom_run zero start at m l h = atom_view start at l h (view classes text at) (λ q a b. absurd (omega arith))
+  atom_run (suc n) start at m l h = atom_view start at l h (view classes text at) (λ q a b. atom_run n start q (omega arith) (omega arith) b)
 
   -- ---- a quoted-string closes, or there is a fault
 
@@ -81,15 +81,15 @@ module _ (classes text : List ℕ) where
     from : at ≤ p
 
   passed_data : {start at p q r : ℕ} {kind : ByteKind} → Passed start at p → FirstCharacter classes text p kind q r → Data kind → AsData kind → Passed start at r
-  unfolding quoted-on
+  unfolding quoted_on
   passed_data w x o d =
-      record { quoting = quoted-on w.quoting x o; data_so_far = w.data_so_far ∙ rw (data_on x d, append_assoc); from = omega (arith, w.from, x.from, x.behind) }
+      record { quoting = quoted_on w.quoting x o; data_so_far = w.data_so_far ∙ rw (data_on x d, append_assoc); from = omega (arith, w.from, x.from, x.behind) }
 
   passed_taken : {start at p q r s u : ℕ} {kind : ByteKind} → Passed start at p → FirstCharacter classes text p Backslash q r → FirstCharacter classes text r kind s u → Taken kind → Passed start at u
-  unfolding quoted-taken
+  unfolding quoted_taken
   passed_taken w x y o =
       record {
-        quoting = quoted-taken w.quoting x y o;
+        quoting = quoted_taken w.quoting x y o;
         data_so_far = w.data_so_far ∙ rw (data_backslash x, data_taken y, append_assoc);
         from = omega (arith, w.from, x.from, x.behind, y.from, y.behind);
       }
@@ -119,7 +119,7 @@ module _ (classes text : List ℕ) where
   taking_view : (start at p : ℕ) {q r : ℕ} → Passed start at p → FirstCharacter classes text p Backslash q r → View classes text r
       → ((u : ℕ) → p < u → u ≤ length text → Passed start at u → Closes start at) → Closes start at
   taking_view start at p {r = r} w x (over e) f =
-      faulty quoted_not_closed start (quoted_moves w.quoting x (go [] (taking_in_quoted start w.quoting.meaning)) refl ∙ at-end classes text r _ e)
+      faulty quoted_not_closed start (quoted_moves w.quoting x (go [] (taking_in_quoted start w.quoting.meaning)) refl ∙ at_end_lem classes text r _ e)
   taking_view start at p w x (one {kind} {q = u} y) f = taking_by start at p kind w x y (λ z. f u (omega (arith, x.from, x.behind, y.from, y.behind)) y.within z)
 
   quoted_by : (start at p : ℕ) {q r : ℕ} (kind : ByteKind) → Passed start at p → FirstCharacter classes text p kind q r → View classes text r
@@ -138,12 +138,12 @@ module _ (classes text : List ℕ) where
   quoted_by start at p {r = r} CloseBracket w x v f = f r (omega (arith, x.from, x.behind)) x.within (passed_data w x (hit (0 ∷ 1 ∷ 3 ∷ 4 ∷ 5 ∷ 8 ∷ 10 ∷ 11 ∷ []) 11 tt) (λ b f. (refl, refl)))
 
   quoted_view : (start at p : ℕ) → Passed start at p → View classes text p → ((u : ℕ) → p < u → u ≤ length text → Passed start at u → Closes start at) → Closes start at
-  quoted_view start at p w (over e) f = faulty quoted_not_closed start (w.quoting.same ∙ at-end classes text p _ e)
+  quoted_view start at p w (over e) f = faulty quoted_not_closed start (w.quoting.same ∙ at_end_lem classes text p _ e)
   quoted_view start at p w (one {kind} {q = r} x) f = quoted_by start at p kind w x (view classes text r) f
 
-  quoted-run : (n start at p : ℕ) → length text ≤ p + n → Passed start at p → Closes start at
-  quoted-run zero start at p m w = quoted_view start at p w (view classes text p) (λ u a b z. absurd (omega arith))
-  quoted-run (suc n) start at p m w = quoted_view start at p w (view classes text p) (λ u a b z. quoted-run n start at u (omega arith) z)
+  quoted_run : (n start at p : ℕ) → length text ≤ p + n → Passed start at p → Closes start at
+  quoted_run zero start at p m w = quoted_view start at p w (view classes text p) (λ u a b z. absurd (omega arith))
+  quoted_run (suc n) start at p m w = quoted_view start at p w (view classes text p) (λ u a b z. quoted_run n start at u (omega arith) z)
 
   -- ---- a comment ends, or there is a fault
 
@@ -158,53 +158,53 @@ module _ (classes text : List ℕ) where
   leaving : (start at depth p : ℕ) {q r : ℕ} → Within start at depth p → FirstCharacter classes text p Close q r → ((depth' : ℕ) → Within start at depth' r → Leaves start at) → Leaves start at
   leaving start at depth p {r = r} w x f =
       elim (dec_lt 0 depth) [
-        | yes h ↦ f (depth - 1) record { commenting = comment-closes w.commenting x (λ e. absurd (omega arith)); from = omega (arith, w.from, x.from, x.behind) }
-        | no n ↦ leaves r record { same = comment-over w.commenting x (omega arith); from = omega (arith, w.from, x.from, x.behind); within = x.within }
+        | yes h ↦ f (depth - 1) record { commenting = comment_closes w.commenting x (λ e. absurd (omega arith)); from = omega (arith, w.from, x.from, x.behind) }
+        | no n ↦ leaves r record { same = comment_over w.commenting x (omega arith); from = omega (arith, w.from, x.from, x.behind); within = x.within }
       ]
 
   escaped_by : (start at depth p : ℕ) {q r s u : ℕ} (kind : ByteKind) → Within start at depth p → FirstCharacter classes text p Backslash q r → FirstCharacter classes text r kind s u
       → (Within start at depth u → Leaves start at) → Leaves start at
-  escaped_by start at depth p White w x y f = f record { commenting = comment-taken w.commenting x y (hit (0 ∷ 1 ∷ 2 ∷ 3 ∷ 4 ∷ 5 ∷ 6 ∷ 7 ∷ 8 ∷ 10 ∷ 11 ∷ []) 0 tt); from = omega (arith, w.from, x.from, x.behind, y.from, y.behind) }
-  escaped_by start at depth p Control w x y f = f record { commenting = comment-taken w.commenting x y (hit (0 ∷ 1 ∷ 2 ∷ 3 ∷ 4 ∷ 5 ∷ 6 ∷ 7 ∷ 8 ∷ 10 ∷ 11 ∷ []) 1 tt); from = omega (arith, w.from, x.from, x.behind, y.from, y.behind) }
-  escaped_by start at depth p Return w x y f = f record { commenting = comment-taken w.commenting x y (hit (0 ∷ 1 ∷ 2 ∷ 3 ∷ 4 ∷ 5 ∷ 6 ∷ 7 ∷ 8 ∷ 10 ∷ 11 ∷ []) 2 tt); from = omega (arith, w.from, x.from, x.behind, y.from, y.behind) }
-  escaped_by start at depth p Plain w x y f = f record { commenting = comment-taken w.commenting x y (hit (0 ∷ 1 ∷ 2 ∷ 3 ∷ 4 ∷ 5 ∷ 6 ∷ 7 ∷ 8 ∷ 10 ∷ 11 ∷ []) 3 tt); from = omega (arith, w.from, x.from, x.behind, y.from, y.behind) }
-  escaped_by start at depth p Open w x y f = f record { commenting = comment-taken w.commenting x y (hit (0 ∷ 1 ∷ 2 ∷ 3 ∷ 4 ∷ 5 ∷ 6 ∷ 7 ∷ 8 ∷ 10 ∷ 11 ∷ []) 4 tt); from = omega (arith, w.from, x.from, x.behind, y.from, y.behind) }
-  escaped_by start at depth p Close w x y f = f record { commenting = comment-taken w.commenting x y (hit (0 ∷ 1 ∷ 2 ∷ 3 ∷ 4 ∷ 5 ∷ 6 ∷ 7 ∷ 8 ∷ 10 ∷ 11 ∷ []) 5 tt); from = omega (arith, w.from, x.from, x.behind, y.from, y.behind) }
-  escaped_by start at depth p Quote w x y f = f record { commenting = comment-taken w.commenting x y (hit (0 ∷ 1 ∷ 2 ∷ 3 ∷ 4 ∷ 5 ∷ 6 ∷ 7 ∷ 8 ∷ 10 ∷ 11 ∷ []) 6 tt); from = omega (arith, w.from, x.from, x.behind, y.from, y.behind) }
-  escaped_by start at depth p Backslash w x y f = f record { commenting = comment-taken w.commenting x y (hit (0 ∷ 1 ∷ 2 ∷ 3 ∷ 4 ∷ 5 ∷ 6 ∷ 7 ∷ 8 ∷ 10 ∷ 11 ∷ []) 7 tt); from = omega (arith, w.from, x.from, x.behind, y.from, y.behind) }
-  escaped_by start at depth p (Mark class) w x y f = f record { commenting = comment-taken w.commenting x y (hit (0 ∷ 1 ∷ 2 ∷ 3 ∷ 4 ∷ 5 ∷ 6 ∷ 7 ∷ 8 ∷ 10 ∷ 11 ∷ []) 8 tt); from = omega (arith, w.from, x.from, x.behind, y.from, y.behind) }
+  escaped_by start at depth p White w x y f = f record { commenting = comment_taken w.commenting x y (hit (0 ∷ 1 ∷ 2 ∷ 3 ∷ 4 ∷ 5 ∷ 6 ∷ 7 ∷ 8 ∷ 10 ∷ 11 ∷ []) 0 tt); from = omega (arith, w.from, x.from, x.behind, y.from, y.behind) }
+  escaped_by start at depth p Control w x y f = f record { commenting = comment_taken w.commenting x y (hit (0 ∷ 1 ∷ 2 ∷ 3 ∷ 4 ∷ 5 ∷ 6 ∷ 7 ∷ 8 ∷ 10 ∷ 11 ∷ []) 1 tt); from = omega (arith, w.from, x.from, x.behind, y.from, y.behind) }
+  escaped_by start at depth p Return w x y f = f record { commenting = comment_taken w.commenting x y (hit (0 ∷ 1 ∷ 2 ∷ 3 ∷ 4 ∷ 5 ∷ 6 ∷ 7 ∷ 8 ∷ 10 ∷ 11 ∷ []) 2 tt); from = omega (arith, w.from, x.from, x.behind, y.from, y.behind) }
+  escaped_by start at depth p Plain w x y f = f record { commenting = comment_taken w.commenting x y (hit (0 ∷ 1 ∷ 2 ∷ 3 ∷ 4 ∷ 5 ∷ 6 ∷ 7 ∷ 8 ∷ 10 ∷ 11 ∷ []) 3 tt); from = omega (arith, w.from, x.from, x.behind, y.from, y.behind) }
+  escaped_by start at depth p Open w x y f = f record { commenting = comment_taken w.commenting x y (hit (0 ∷ 1 ∷ 2 ∷ 3 ∷ 4 ∷ 5 ∷ 6 ∷ 7 ∷ 8 ∷ 10 ∷ 11 ∷ []) 4 tt); from = omega (arith, w.from, x.from, x.behind, y.from, y.behind) }
+  escaped_by start at depth p Close w x y f = f record { commenting = comment_taken w.commenting x y (hit (0 ∷ 1 ∷ 2 ∷ 3 ∷ 4 ∷ 5 ∷ 6 ∷ 7 ∷ 8 ∷ 10 ∷ 11 ∷ []) 5 tt); from = omega (arith, w.from, x.from, x.behind, y.from, y.behind) }
+  escaped_by start at depth p Quote w x y f = f record { commenting = comment_taken w.commenting x y (hit (0 ∷ 1 ∷ 2 ∷ 3 ∷ 4 ∷ 5 ∷ 6 ∷ 7 ∷ 8 ∷ 10 ∷ 11 ∷ []) 6 tt); from = omega (arith, w.from, x.from, x.behind, y.from, y.behind) }
+  escaped_by start at depth p Backslash w x y f = f record { commenting = comment_taken w.commenting x y (hit (0 ∷ 1 ∷ 2 ∷ 3 ∷ 4 ∷ 5 ∷ 6 ∷ 7 ∷ 8 ∷ 10 ∷ 11 ∷ []) 7 tt); from = omega (arith, w.from, x.from, x.behind, y.from, y.behind) }
+  escaped_by start at depth p (Mark class) w x y f = f record { commenting = comment_taken w.commenting x y (hit (0 ∷ 1 ∷ 2 ∷ 3 ∷ 4 ∷ 5 ∷ 6 ∷ 7 ∷ 8 ∷ 10 ∷ 11 ∷ []) 8 tt); from = omega (arith, w.from, x.from, x.behind, y.from, y.behind) }
   escaped_by start at depth p Above w x y f = faulty byte_above_127 _ (comment_taking w.commenting x y (halt [] byte_above_127 _) refl)
-  escaped_by start at depth p OpenBracket w x y f = f record { commenting = comment-taken w.commenting x y (hit (0 ∷ 1 ∷ 2 ∷ 3 ∷ 4 ∷ 5 ∷ 6 ∷ 7 ∷ 8 ∷ 10 ∷ 11 ∷ []) 10 tt); from = omega (arith, w.from, x.from, x.behind, y.from, y.behind) }
-  escaped_by start at depth p CloseBracket w x y f = f record { commenting = comment-taken w.commenting x y (hit (0 ∷ 1 ∷ 2 ∷ 3 ∷ 4 ∷ 5 ∷ 6 ∷ 7 ∷ 8 ∷ 10 ∷ 11 ∷ []) 11 tt); from = omega (arith, w.from, x.from, x.behind, y.from, y.behind) }
+  escaped_by start at depth p OpenBracket w x y f = f record { commenting = comment_taken w.commenting x y (hit (0 ∷ 1 ∷ 2 ∷ 3 ∷ 4 ∷ 5 ∷ 6 ∷ 7 ∷ 8 ∷ 10 ∷ 11 ∷ []) 10 tt); from = omega (arith, w.from, x.from, x.behind, y.from, y.behind) }
+  escaped_by start at depth p CloseBracket w x y f = f record { commenting = comment_taken w.commenting x y (hit (0 ∷ 1 ∷ 2 ∷ 3 ∷ 4 ∷ 5 ∷ 6 ∷ 7 ∷ 8 ∷ 10 ∷ 11 ∷ []) 11 tt); from = omega (arith, w.from, x.from, x.behind, y.from, y.behind) }
 
   escaped_view : (start at depth p : ℕ) {q r : ℕ} → Within start at depth p → FirstCharacter classes text p Backslash q r → View classes text r
       → ((u depth' : ℕ) → p < u → u ≤ length text → Within start at depth' u → Leaves start at) → Leaves start at
   escaped_view start at depth p {r = r} w x (over e) f =
-      faulty comment_not_closed start (comment_moves w.commenting x (go [] (taking_in_comment depth start)) refl ∙ at-end classes text r _ e)
+      faulty comment_not_closed start (comment_moves w.commenting x (go [] (taking_in_comment depth start)) refl ∙ at_end_lem classes text r _ e)
   escaped_view start at depth p w x (one {kind} {q = u} y) f = escaped_by start at depth p kind w x y (λ z. f u depth (omega (arith, x.from, x.behind, y.from, y.behind)) y.within z)
 
   comment_by : (start at depth p : ℕ) {q r : ℕ} (kind : ByteKind) → Within start at depth p → FirstCharacter classes text p kind q r → View classes text r
       → ((u depth' : ℕ) → p < u → u ≤ length text → Within start at depth' u → Leaves start at) → Leaves start at
-  comment_by start at depth p {r = r} White w x v f = f r depth (omega (arith, x.from, x.behind)) x.within record { commenting = comment-on w.commenting x (hit (0 ∷ 1 ∷ 3 ∷ 6 ∷ 8 ∷ 10 ∷ 11 ∷ []) 0 tt); from = omega (arith, w.from, x.from, x.behind) }
-  comment_by start at depth p {r = r} Control w x v f = f r depth (omega (arith, x.from, x.behind)) x.within record { commenting = comment-on w.commenting x (hit (0 ∷ 1 ∷ 3 ∷ 6 ∷ 8 ∷ 10 ∷ 11 ∷ []) 1 tt); from = omega (arith, w.from, x.from, x.behind) }
+  comment_by start at depth p {r = r} White w x v f = f r depth (omega (arith, x.from, x.behind)) x.within record { commenting = comment_on w.commenting x (hit (0 ∷ 1 ∷ 3 ∷ 6 ∷ 8 ∷ 10 ∷ 11 ∷ []) 0 tt); from = omega (arith, w.from, x.from, x.behind) }
+  comment_by start at depth p {r = r} Control w x v f = f r depth (omega (arith, x.from, x.behind)) x.within record { commenting = comment_on w.commenting x (hit (0 ∷ 1 ∷ 3 ∷ 6 ∷ 8 ∷ 10 ∷ 11 ∷ []) 1 tt); from = omega (arith, w.from, x.from, x.behind) }
   comment_by start at depth p {r = r} Return w x v f = faulty stray_control _ (comment_moves w.commenting x (halt [] stray_control _) refl)
-  comment_by start at depth p {r = r} Plain w x v f = f r depth (omega (arith, x.from, x.behind)) x.within record { commenting = comment-on w.commenting x (hit (0 ∷ 1 ∷ 3 ∷ 6 ∷ 8 ∷ 10 ∷ 11 ∷ []) 3 tt); from = omega (arith, w.from, x.from, x.behind) }
-  comment_by start at depth p {r = r} Open w x v f = f r (depth + 1) (omega (arith, x.from, x.behind)) x.within record { commenting = comment-opens w.commenting x; from = omega (arith, w.from, x.from, x.behind) }
+  comment_by start at depth p {r = r} Plain w x v f = f r depth (omega (arith, x.from, x.behind)) x.within record { commenting = comment_on w.commenting x (hit (0 ∷ 1 ∷ 3 ∷ 6 ∷ 8 ∷ 10 ∷ 11 ∷ []) 3 tt); from = omega (arith, w.from, x.from, x.behind) }
+  comment_by start at depth p {r = r} Open w x v f = f r (depth + 1) (omega (arith, x.from, x.behind)) x.within record { commenting = comment_opens w.commenting x; from = omega (arith, w.from, x.from, x.behind) }
   comment_by start at depth p {r = r} Close w x v f = leaving start at depth p w x (λ d z. f r d (omega (arith, x.from, x.behind)) x.within z)
-  comment_by start at depth p {r = r} Quote w x v f = f r depth (omega (arith, x.from, x.behind)) x.within record { commenting = comment-on w.commenting x (hit (0 ∷ 1 ∷ 3 ∷ 6 ∷ 8 ∷ 10 ∷ 11 ∷ []) 6 tt); from = omega (arith, w.from, x.from, x.behind) }
+  comment_by start at depth p {r = r} Quote w x v f = f r depth (omega (arith, x.from, x.behind)) x.within record { commenting = comment_on w.commenting x (hit (0 ∷ 1 ∷ 3 ∷ 6 ∷ 8 ∷ 10 ∷ 11 ∷ []) 6 tt); from = omega (arith, w.from, x.from, x.behind) }
   comment_by start at depth p {r = r} Backslash w x v f = escaped_view start at depth p w x v f
-  comment_by start at depth p {r = r} (Mark class) w x v f = f r depth (omega (arith, x.from, x.behind)) x.within record { commenting = comment-on w.commenting x (hit (0 ∷ 1 ∷ 3 ∷ 6 ∷ 8 ∷ 10 ∷ 11 ∷ []) 8 tt); from = omega (arith, w.from, x.from, x.behind) }
+  comment_by start at depth p {r = r} (Mark class) w x v f = f r depth (omega (arith, x.from, x.behind)) x.within record { commenting = comment_on w.commenting x (hit (0 ∷ 1 ∷ 3 ∷ 6 ∷ 8 ∷ 10 ∷ 11 ∷ []) 8 tt); from = omega (arith, w.from, x.from, x.behind) }
   comment_by start at depth p {r = r} Above w x v f = faulty byte_above_127 _ (comment_moves w.commenting x (halt [] byte_above_127 _) refl)
-  comment_by start at depth p {r = r} OpenBracket w x v f = f r depth (omega (arith, x.from, x.behind)) x.within record { commenting = comment-on w.commenting x (hit (0 ∷ 1 ∷ 3 ∷ 6 ∷ 8 ∷ 10 ∷ 11 ∷ []) 10 tt); from = omega (arith, w.from, x.from, x.behind) }
-  comment_by start at depth p {r = r} CloseBracket w x v f = f r depth (omega (arith, x.from, x.behind)) x.within record { commenting = comment-on w.commenting x (hit (0 ∷ 1 ∷ 3 ∷ 6 ∷ 8 ∷ 10 ∷ 11 ∷ []) 11 tt); from = omega (arith, w.from, x.from, x.behind) }
+  comment_by start at depth p {r = r} OpenBracket w x v f = f r depth (omega (arith, x.from, x.behind)) x.within record { commenting = comment_on w.commenting x (hit (0 ∷ 1 ∷ 3 ∷ 6 ∷ 8 ∷ 10 ∷ 11 ∷ []) 10 tt); from = omega (arith, w.from, x.from, x.behind) }
+  comment_by start at depth p {r = r} CloseBracket w x v f = f r depth (omega (arith, x.from, x.behind)) x.within record { commenting = comment_on w.commenting x (hit (0 ∷ 1 ∷ 3 ∷ 6 ∷ 8 ∷ 10 ∷ 11 ∷ []) 11 tt); from = omega (arith, w.from, x.from, x.behind) }
 
   comment_view : (start at depth p : ℕ) → Within start at depth p → View classes text p → ((u depth' : ℕ) → p < u → u ≤ length text → Within start at depth' u → Leaves start at) → Leaves start at
-  comment_view start at depth p w (over e) f = faulty comment_not_closed start (w.commenting.same ∙ at-end classes text p _ e)
+  comment_view start at depth p w (over e) f = faulty comment_not_closed start (w.commenting.same ∙ at_end_lem classes text p _ e)
   comment_view start at depth p w (one {kind} {q = r} x) f = comment_by start at depth p kind w x (view classes text r) f
 
-  comment-run : (n start at depth p : ℕ) → length text ≤ p + n → Within start at depth p → Leaves start at
-  comment-run zero start at depth p m w = comment_view start at depth p w (view classes text p) (λ u d a b z. absurd (omega arith))
-  comment-run (suc n) start at depth p m w = comment_view start at depth p w (view classes text p) (λ u d a b z. comment-run n start at d u (omega arith) z)
+  comment_run : (n start at depth p : ℕ) → length text ≤ p + n → Within start at depth p → Leaves start at
+  comment_run zero start at depth p m w = comment_view start at depth p w (view classes text p) (λ u d a b z. absurd (omega arith))
+  comment_run (suc n) start at depth p m w = comment_view start at depth p w (view classes text p) (λ u d a b z. comment_run n start at d u (omega arith) z)
 
   -- ---- a domain literal closes, or there is a fault
 
@@ -233,7 +233,7 @@ module _ (classes text : List ℕ) where
 
   taken_view : (start at p : ℕ) {q r : ℕ} → Inside start at p → FirstCharacter classes text p Backslash q r → View classes text r
       → ((u : ℕ) → p < u → u ≤ length text → Inside start at u → LiteralEnds start at) → LiteralEnds start at
-  taken_view start at p {r = r} w x (over e) f = faulty literal_not_closed start (literal_moves w.literally x (go [] (taking_in_literal start)) refl ∙ at-end classes text r _ e)
+  taken_view start at p {r = r} w x (over e) f = faulty literal_not_closed start (literal_moves w.literally x (go [] (taking_in_literal start)) refl ∙ at_end_lem classes text r _ e)
   taken_view start at p w x (one {kind} {q = u} y) f = taken_by start at p kind w x y (λ z. f u (omega (arith, x.from, x.behind, y.from, y.behind)) y.within z)
 
   literal_by : (start at p : ℕ) {q r : ℕ} (kind : ByteKind) → Inside start at p → FirstCharacter classes text p kind q r → View classes text r
@@ -253,7 +253,7 @@ module _ (classes text : List ℕ) where
       literal r (literal_moves w.literally x (go (symbol Literal start (q + 1) [] ∷ []) outside) refl ∙ rw x.behind) (omega (arith, w.from, x.from, x.behind)) x.within
 
   literal_view : (start at p : ℕ) → Inside start at p → View classes text p → ((u : ℕ) → p < u → u ≤ length text → Inside start at u → LiteralEnds start at) → LiteralEnds start at
-  literal_view start at p w (over e) f = faulty literal_not_closed start (w.literally.same ∙ at-end classes text p _ e)
+  literal_view start at p w (over e) f = faulty literal_not_closed start (w.literally.same ∙ at_end_lem classes text p _ e)
   literal_view start at p w (one {kind} {q = r} x) f = literal_by start at p kind w x (view classes text r) f
 
   literal_run : (n start at p : ℕ) → length text ≤ p + n → Inside start at p → LiteralEnds start at
@@ -262,9 +262,9 @@ module _ (classes text : List ℕ) where
 
 -- ---- meanings by place
 
-meaning-atom : (classes text : List ℕ) (start end : ℕ) (test : Bool) → meaning_at classes text (pick test At Atom) start end ≡ part text start end
-meaning-atom classes text start end true = refl
-meaning-atom classes text start end false = refl
+meaning_atom : (classes text : List ℕ) (start end : ℕ) (test : Bool) → meaning_at classes text (pick test At Atom) start end ≡ part text start end
+meaning_atom classes text start end true = refl
+meaning_atom classes text start end false = refl
 
 atom_not_quoted : (test : Bool) → pick test At Atom ≡ Quoted → ⊥
 atom_not_quoted true e = let z : ◌≡◌ {A = ℕ} 0 1 = cc in omega arith
@@ -302,29 +302,29 @@ or_else : (test : Bool) (a b : ByteKind) → SingleMark a → SingleMark b → S
 or_else true a b x y = x
 or_else false a b x y = y
 
-class-mark : (c : ℕ) → SingleMark (kind_of_class c)
-class-mark c =
+class_mark : (c : ℕ) → SingleMark (kind_of_class c)
+class_mark c =
     or_else (eqb c white) _ _ tt (or_else (eqb c control) _ _ tt (or_else (eqb c open_parenthesis) _ _ tt (or_else (eqb c close_parenthesis) _ _ tt
     (or_else (eqb c less_than) _ _ tt (or_else (eqb c greater_than) _ _ tt (or_else (eqb c at_sign) _ _ tt (or_else (eqb c comma) _ _ tt
     (or_else (eqb c semicolon) _ _ tt (or_else (eqb c colon) _ _ tt (or_else (eqb c backslash) _ _ tt (or_else (eqb c quote) _ _ tt
     (or_else (eqb c above127) _ _ tt (or_else (eqb c dot) _ _ tt (or_else (eqb c open_bracket) _ _ tt (or_else (eqb c close_bracket) _ _ tt tt)))))))))))))))
 
-character-mark : (classes : List ℕ) (b : ℕ) (folded : Bool) → SingleMark (character_kind classes b folded)
+character_mark : (classes : List ℕ) (b : ℕ) (folded : Bool) → SingleMark (character_kind classes b folded)
 unfolding kind_of
-character-mark classes b folded = or_else folded _ _ tt (or_else (eqb b 13) _ _ tt (class-mark (get_or classes b 0)))
+character_mark classes b folded = or_else folded _ _ tt (or_else (eqb b 13) _ _ tt (class_mark (get_or classes b 0)))
 
-meaning-single : (classes text : List ℕ) (class : Class) (p q : ℕ) → Single class → q ≡ p + 1 → q ≤ length text → get_or text p 0 ∷ [] ≡ meaning_at classes text class p q
-meaning-single classes text Atom p q s e h = part-one text p q e h
-meaning-single classes text Quoted p q s e h = absurd s
-meaning-single classes text At p q s e h = part-one text p q e h
-meaning-single classes text LessThan p q s e h = part-one text p q e h
-meaning-single classes text GreaterThan p q s e h = part-one text p q e h
-meaning-single classes text Comma p q s e h = part-one text p q e h
-meaning-single classes text Semicolon p q s e h = part-one text p q e h
-meaning-single classes text Colon p q s e h = part-one text p q e h
-meaning-single classes text Stray p q s e h = part-one text p q e h
-meaning-single classes text Dot p q s e h = part-one text p q e h
-meaning-single classes text Literal p q s e h = absurd s
+meaning_single : (classes text : List ℕ) (class : Class) (p q : ℕ) → Single class → q ≡ p + 1 → q ≤ length text → get_or text p 0 ∷ [] ≡ meaning_at classes text class p q
+meaning_single classes text Atom p q s e h = part_one text p q e h
+meaning_single classes text Quoted p q s e h = absurd s
+meaning_single classes text At p q s e h = part_one text p q e h
+meaning_single classes text LessThan p q s e h = part_one text p q e h
+meaning_single classes text GreaterThan p q s e h = part_one text p q e h
+meaning_single classes text Comma p q s e h = part_one text p q e h
+meaning_single classes text Semicolon p q s e h = part_one text p q e h
+meaning_single classes text Colon p q s e h = part_one text p q e h
+meaning_single classes text Stray p q s e h = part_one text p q e h
+meaning_single classes text Dot p q s e h = part_one text p q e h
+meaning_single classes text Literal p q s e h = absurd s
 
 -- ---- one step outside
 
@@ -344,7 +344,7 @@ pub data RawUnfolded (classes text : List ℕ) (at : ℕ) : Type 0 where
 -- what a character outside is: white space, the "(" of a comment, the first byte of a symbol, or it leads to a fault
 pub data OutsideIs (classes text : List ℕ) (at : ℕ) : ByteKind → ℕ → Type 0 where
   white_space : {p : ℕ} → OutsideIs classes text at White p
-  opens-comment : {p : ℕ} → OutsideIs classes text at Open p
+  opens_comment_lem : {p : ℕ} → OutsideIs classes text at Open p
   begins : {kind : ByteKind} {p : ℕ} {class : Class} {end : ℕ} → p ≡ at → RawAt classes text at class p end → OutsideIs classes text at kind p
   faulty : {kind : ByteKind} {p number q : ℕ} → outside_at classes text at ≡ fault_at number q → OutsideIs classes text at kind p
 
@@ -359,7 +359,7 @@ module _ (classes text : List ℕ) where
   one_byte {p = p} {q = q} {class = class} x n s e =
       begins (x.tight n)
       record {
-        same = e ∙ ap (λ (m : List ℕ). next (symbol class p q m) (outside_at classes text q)) (meaning-single classes text class p q s x.behind x.within);
+        same = e ∙ ap (λ (m : List ℕ). next (symbol class p q m) (outside_at classes text q)) (meaning_single classes text class p q s x.behind x.within);
         from = x.from;
         starts = omega (arith, x.behind);
         within = x.within;
@@ -371,9 +371,9 @@ module _ (classes text : List ℕ) where
       begins (x.tight (λ k. omega (arith, ap tag k)))
       record {
         same =
-            atom-begins x ∙ e.is.same
+            atom_begins x ∙ e.is.same
             ∙ ap (λ (m : List ℕ). next (symbol (atom_class (part text p e.end)) p e.end m) (outside_at classes text e.end))
-            (sym (meaning-atom classes text p e.end (same_letters (part text p e.end) (bytes "at"))));
+            (sym (meaning_atom classes text p e.end (same_letters (part text p e.end) (bytes "at"))));
         from = x.from;
         starts = omega (arith, x.behind, e.is.from);
         within = e.is.within;
@@ -417,39 +417,39 @@ module _ (classes text : List ℕ) where
 
   outside_by : {at p q : ℕ} (kind : ByteKind) → SingleMark kind → FirstCharacter classes text at kind p q → OutsideIs classes text at kind p
   outside_by White s x = white_space
-  outside_by Control s x = faulty (control-next x (hit (1 ∷ 2 ∷ []) 1 tt))
-  outside_by Return s x = faulty (control-next x (hit (1 ∷ 2 ∷ []) 2 tt))
-  outside_by {p = p} {q = q} Plain s x = in_atom_lem x (atom-run classes text (length text) p q (omega arith) (omega (arith, x.behind)) x.within)
-  outside_by Open s x = opens-comment
-  outside_by Close s x = one_byte x (λ k. omega (arith, ap tag k)) tt (stray-next x (hit (5 ∷ 7 ∷ 11 ∷ []) 5 tt))
+  outside_by Control s x = faulty (control_next x (hit (1 ∷ 2 ∷ []) 1 tt))
+  outside_by Return s x = faulty (control_next x (hit (1 ∷ 2 ∷ []) 2 tt))
+  outside_by {p = p} {q = q} Plain s x = in_atom_lem x (atom_run classes text (length text) p q (omega arith) (omega (arith, x.behind)) x.within)
+  outside_by Open s x = opens_comment_lem
+  outside_by Close s x = one_byte x (λ k. omega (arith, ap tag k)) tt (stray_next x (hit (5 ∷ 7 ∷ 11 ∷ []) 5 tt))
   outside_by {p = p} {q = q} Quote s x =
-      in_quoted_lem x (quoted-run classes text (length text) p q q (omega arith) record { quoting = record { meaning = []; same = refl }; data_so_far = refl; from = omega arith })
-  outside_by Backslash s x = one_byte x (λ k. omega (arith, ap tag k)) tt (stray-next x (hit (5 ∷ 7 ∷ 11 ∷ []) 7 tt))
-  outside_by (Mark class) s x = one_byte x (λ k. omega (arith, ap tag k)) s (mark-next x)
+      in_quoted_lem x (quoted_run classes text (length text) p q q (omega arith) record { quoting = record { meaning = []; same = refl }; data_so_far = refl; from = omega arith })
+  outside_by Backslash s x = one_byte x (λ k. omega (arith, ap tag k)) tt (stray_next x (hit (5 ∷ 7 ∷ 11 ∷ []) 7 tt))
+  outside_by (Mark class) s x = one_byte x (λ k. omega (arith, ap tag k)) s (mark_next x)
   outside_by {p = p} Above s x = faulty (moves x outside (halt [] byte_above_127 p) refl)
   outside_by {p = p} {q = q} OpenBracket s x = in_literal_lem x (literal_run classes text (length text) p q q (omega arith) record { literally = record { same = refl }; from = omega arith })
-  outside_by CloseBracket s x = one_byte x (λ k. omega (arith, ap tag k)) tt (stray-next x (hit (5 ∷ 7 ∷ 11 ∷ []) 11 tt))
+  outside_by CloseBracket s x = one_byte x (λ k. omega (arith, ap tag k)) tt (stray_next x (hit (5 ∷ 7 ∷ 11 ∷ []) 11 tt))
 
-  pub outside-is : {at p q : ℕ} {kind : ByteKind} → FirstCharacter classes text at kind p q → OutsideIs classes text at kind p
-  outside-is {p = p} {kind = kind} x = outside_by kind (rw x.kind-is (character-mark classes (get_or text p 0) x.folded)) x
+  pub outside_is : {at p q : ℕ} {kind : ByteKind} → FirstCharacter classes text at kind p q → OutsideIs classes text at kind p
+  outside_is {p = p} {kind = kind} x = outside_by kind (rw x.kind_is (character_mark classes (get_or text p 0) x.folded)) x
 
-  outside-on : (at : ℕ) {p q : ℕ} {kind : ByteKind} → OutsideIs classes text at kind p → FirstCharacter classes text at kind p q → ((r : ℕ) → at < r → r ≤ length text → RawUnfolded classes text r) → RawUnfolded classes text at
-  outside-on at {q = q} white_space x f = later (omega (arith, x.from, x.behind)) (moves x outside (go [] outside) refl) (f q (omega (arith, x.from, x.behind)) x.within)
-  outside-on at {p = p} {q = q} opens-comment x f =
-      in_comment_lem x (comment-run classes text (length text) p q 0 q (omega arith) record { commenting = record { same = refl }; from = omega arith }) f
-  outside-on at (begins e s) x f = raw_symbol s
-  outside-on at (faulty e) x f = raw_fault e
+  outside_on : (at : ℕ) {p q : ℕ} {kind : ByteKind} → OutsideIs classes text at kind p → FirstCharacter classes text at kind p q → ((r : ℕ) → at < r → r ≤ length text → RawUnfolded classes text r) → RawUnfolded classes text at
+  outside_on at {q = q} white_space x f = later (omega (arith, x.from, x.behind)) (moves x outside (go [] outside) refl) (f q (omega (arith, x.from, x.behind)) x.within)
+  outside_on at {p = p} {q = q} opens_comment_lem x f =
+      in_comment_lem x (comment_run classes text (length text) p q 0 q (omega arith) record { commenting = record { same = refl }; from = omega arith }) f
+  outside_on at (begins e s) x f = raw_symbol s
+  outside_on at (faulty e) x f = raw_fault e
 
   outside_view : (at : ℕ) → View classes text at → ((r : ℕ) → at < r → r ≤ length text → RawUnfolded classes text r) → RawUnfolded classes text at
-  outside_view at (over e) f = raw_end (at-end classes text at outside e)
-  outside_view at (one x) f = outside-on at (outside-is x) x f
+  outside_view at (over e) f = raw_end (at_end_lem classes text at outside e)
+  outside_view at (one x) f = outside_on at (outside_is x) x f
 
-  outside-run : (n at : ℕ) → length text ≤ at + n → RawUnfolded classes text at
-  outside-run zero at m = outside_view at (view classes text at) (λ r a b. absurd (omega arith))
-  outside-run (suc n) at m = outside_view at (view classes text at) (λ r a b. outside-run n r (omega arith))
+  outside_run : (n at : ℕ) → length text ≤ at + n → RawUnfolded classes text at
+  outside_run zero at m = outside_view at (view classes text at) (λ r a b. absurd (omega arith))
+  outside_run (suc n) at m = outside_view at (view classes text at) (λ r a b. outside_run n r (omega arith))
 
   raw : (at : ℕ) → RawUnfolded classes text at
-  raw at = outside-run (length text) at (omega arith)
+  raw at = outside_run (length text) at (omega arith)
 
 -- .. and told
 pub record SymbolAt (classes text : List ℕ) (at : ℕ) (class : Class) (start end : ℕ) : Type 0 where
@@ -488,7 +488,7 @@ module _ (classes text : List ℕ) where
           rw (ap (λ (y : Placed). y.class) g, ap (λ (y : Placed). y.start) g, ap (λ (y : Placed). y.end) g) (x, ap (λ (y : Placed). y.length) g, ap (λ (y : Placed). y.apart) g)
       by (a_fault f) = absurd (let z : ◌≡◌ {A = ℕ} 0 1 = cc (ap next_of f) in omega arith)
 
-  -- the symbol that the next-symbol step finds, the length of its meaning, and whether it stands apart
+  -- the symbol that the next_symbol step finds, the length of its meaning, and whether it stands apart
   pub found : (at : ℕ) {class : Class} {start end size : ℕ} {apart : Bool} → found_at class start end size apart ≡ next_of (scan_by classes text at) → SymbolAt classes text at class start end
   found at e = (found_all at e).0
 
@@ -522,9 +522,9 @@ module _ (classes text : List ℕ) where
   -- ---- faults
 
   -- up to a symbol's end there is no fault: the first fault is that from its end on
-  pub fault-on : {at : ℕ} {class : Class} {start end : ℕ} → SymbolAt classes text at class start end → fault_of (scan_by classes text at) ≡ fault_of (scan_by classes text end)
+  pub fault_on : {at : ℕ} {class : Class} {start end : ℕ} → SymbolAt classes text at class start end → fault_of (scan_by classes text at) ≡ fault_of (scan_by classes text end)
   unfolding unless_fault
-  fault-on x = rw x.same
+  fault_on x = rw x.same
 
-  pub faultless-on : {at : ℕ} {class : Class} {start end : ℕ} → Faultless classes text at → SymbolAt classes text at class start end → Faultless classes text end
-  faultless-on f x = record { none = sym (fault-on x) ∙ f.none }
+  pub faultless_on : {at : ℕ} {class : Class} {start end : ℕ} → Faultless classes text at → SymbolAt classes text at class start end → Faultless classes text end
+  faultless_on f x = record { none = sym (fault_on x) ∙ f.none }

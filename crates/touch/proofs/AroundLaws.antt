@@ -93,8 +93,8 @@ Adds all n i b above =
     (front back : List AddressRecord) (many : ℕ) → all ≡ front ++ (flatten n ++ back) → length front ≡ i → PathOf all many above → PathOf all (many + height n) (around_from b i (flatten n) above)
 
 -- what lies in the first record of a nest stands after it
-inside-at : (all : List AddressRecord) (r : AddressRecord) (inside rest : Nest) (front back : List AddressRecord) → all ≡ front ++ (flatten (node r inside rest) ++ back) → all ≡ (front ++ (r ∷ [])) ++ (flatten inside ++ (flatten rest ++ back))
-inside-at all r inside rest front back e =
+inside_at : (all : List AddressRecord) (r : AddressRecord) (inside rest : Nest) (front back : List AddressRecord) → all ≡ front ++ (flatten (node r inside rest) ++ back) → all ≡ (front ++ (r ∷ [])) ++ (flatten inside ++ (flatten rest ++ back))
+inside_at all r inside rest front back e =
     e ∙ ap (λ z. front ++ (r ∷ z)) (append_assoc (flatten inside) (flatten rest) back) ∙ sym (append_assoc front (r ∷ []) (flatten inside ++ (flatten rest ++ back)))
 
 module _ (all : List AddressRecord) (r : AddressRecord) (inside rest : Nest) (p i from to b : ℕ) (above : List ℕ) (w : Well (node r inside rest) p i from to) (q : p ≡ first_plus above) where
@@ -106,14 +106,14 @@ module _ (all : List AddressRecord) (r : AddressRecord) (inside rest : Nest) (p 
       → PathOf all many above → PathOf all (many + height (node r inside rest)) (around_from b next (flatten rest) above)
   after_it y z front back many e l x =
       path_widen (omega arith)
-      (z ((front ++ (r ∷ [])) ++ flatten inside) back many (inside-at all r inside rest front back e ∙ sym (append_assoc (front ++ (r ∷ [])) (flatten inside) (flatten rest ++ back))) (simp length-append (omega arith)) x)
+      (z ((front ++ (r ∷ [])) ++ flatten inside) back many (inside_at all r inside rest front back e ∙ sym (append_assoc (front ++ (r ∷ [])) (flatten inside) (flatten rest ++ back))) (simp length-append (omega arith)) x)
 
   node_adds : Covers b r → Adds all inside (suc i) b (i ∷ above) → Adds all rest next b above → Adds all (node r inside rest) i b above
   node_adds (within c d f) y z front back many e l x =
       let own : get_or all i no_record ≡ r =
       ap (λ z. get_or z i no_record) e ∙ ap (λ z. get_or (front ++ (r ∷ ((flatten inside ++ flatten rest) ++ back))) z no_record) (sym l) ∙ get_after front r ((flatten inside ++ flatten rest) ++ back) in
       let t : Climbs all (get_or all i no_record).parent above = rw (own, w.0, q) x.climbs in
-      let inner = y (front ++ (r ∷ [])) (flatten rest ++ back) (suc many) (inside-at all r inside rest front back e) (simp length-append (omega arith)) (record { climbs = up t; few = omega (arith, x.few) }) in
+      let inner = y (front ++ (r ∷ [])) (flatten rest ++ back) (suc many) (inside_at all r inside rest front back e) (simp length-append (omega arith)) (record { climbs = up t; few = omega (arith, x.few) }) in
       rw (take_it b i r inside rest above c (λ ns. none_before rest p next r.end to b ns w.4 f)) (path_widen (omega arith) inner)
   node_adds (before c d) y z front back many e l x =
       rw (skip b i r inside rest above (around_from b next (flatten rest) above) c (none_before inside (suc i) (suc i) r.start r.end b above w.3 d) refl) (after_it y z front back many e l x)
@@ -138,5 +138,5 @@ pub around_climbs : {from to : ℕ} {rs : List AddressRecord} → Nested from to
 around_climbs n place = (path n place).climbs
 
 -- as many records are around a place as lie in each other, at most
-pub around-few : {from to : ℕ} {rs : List AddressRecord} (n : Nested from to rs) (place : ℕ) → length (around place rs) ≤ height n.nest
-around-few n place = (path n place).few
+pub around_few : {from to : ℕ} {rs : List AddressRecord} (n : Nested from to rs) (place : ℕ) → length (around place rs) ≤ height n.nest
+around_few n place = (path n place).few

@@ -16,11 +16,11 @@ use Rattle.touch.specs.Ties.Climbing.{Holds, MayClimb}
 
 -- ---- whether a record covers a place
 
-pub begins-after : (place : ℕ) {r s : AddressRecord} → r ≡ s → place < r.start → false ≡ covers place s
-begins-after place {r} e h = rw (lt-leb r.start place h) refl ∙ ap (covers place) e
+pub begins_after : (place : ℕ) {r s : AddressRecord} → r ≡ s → place < r.start → false ≡ covers place s
+begins_after place {r} e h = rw (lt-leb r.start place h) refl ∙ ap (covers place) e
 
-pub begins-before : (place : ℕ) {r s : AddressRecord} → r ≡ s → r.start ≤ place → ltb place r.end ≡ covers place s
-begins-before place {r} e h = rw (le-leb r.start place h) refl ∙ ap (covers place) e
+pub begins_before : (place : ℕ) {r s : AddressRecord} → r ≡ s → r.start ≤ place → ltb place r.end ≡ covers place s
+begins_before place {r} e h = rw (le-leb r.start place h) refl ∙ ap (covers place) e
 
 -- ---- the last record that covers a place
 
@@ -28,10 +28,10 @@ begins-before place {r} e h = rw (le-leb r.start place h) refl ∙ ap (covers pl
 pub record Looked (place : ℕ) (rs : List AddressRecord) (next last : ℕ) : Type 0 where
   pub sofar : List ℕ
   pub left : around_from place next (drop next rs) sofar ≡ around place rs
-  pub last-is : last ≡ first_plus sofar
+  pub last_is : last ≡ first_plus sofar
 
 pub looked_none : (place : ℕ) (rs : List AddressRecord) → Looked place rs 0 0
-looked_none place rs = record { sofar = []; left = refl; last-is = refl }
+looked_none place rs = record { sofar = []; left = refl; last_is = refl }
 
 first_of : (test : Bool) (n last r : ℕ) (sofar : List ℕ) → r ≡ pick test (n + 1) last → last ≡ first_plus sofar → r ≡ first_plus (pick test (n ∷ sofar) sofar)
 first_of true n last r sofar e f = e ∙ add-one n
@@ -47,13 +47,13 @@ looked_on {place = place} {next = next} {last = last} {r = r} rs h l e w =
     record {
       sofar = pick test (next ∷ w.sofar) w.sofar;
       left = rw (add-one next) f;
-      last-is = first_of test next last r w.sofar q w.last-is;
+      last_is = first_of test next last r w.sofar q w.last_is;
     }
 
 pub looked_all : {table : List ℕ} {many place next last : ℕ} (rs : List AddressRecord) → Holds table many rs → next ≡ many → Looked place rs next last → last ≡ first_plus (around place rs)
 looked_all {place = place} {next = next} rs h l w =
     let d : drop next rs ≡ [] = ap (λ n. drop n rs) (l ∙ h.many_is) ∙ drop-length rs in
-    w.last-is ∙ ap first_plus (sym (ap (λ l. around_from place next l w.sofar) d) ∙ w.left)
+    w.last_is ∙ ap first_plus (sym (ap (λ l. around_from place next l w.sofar) d) ∙ w.left)
 
 pub later_low : (test : Bool) (n last r : ℕ) → r ≡ pick test (n + 1) last → last ≤ n → r ≤ n + 1
 later_low true n last r e h = omega arith

@@ -9,7 +9,7 @@ use Rattle.scanner.proofs.EveryCategory.{told_unless_stray}
 use Rattle.grammar.specs.Believed.Rfc733.{class_number, Derivation, DerivedList}
 use Rattle.grammar.specs.Executable.Trees733.{Class, Stray, Lexeme, Sym, of, Word, atom_word, quoted_word, Phrase, one, more, Nodes, first, next, Slot, empty, comma, AddressList, idle, full, Address, mailbox, angle, group, quoted, typed}
 use Rattle.grammar.proofs.Rfc733.Trees.{word_symbol, phrase_then, name_then, nodes_then, slot_then, list_then, address_then}
-use Rattle.grammar.proofs.Rfc733.Derivations.{tree-derived}
+use Rattle.grammar.proofs.Rfc733.Derivations.{tree_derived}
 use Rattle.touch.specs.Believed.EveryByte.{EveryByte}
 
 -- ---- a place in a symbol that fits no rule lies after every tree
@@ -53,7 +53,7 @@ module _ {place : ℕ} where
 
   -- .. so a list has none
   no_stray : {k : Derivation} {xs : List Sym} → DerivedList k xs → InStray place xs → ⊥
-  no_stray d i = let (l, e, t) = tree-derived d in let j : InStray place [] = past_list l (rw t.yields i) in elim j [ ]
+  no_stray d i = let (l, e, t) = tree_derived d in let j : InStray place [] = past_list l (rw t.yields i) in elim j [ ]
 
 -- every byte of an accepted body is told
 pub every_byte : (message : List ℕ) (start end : ℕ) → EveryByte message start end

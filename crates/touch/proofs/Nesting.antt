@@ -10,9 +10,9 @@ use Rattle.grammar.specs.Believed.Records.{records}
 use Rattle.grammar.specs.Believed.Rfc733.{Derivation, DerivedList}
 use Rattle.grammar.specs.Executable.Trees733.{LessThan, GreaterThan, Comma, Semicolon, Colon, Sym, of, Slot, empty, comma, AddressList, idle, full, Address, mailbox, angle, group, quoted, typed}
 use Rattle.grammar.proofs.Rfc733.Trees.{nodes_then, slot_then, list_then, address_then, slot_levels, list_levels, address_levels}
-use Rattle.grammar.proofs.Rfc733.Derivations.{forest_levels, tree-derived}
+use Rattle.grammar.proofs.Rfc733.Derivations.{forest_levels, tree_derived}
 use Rattle.grammar.proofs.RecordLaws.{inside-length}
-use Rattle.grammar.proofs.Rfc733.TreeRecords.{phrase_end, name_start, address_end, address_record, slot_count, list_count, address_count, slot_records, list_records, inside_records, tree-records}
+use Rattle.grammar.proofs.Rfc733.TreeRecords.{phrase_end, name_start, address_end, address_record, slot_count, list_count, address_count, slot_records, list_records, inside_records, tree_records}
 use Rattle.grammar.proofs.Symbols.{InOrder}
 use Rattle.grammar.proofs.Rfc733.Order.{phrase_lies, nodes_lies, name_lies}
 
@@ -67,23 +67,23 @@ abbrev mutual
   inside_nest (typed t a u b) d i = node (address_record b d i) (inside_nest b (suc d) (suc i)) nil
 
 mutual
-  place-flat : (r : Slot) (d p i : ℕ) (n : Nest) → flatten (place_nest r d p i n) ≡ slot_records r d p i ++ flatten n
-  place-flat empty d p i n = refl
-  place-flat (comma l t) d p i n = list-flat l d p i n
+  place_flat : (r : Slot) (d p i : ℕ) (n : Nest) → flatten (place_nest r d p i n) ≡ slot_records r d p i ++ flatten n
+  place_flat empty d p i n = refl
+  place_flat (comma l t) d p i n = list_flat l d p i n
 
-  list-flat : (l : AddressList) (d p i : ℕ) (n : Nest) → flatten (list_nest l d p i n) ≡ list_records l d p i ++ flatten n
-  list-flat (idle r) d p i n = place-flat r d p i n
-  list-flat (full r a) d p i n =
-      place-flat r d p i _
-      ∙ ap (λ z. slot_records r d p i ++ (address_record a d p ∷ (z ++ flatten n))) (inside-flat a (suc d) (suc (i + slot_count r)))
+  list_flat : (l : AddressList) (d p i : ℕ) (n : Nest) → flatten (list_nest l d p i n) ≡ list_records l d p i ++ flatten n
+  list_flat (idle r) d p i n = place_flat r d p i n
+  list_flat (full r a) d p i n =
+      place_flat r d p i _
+      ∙ ap (λ z. slot_records r d p i ++ (address_record a d p ∷ (z ++ flatten n))) (inside_flat a (suc d) (suc (i + slot_count r)))
       ∙ sym (append_assoc (slot_records r d p i) (address_record a d p ∷ inside_records a (suc d) (suc (i + slot_count r))) (flatten n))
 
-  inside-flat : (a : Address) (d i : ℕ) → flatten (inside_nest a d i) ≡ inside_records a d i
-  inside-flat (mailbox p m) d i = refl
-  inside-flat (angle o t l u) d i = list-flat l d i i nil ∙ append-nil _
-  inside-flat (group o t l u) d i = list-flat l d i i nil ∙ append-nil _
-  inside-flat (quoted t) d i = refl
-  inside-flat (typed t a u b) d i = ap (λ z. address_record b d i ∷ z) (append-nil _ ∙ inside-flat b (suc d) (suc i))
+  inside_flat : (a : Address) (d i : ℕ) → flatten (inside_nest a d i) ≡ inside_records a d i
+  inside_flat (mailbox p m) d i = refl
+  inside_flat (angle o t l u) d i = list_flat l d i i nil ∙ append-nil _
+  inside_flat (group o t l u) d i = list_flat l d i i nil ∙ append-nil _
+  inside_flat (quoted t) d i = refl
+  inside_flat (typed t a u b) d i = ap (λ z. address_record b d i ∷ z) (append-nil _ ∙ inside_flat b (suc d) (suc i))
 
 -- .. no more than the levels, and one
 mutual
@@ -135,7 +135,7 @@ well_at n p i j from to e w = rw e at w
 node_well : {a : Address} {from to : ℕ} {xs : List Sym} → NestTakenBy a from to xs → (d p i end : ℕ) (n : Nest) → Well n p (i + address_count a) (address_end a) end
     → Well (node (address_record a d p) (inside_nest a (suc d) (suc i)) n) p i from end
 node_well {a} {from} b d p i end n w =
-    let q : i + address_count a ≡ suc i + length (flatten (inside_nest a (suc d) (suc i))) = omega (arith, inside-length a (suc d) (suc i), ap length (inside-flat a (suc d) (suc i))) in
+    let q : i + address_count a ≡ suc i + length (flatten (inside_nest a (suc d) (suc i))) = omega (arith, inside-length a (suc d) (suc i), ap length (inside_flat a (suc d) (suc i))) in
     (own_parent a d p, b.starts d p, rw (own_end a d p) (b.ordered d p), rw (own_end a d p) (b.well d p (suc d) (suc i)), rw (own_end a d p) (well_at n p (i + address_count a) (suc i + length (flatten (inside_nest a (suc d) (suc i)))) (address_end a) end q w))
 
 mutual
@@ -205,14 +205,14 @@ pub record Nested (from to : ℕ) (rs : List AddressRecord) : Type 0 where
 
 pub nested : {k : Derivation} {xs : List Sym} (from to : ℕ) → DerivedList k xs → InOrder from to xs → Nested from to (records k)
 nested {k} {xs} from to d h =
-    let (l, e, t) = tree-derived d in
+    let (l, e, t) = tree_derived d in
     let y = list_well l from to [] (rw t.yields h) in
     record {
       nest = list_nest l 0 0 0 nil;
-      flat = list-flat l 0 0 0 nil ∙ append-nil _ ∙ sym (ap records e ∙ tree-records l);
+      flat = list_flat l 0 0 0 nil ∙ append-nil _ ∙ sym (ap records e ∙ tree_records l);
       well = y.well 0 0 0 to nil y.rest;
     }
 
 pub nested_height : {k : Derivation} {xs : List Sym} (from to : ℕ) (d : DerivedList k xs) (h : InOrder from to xs) → height (nested from to d h).nest ≤ suc (levels k)
 unfolding nested
-nested_height {k} from to d h = let (l, e, t) = tree-derived d in omega (arith, list_height l 0 0 0 nil, ap levels e, forest_levels l)
+nested_height {k} from to d h = let (l, e, t) = tree_derived d in omega (arith, list_height l 0 0 0 nil, ap levels e, forest_levels l)

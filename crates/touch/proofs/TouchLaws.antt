@@ -29,11 +29,11 @@ use Rattle.addresses.specs.Believed.Outcome.{derived, outcome}
 use Rattle.addresses.specs.Believed.Outcome as addresses
 use Rattle.addresses.specs.Believed.Condition3.{IsList}
 use Rattle.addresses.proofs.BodyRecords.{in_body}
-use Rattle.addresses.proofs.Judgements.{ListBody, no-list-refused, list-body, decided-read}
+use Rattle.addresses.proofs.Judgements.{ListBody, no_list_refused, list_body, decided_read}
 use Rattle.addresses.proofs.RecordsRead.{record_read}
 use Rattle.expected.specs.Believed.Things.{sum_of}
 use Rattle.expected.specs.Executable.Named.{named, expected_in}
-use Rattle.expected.proofs.NameLaws.{before-refused, names_right}
+use Rattle.expected.proofs.NameLaws.{before_refused, names_right}
 use Rattle.touch.specs.Believed.Around.{around, first_plus, Climbs}
 use Rattle.touch.specs.Believed.Answers.{told, AnsweredBy, Outcome, unchanged, refusal, byte_of, of_list}
 use Rattle.touch.specs.Believed.Touched.{decided, touched}
@@ -42,7 +42,7 @@ use Rattle.touch.specs.Ties.Climbing.{Holds, HeldList, ClimbIs, LastAroundIs}
 use Rattle.touch.specs.declared.Touched.{Touched}
 use Rattle.touch.specs.declared.Touched.TheVariants.{Byte, Expected, NoRoom}
 use Rattle.touch.proofs.Nesting.{nested, nested_height}
-use Rattle.touch.proofs.AroundLaws.{around_climbs, around-few}
+use Rattle.touch.proofs.AroundLaws.{around_climbs, around_few}
 
 -- the parts of an outcome
 pub parts : {o o' : Outcome} → o' ≡ o → (o.answer ≡ o'.answer) × (o.path ≡ o'.path)
@@ -71,10 +71,10 @@ module _ (message : List ℕ) (start end place : ℕ) (path : List ℕ) where
   named_there x = when_clean message start end (λ n p. 0) _ x
 
   -- symbols that are no list are refused as condition 3 has it, and names are told there
-  no-list : Clean message start end → {r : Touched} {after : List ℕ} → r ≡ whole.answer → after ≡ whole.path → ((k : Derivation) → IsList symbols k → ⊥) → NamedThere symbols end r × (after ≡ path)
-  no-list x e f n =
-      let u = no-list-refused edition733 0 answer decides (omega arith) symbols n in
-      let (before, splits) = before-refused level_limit symbols u.rest u.why u.right in
+  no_list : Clean message start end → {r : Touched} {after : List ℕ} → r ≡ whole.answer → after ≡ whole.path → ((k : Derivation) → IsList symbols k → ⊥) → NamedThere symbols end r × (after ≡ path)
+  no_list x e f n =
+      let u = no_list_refused edition733 0 answer decides (omega arith) symbols n in
+      let (before, splits) = before_refused level_limit symbols u.rest u.why u.right in
       let q = read x u.verdict_is in (
         record {
           why = u.why;
@@ -96,7 +96,7 @@ module _ (message : List ℕ) (start end place : ℕ) (path : List ℕ) where
         list = λ k d.
             let q = read x (answer_accepts level_limit d.derived d.within) in
             (ap told (e ∙ ap (λ (o : Outcome). o.answer) q), f ∙ ap (λ (o : Outcome). o.path) q);
-        no-list = λ n. no-list x e f n;
+        no_list = λ n. no_list x e f n;
       }
 
   -- the two promises of the entry point
@@ -106,17 +106,17 @@ module _ (message : List ℕ) (start end place : ℕ) (path : List ℕ) where
   pub promised : (o : Outcome) → whole ≡ o → Promised o.answer o.path
   promised o e =
       let (p, q) = parts e in
-      (record { told_is = ap told p; path_is = q; answer-is = p }, by_grammar p q)
+      (record { told_is = ap told p; path_is = q; answer_is = p }, by_grammar p q)
 
   -- .. of a body that is refused with 8, 9 or 10
   pub promised_names : {n p names : ℕ} → whole ≡ unchanged path (Expected n p (expected_in message start end)) → names ≡ expected_in message start end → Promised (Expected n p names) path
   promised_names {n} {p} e f = promised _ (e ∙ ap (λ m. unchanged path (Expected n p m)) (sym f))
 
   -- .. of a list
-  pub promised-list : (k : Derivation) {r : Touched} {after : List ℕ} → whole ≡ of_list message start end place path k → (r ≡ (of_list message start end place path k).answer) × (after ≡ (of_list message start end place path k).path) → Promised r after
-  promised-list k e (p, q) =
+  pub promised_list : (k : Derivation) {r : Touched} {after : List ℕ} → whole ≡ of_list message start end place path k → (r ≡ (of_list message start end place path k).answer) × (after ≡ (of_list message start end place path k).path) → Promised r after
+  promised_list k e (p, q) =
       let (a, b) = parts e in
-      (record { told_is = ap told (p ∙ a); path_is = q ∙ b; answer-is = p ∙ a }, by_grammar (p ∙ a) (q ∙ b))
+      (record { told_is = ap told (p ∙ a); path_is = q ∙ b; answer_is = p ∙ a }, by_grammar (p ∙ a) (q ∙ b))
 
   -- ---- what the reader answers
 
@@ -141,24 +141,24 @@ module _ (message : List ℕ) (start end place : ℕ) (path : List ℕ) where
         let n : length (records k) ≡ count k = length-records k in
         record { many_is = sym n; few = few; are = record_read b table (omega (arith, size)); parents = λ i l. parent_smaller k i no_record (omega arith) }
 
-    room-is : length table / address_record_size ≡ table_records
-    room-is = rw (← size)
+    room_is : length table / address_record_size ≡ table_records
+    room_is = rw (← size)
 
     by_room : (k : Derivation) → ListBody message start end k → whole ≡ of_list message start end place path k → (t : Bool) → ltb table_records (count k) ≡ t → MeansOf (derived table k)
     by_room k b q true e =
-        let d : derived table k ≡ record { answer = reader.NoRoom (count k); table = table } = rw (room-is, e) in
+        let d : derived table k ≡ record { answer = reader.NoRoom (count k); table = table } = rw (room_is, e) in
         subst (λ (o : addresses.Outcome). MeansOf o) (sym d) (q ∙ rw e)
     by_room k b q false e =
-        let d : derived table k ≡ record { answer = reader.Accepted (count k); table = sets table 0 (table_bytes (records k)) } = rw (room-is, e) in
+        let d : derived table k ≡ record { answer = reader.Accepted (count k); table = sets table 0 (table_bytes (records k)) } = rw (room_is, e) in
         subst (λ (o : addresses.Outcome). MeansOf o) (sym d) (record { derivation = k; held = record { body = b; holds = holds b (ltb-false table_records (count k) e) }; is = q })
 
     by_verdict_lem : (x : Clean message start end) (v : Verdict Class Derivation) → answer level_limit symbols ≡ v → MeansOf (outcome message start end table)
     by_verdict_lem x (accepted k) e =
         let d = answer_derives level_limit {xs = symbols} e in
-        let b : ListBody message start end k = list-body message start end x (record { derived = d.0; within = d.1 }) in
-        subst (λ (o : addresses.Outcome). MeansOf o) (sym (decided-read message start end x.short x.ordered x.inside level_limit x.faultless e (addresses.refusal table) (derived table))) (by_room k b (read x e) _ refl)
+        let b : ListBody message start end k = list_body message start end x (record { derived = d.0; within = d.1 }) in
+        subst (λ (o : addresses.Outcome). MeansOf o) (sym (decided_read message start end x.short x.ordered x.inside level_limit x.faultless e (addresses.refusal table) (derived table))) (by_room k b (read x e) _ refl)
     by_verdict_lem x (refused why rest) e =
-        subst (λ (o : addresses.Outcome). MeansOf o) (sym (decided-read message start end x.short x.ordered x.inside level_limit x.faultless e (addresses.refusal table) (derived table))) (read x e)
+        subst (λ (o : addresses.Outcome). MeansOf o) (sym (decided_read message start end x.short x.ordered x.inside level_limit x.faultless e (addresses.refusal table) (derived table))) (read x e)
 
     pub means : Clean message start end → {r : Answer} {after : List ℕ} → r ≡ (outcome message start end table).answer → after ≡ (outcome message start end table).table → Means r after
     means x e f = rw (e, f) (by_verdict_lem x _ refl)
@@ -169,17 +169,17 @@ module _ (message : List ℕ) (start end place : ℕ) (path : List ℕ) where
   pub path_enough : {k : Derivation} → ListBody message start end k → length (around place (records k)) ≤ level_limit + 1
   path_enough b =
       let n = nested start end b.list.derived (in_body b) in
-      omega (arith, around-few n place, nested_height start end b.list.derived (in_body b), b.list.within)
+      omega (arith, around_few n place, nested_height start end b.list.derived (in_body b), b.list.within)
 
   module _ {table : List ℕ} {many : ℕ} {k : Derivation} (h : HeldList message start end table many k) where
     in_room : ltb table_records (count k) ≡ false
     in_room = le-ltb table_records (count k) (omega (arith, h.holds.few, h.holds.many_is, length-records k))
 
-    pub before-body : place < start → of_list message start end place path k ≡ refusal path body_out_of_order 0
-    before-body l = rw (in_room, lt-leb start place l)
+    pub before_body : place < start → of_list message start end place path k ≡ refusal path body_out_of_order 0
+    before_body l = rw (in_room, lt-leb start place l)
 
-    pub after-body : start ≤ place → end ≤ place → of_list message start end place path k ≡ refusal path body_out_of_order 0
-    after-body l m = rw (in_room, le-leb start place l, le-ltb place end m)
+    pub after_body : start ≤ place → end ≤ place → of_list message start end place path k ≡ refusal path body_out_of_order 0
+    after_body l m = rw (in_room, le-leb start place l, le-ltb place end m)
 
     pub in_the_body : start ≤ place → place < end → of_list message start end place path k ≡ byte_of message start end place path k
     in_the_body l m = rw (in_room, le-leb start place l, lt-ltb place end m)

@@ -14,7 +14,7 @@ use Rattle.octets.specs.declared.answers.Answer.{Answer}
 use Rattle.vectors.specs.Ties.Puts.{Puts}
 use Rattle.vectors.proofs.PutLaws.{puts_as, puts_both}
 use lib.ListN.{length, get_or, take, drop, replicate, drop_of_length-le}
-use Rattle.octets.proofs.Parts.{from-here}
+use Rattle.octets.proofs.Parts.{from_here}
 use Rattle.octets.specs.Believed.Octets.{line_feed_byte, space_byte}
 use Rattle.records.specs.Believed.AddressRecords.{record_by, address_record_size, record_in}
 use Rattle.records.specs.Believed.FieldRecords.{field_of, field_record_size, field_in}
@@ -28,13 +28,13 @@ use Rattle.vectors.specs.Believed.Answers.{line, bracketed, front_text, address_
 -- ---- numbers
 
 module _ (numbers : List ℕ) (i : ℕ) (rest : List ℕ) where
-  pub spaced-next : i < length numbers → spaced (drop i numbers) rest ≡ space_byte ∷ decimal (get_or numbers i 0) (spaced (drop (i + 1) numbers) rest)
+  pub spaced_next : i < length numbers → spaced (drop i numbers) rest ≡ space_byte ∷ decimal (get_or numbers i 0) (spaced (drop (i + 1) numbers) rest)
   unfolding spaced
-  spaced-next h = rw (from-here numbers i 0 h)
+  spaced_next h = rw (from_here numbers i 0 h)
 
-  pub spaced-end : length numbers ≤ i → spaced (drop i numbers) rest ≡ rest
+  pub spaced_end : length numbers ≤ i → spaced (drop i numbers) rest ≡ rest
   unfolding spaced
-  spaced-end h = rw (drop_of_length-le numbers {i = i} h)
+  spaced_end h = rw (drop_of_length-le numbers {i = i} h)
 
 -- ---- lines
 
@@ -104,26 +104,26 @@ module _ (table : List ℕ) (i : ℕ) {o p : List ℕ} {n m : ℕ} where
   unfolding row_line
   field_row e w = puts_as (λ rest. ap (λ f. line 42 (field_numbers f) rest) e) w
 
-  pub address-row : {a b c d e f g : ℕ} → record_by a b c d e f g ≡ record_in table i → Puts (line 42 (a ∷ b ∷ c ∷ d ∷ e ∷ f ∷ g ∷ [])) o n p m → Puts (row_line address_record_size table i) o n p m
+  pub address_row : {a b c d e f g : ℕ} → record_by a b c d e f g ≡ record_in table i → Puts (line 42 (a ∷ b ∷ c ∷ d ∷ e ∷ f ∷ g ∷ [])) o n p m → Puts (row_line address_record_size table i) o n p m
   unfolding row_line
-  address-row e w = puts_as (λ rest. ap (λ r. line 42 (address_numbers r) rest) e) w
+  address_row e w = puts_as (λ rest. ap (λ r. line 42 (address_numbers r) rest) e) w
 
 pub other_size : (size : ℕ) (table : List ℕ) (i : ℕ) {o p : List ℕ} {n m : ℕ} → (size ≡ field_record_size → ⊥) → Puts (row_line address_record_size table i) o n p m → Puts (row_line size table i) o n p m
 unfolding row_line
 other_size size table i e w = puts_as (λ rest. rw (ne_eqb size field_record_size e)) w
 
 module _ (size : ℕ) (table : List ℕ) (many : ℕ) {o p : List ℕ} {n m : ℕ} where
-  pub counted-bytes : size ≡ 1 → Puts (front_text table many) o n p m → Puts (counted size table many) o n p m
+  pub counted_bytes : size ≡ 1 → Puts (front_text table many) o n p m → Puts (counted size table many) o n p m
   unfolding counted
-  counted-bytes e w = puts_as (λ rest. rw (eq-eqb size 1 e)) w
+  counted_bytes e w = puts_as (λ rest. rw (eq-eqb size 1 e)) w
 
-  pub counted-few : (size ≡ 1 → ⊥) → many ≤ 10 → Puts (rows size table many 0) o n p m → Puts (counted size table many) o n p m
+  pub counted_few : (size ≡ 1 → ⊥) → many ≤ 10 → Puts (rows size table many 0) o n p m → Puts (counted size table many) o n p m
   unfolding counted
-  counted-few e h w = puts_as (λ rest. rw (ne_eqb size 1 e, le-leb many 10 h)) w
+  counted_few e h w = puts_as (λ rest. rw (ne_eqb size 1 e, le-leb many 10 h)) w
 
-  pub counted-many : (size ≡ 1 → ⊥) → 10 < many → {q : List ℕ} {k : ℕ} → Puts (rows size table 2 0) o n q k → Puts (rows size table 2 (many - 2)) q k p m → Puts (counted size table many) o n p m
+  pub counted_many : (size ≡ 1 → ⊥) → 10 < many → {q : List ℕ} {k : ℕ} → Puts (rows size table 2 0) o n q k → Puts (rows size table 2 (many - 2)) q k p m → Puts (counted size table many) o n p m
   unfolding counted
-  counted-many e h w x = puts_as (λ rest. rw (ne_eqb size 1 e, lt-leb many 10 h)) (puts_both {f = rows size table 2 0} {g = rows size table 2 (many - 2)} w x)
+  counted_many e h w x = puts_as (λ rest. rw (ne_eqb size 1 e, lt-leb many 10 h)) (puts_both {f = rows size table 2 0} {g = rows size table 2 (many - 2)} w x)
 
 -- ---- a room
 
@@ -139,15 +139,15 @@ module _ (table : List ℕ) (from : ℕ) {o p : List ℕ} {n m : ℕ} where
 module _ (room : List ℕ) (i : ℕ) where
   pub kept_next : i < length room → get_or room i 0 ≡ untouched_byte → untouched (drop i room) ≡ untouched (drop (i + 1) room)
   unfolding untouched
-  kept_next h e = rw (from-here room i 0 h, eq-eqb (get_or room i 0) untouched_byte e)
+  kept_next h e = rw (from_here room i 0 h, eq-eqb (get_or room i 0) untouched_byte e)
 
   pub not_kept : i < length room → (get_or room i 0 ≡ untouched_byte → ⊥) → untouched (drop i room) ≡ false
   unfolding untouched
-  not_kept h e = rw (from-here room i 0 h, ne_eqb (get_or room i 0) untouched_byte e)
+  not_kept h e = rw (from_here room i 0 h, ne_eqb (get_or room i 0) untouched_byte e)
 
-  pub kept-end : length room ≤ i → untouched (drop i room) ≡ true
+  pub kept_end : length room ≤ i → untouched (drop i room) ≡ true
   unfolding untouched
-  kept-end h = rw (drop_of_length-le room {i = i} h)
+  kept_end h = rw (drop_of_length-le room {i = i} h)
 
 pub take-replicate : (m n a : ℕ) → m ≤ n → take m (replicate n a) ≡ replicate m a
 take-replicate zero n a h = refl

@@ -18,11 +18,11 @@ pub puts_nothing : (out : List ℕ) (n : ℕ) → Puts (λ rest. rest) out n out
 puts_nothing out n = record { same = λ rest. refl }
 
 -- the place after a byte
-pub next-inside : (out : List ℕ) (n : ℕ) → n < length out → n + 1 ≡ next out n
-next-inside out n h = rw (lt-ltb n (length out) h)
+pub next_inside : (out : List ℕ) (n : ℕ) → n < length out → n + 1 ≡ next out n
+next_inside out n h = rw (lt-ltb n (length out) h)
 
-pub next-outside : (out : List ℕ) (n : ℕ) → length out ≤ n → n ≡ next out n
-next-outside out n h = rw (le-ltb n (length out) h)
+pub next_outside : (out : List ℕ) (n : ℕ) → length out ≤ n → n ≡ next out n
+next_outside out n h = rw (le-ltb n (length out) h)
 
 -- a byte
 pub puts_byte : {out after : List ℕ} {n m b : ℕ} → m ≡ next out n → after ≡ set out n b → Puts (λ rest. b ∷ rest) out n after m
@@ -42,8 +42,8 @@ puts_both {f} {g} a b = record { same = λ rest. a.same (g rest) ∙ b.same rest
 pub record Left (o : List ℕ) (n : ℕ) (f : List ℕ → List ℕ) (o' : List ℕ) (n' : ℕ) (g : List ℕ → List ℕ) : Type 0 where
   pub same : (rest : List ℕ) → putting o n (f rest) ≡ putting o' n' (g rest)
 
-pub left-all : (o : List ℕ) (n : ℕ) (f : List ℕ → List ℕ) → Left o n f o n f
-left-all o n f = record { same = λ rest. refl }
+pub left_all : (o : List ℕ) (n : ℕ) (f : List ℕ → List ℕ) → Left o n f o n f
+left_all o n f = record { same = λ rest. refl }
 
 module _ {o o' : List ℕ} {n n' : ℕ} {f g : List ℕ → List ℕ} (l : Left o n f o' n' g) where
   -- the same text in other words
@@ -55,32 +55,32 @@ module _ {o o' : List ℕ} {n n' : ℕ} {f g : List ℕ → List ℕ} (l : Left 
   left_after {k = k} e w = record { same = λ rest. l.same rest ∙ ap (putting o' n') (e rest) ∙ w.same (k rest) }
 
   -- `h` is put, and that was all
-  pub left-last : {o'' : List ℕ} {n'' : ℕ} {h : List ℕ → List ℕ} → ((rest : List ℕ) → g rest ≡ h rest) → Puts h o' n' o'' n'' → Puts f o n o'' n''
-  left-last e w = record { same = λ rest. l.same rest ∙ ap (putting o' n') (e rest) ∙ w.same rest }
+  pub left_last : {o'' : List ℕ} {n'' : ℕ} {h : List ℕ → List ℕ} → ((rest : List ℕ) → g rest ≡ h rest) → Puts h o' n' o'' n'' → Puts f o n o'' n''
+  left_last e w = record { same = λ rest. l.same rest ∙ ap (putting o' n') (e rest) ∙ w.same rest }
 
   -- nothing is left
-  pub left-none : ((rest : List ℕ) → g rest ≡ rest) → Puts f o n o' n'
-  left-none e = record { same = λ rest. l.same rest ∙ ap (putting o' n') (e rest) }
+  pub left_none : ((rest : List ℕ) → g rest ≡ rest) → Puts f o n o' n'
+  left_none e = record { same = λ rest. l.same rest ∙ ap (putting o' n') (e rest) }
 
 -- ---- the part afterwards
 
 -- a byte at a place inside, and past the end
-put-inside : (out : List ℕ) (n b : ℕ) (t : List ℕ) → n < length out → putting out n (b ∷ t) ≡ putting (set out n b) (n + 1) t
+put_inside : (out : List ℕ) (n b : ℕ) (t : List ℕ) → n < length out → putting out n (b ∷ t) ≡ putting (set out n b) (n + 1) t
 unfolding putting
-put-inside out n b t h = rw (lt-ltb n (length out) h)
+put_inside out n b t h = rw (lt-ltb n (length out) h)
 
-put-outside : (out : List ℕ) (n b : ℕ) (t : List ℕ) → length out ≤ n → putting out n (b ∷ t) ≡ putting out n t
+put_outside : (out : List ℕ) (n b : ℕ) (t : List ℕ) → length out ≤ n → putting out n (b ∷ t) ≡ putting out n t
 unfolding putting
-put-outside out n b t h = rw (le-ltb n (length out) h, set_out out n b h)
+put_outside out n b t h = rw (le-ltb n (length out) h, set_out out n b h)
 
 -- no more is used than there is
-pub used-fits : (t out : List ℕ) (n : ℕ) → n ≤ length out → (putting out n t).used ≤ length out
+pub used_fits : (t out : List ℕ) (n : ℕ) → n ≤ length out → (putting out n t).used ≤ length out
 unfolding putting
-used-fits [] out n h = h
-used-fits (b ∷ t) out n h =
+used_fits [] out n h = h
+used_fits (b ∷ t) out n h =
     elim (dec_lt n (length out)) [
-      | yes l ↦ rw (put-inside out n b t l) (rw (length-set out n b) at (used-fits t (set out n b) (n + 1) (rw (length-set out n b) (omega arith))))
-      | no l ↦ rw (put-outside out n b t (omega arith)) (used-fits t out n h)
+      | yes l ↦ rw (put_inside out n b t l) (rw (length-set out n b) at (used_fits t (set out n b) (n + 1) (rw (length-set out n b) (omega arith))))
+      | no l ↦ rw (put_outside out n b t (omega arith)) (used_fits t out n h)
     ]
 
 -- what is used holds the front of the text
@@ -91,11 +91,11 @@ front_from (b ∷ t) out n h =
     elim (dec_lt n (length out)) [
       | yes l ↦
           let e : take (n + 1) (set out n b) ++ t ≡ take n out ++ b ∷ t = rw (add-one n, take-suc-set out n b l) (append_assoc (take n out) (b ∷ []) t) in
-          rw (put-inside out n b t l) (front_from t (set out n b) (n + 1) (rw (length-set out n b) (omega arith)) ∙ rw (length-set out n b, e))
+          rw (put_inside out n b t l) (front_from t (set out n b) (n + 1) (rw (length-set out n b) (omega arith)) ∙ rw (length-set out n b, e))
       | no l ↦
           let z : n ≡ length out = omega arith in
           let full : (s : List ℕ) → take (length out) (take n out ++ s) ≡ take (length out) (take n out) = λ s. take-append-le (length out) (take n out) s (rw (length-take-le n out h) (omega arith)) in
-          rw (put-outside out n b t (omega arith)) (front_from t out n h ∙ full t ∙ sym (full (b ∷ t)))
+          rw (put_outside out n b t (omega arith)) (front_from t out n h ∙ full t ∙ sym (full (b ∷ t)))
     ]
 
 pub front : (t out : List ℕ) → take (putting out 0 t).used (putting out 0 t).bytes ≡ take (length out) t
@@ -104,9 +104,9 @@ front t out = front_from t out 0 (omega arith)
 -- ---- texts
 
 -- one of two, through a function
-pub pick-of : {A : Type 0} (f : A → List ℕ) (t : Bool) (x y : A) → f (pick t x y) ≡ pick t (f x) (f y)
-pick-of f true x y = refl
-pick-of f false x y = refl
+pub pick_of : {A : Type 0} (f : A → List ℕ) (t : Bool) (x y : A) → f (pick t x y) ≡ pick t (f x) (f y)
+pick_of f true x y = refl
+pick_of f false x y = refl
 
 -- as it stands
 pub copied_raw : (t rest : List ℕ) → copied false t rest ≡ t ++ rest

@@ -47,12 +47,12 @@ given_parts size r table e x y z =
 module _ {o p : List ℕ} {n m : ℕ} where
   -- .. of an outcome
   pub answered_by : (size : ℕ) {answer r : Answer} {bytes after : List ℕ} → Answered answer bytes r after → Puts (given size r after) o n p m → Puts (given size answer bytes) o n p m
-  answered_by size t w = rw (t.answer-is, t.bytes-are) at w
+  answered_by size t w = rw (t.answer_is, t.bytes_are) at w
 
   module _ (letter : ℕ) (head message table : List ℕ) where
-    pub run-addresses : letter ≡ 97 → Puts (given_by address_record_size (outcome message (start_of head) (end_of head message) table)) o n p m → Puts (read_text letter head message table) o n p m
+    pub run_addresses : letter ≡ 97 → Puts (given_by address_record_size (outcome message (start_of head) (end_of head message) table)) o n p m → Puts (read_text letter head message table) o n p m
     unfolding read_text
-    run-addresses a w = puts_as (λ rest. rw (eq-eqb letter 97 a)) w
+    run_addresses a w = puts_as (λ rest. rw (eq-eqb letter 97 a)) w
 
     pub run_by_table : (letter ≡ 97 → ⊥) → letter ≡ 98 → Puts (given_by address_record_size (outcome message (start_of head) (end_of head message) table)) o n p m → Puts (read_text letter head message table) o n p m
     unfolding read_text
@@ -68,40 +68,40 @@ module _ {o p : List ℕ} {n m : ℕ} where
     unfolding read_text
     run_fields a b c d w = puts_as (λ rest. rw (ne_eqb letter 97 a, ne_eqb letter 98 b, ne_eqb letter 101 c, eq-eqb letter 102 d)) w
 
-    pub run-plain : (letter ≡ 97 → ⊥) → (letter ≡ 98 → ⊥) → (letter ≡ 101 → ⊥) → (letter ≡ 102 → ⊥) → letter ≡ 112
+    pub run_plain : (letter ≡ 97 → ⊥) → (letter ≡ 98 → ⊥) → (letter ≡ 101 → ⊥) → (letter ≡ 102 → ⊥) → letter ≡ 112
         → Puts (given_by 1 (plain_outcome message (start_of head) (end_of head message) table)) o n p m → Puts (read_text letter head message table) o n p m
     unfolding read_text
-    run-plain a b c d e w = puts_as (λ rest. rw (ne_eqb letter 97 a, ne_eqb letter 98 b, ne_eqb letter 101 c, ne_eqb letter 102 d, eq-eqb letter 112 e)) w
+    run_plain a b c d e w = puts_as (λ rest. rw (ne_eqb letter 97 a, ne_eqb letter 98 b, ne_eqb letter 101 c, ne_eqb letter 102 d, eq-eqb letter 112 e)) w
 
-    pub run-nothing : (letter ≡ 97 → ⊥) → (letter ≡ 98 → ⊥) → (letter ≡ 101 → ⊥) → (letter ≡ 102 → ⊥) → (letter ≡ 112 → ⊥) → Puts (λ rest. rest) o n p m → Puts (read_text letter head message table) o n p m
+    pub run_nothing : (letter ≡ 97 → ⊥) → (letter ≡ 98 → ⊥) → (letter ≡ 101 → ⊥) → (letter ≡ 102 → ⊥) → (letter ≡ 112 → ⊥) → Puts (λ rest. rest) o n p m → Puts (read_text letter head message table) o n p m
     unfolding read_text
-    run-nothing a b c d e w = puts_as (λ rest. rw (ne_eqb letter 97 a, ne_eqb letter 98 b, ne_eqb letter 101 c, ne_eqb letter 102 d, ne_eqb letter 112 e)) w
+    run_nothing a b c d e w = puts_as (λ rest. rw (ne_eqb letter 97 a, ne_eqb letter 98 b, ne_eqb letter 101 c, ne_eqb letter 102 d, ne_eqb letter 112 e)) w
 
 module _ {o p q : List ℕ} {n a b : ℕ} (head message : List ℕ) {s e : ℕ} (es : s ≡ start_of head) (ee : e ≡ end_of head message) where
-  pub date-text : {r : DateAnswer} {x y z : ℕ} {v : ℤ} → r ≡ date_answer message s e → x ≡ date.number_of r → y ≡ date.position_of r → z ≡ date.count_of r → v ≡ date.value_of r
+  pub date_text_lem : {r : DateAnswer} {x y z : ℕ} {v : ℤ} → r ≡ date_answer message s e → x ≡ date.number_of r → y ≡ date.position_of r → z ≡ date.count_of r → v ≡ date.value_of r
       → Puts (line 61 (x ∷ y ∷ z ∷ [])) o n p a → Puts (value_line v) p a q b → Puts (date_text head message) o n q b
   unfolding date_text
-  date-text {r} f x y z v w k =
+  date_text_lem {r} f x y z v w k =
       let g : r ≡ date_answer message (start_of head) (end_of head message) = rw (es, ee) at f in
       let d = date_answer message (start_of head) (end_of head message) in
       puts_both {f = line 61 (date.number_of d ∷ date.position_of d ∷ date.count_of d ∷ [])} {g = value_line (date.value_of d)} (rw (x, y, z, g) at w) (rw (v, g) at k)
 
-  pub scan-text : {r : Answer} → r ≡ body_scanned message s e → Puts (answer_line r) o n p a → Puts (symbols 65536 message s e) p a q b → Puts (scan_text head message) o n q b
+  pub scan_text_lem : {r : Answer} → r ≡ body_scanned message s e → Puts (answer_line r) o n p a → Puts (symbols 65536 message s e) p a q b → Puts (scan_text head message) o n q b
   unfolding scan_text
-  scan-text {r} f w k =
+  scan_text_lem {r} f w k =
       let g : r ≡ body_scanned message (start_of head) (end_of head message) = rw (es, ee) at f in
       puts_both {f = answer_line (body_scanned message (start_of head) (end_of head message))} {g = symbols 65536 message (start_of head) (end_of head message)} (rw g at w) (rw (es, ee) at k)
 
-  pub touched-text : (path : List ℕ) {t : ℕ} {r : Touched} {after : List ℕ} {v w x y z : ℕ} → t ≡ place_of head → touch.AnsweredBy (touched message s e t path) r after
+  pub touched_text : (path : List ℕ) {t : ℕ} {r : Touched} {after : List ℕ} {v w x y z : ℕ} → t ≡ place_of head → touch.AnsweredBy (touched message s e t path) r after
       → v ≡ touch.number_of r → w ≡ touch.position_of r → x ≡ touch.count_of r → y ≡ touch.category_of r → z ≡ touch.names_of r
       → Puts (line 61 (v ∷ w ∷ x ∷ y ∷ z ∷ [])) o n p a → Puts (line 42 after) p a q b → Puts (touch_text head message path) o n q b
   unfolding touch_text
-  touched-text path {r = r} {after = after} et f v w x y z k l =
+  touched_text path {r = r} {after = after} et f v w x y z k l =
       let g : touch.AnsweredBy (touched message (start_of head) (end_of head message) (place_of head) path) r after = rw (es, ee, et) at f in
       let d = (touched message (start_of head) (end_of head message) (place_of head) path).answer in
       puts_both {f = line 61 (touch.number_of d ∷ touch.position_of d ∷ touch.count_of d ∷ touch.category_of d ∷ touch.names_of d ∷ [])}
       {g = line 42 (touched message (start_of head) (end_of head message) (place_of head) path).path}
-      (rw (v, w, x, y, z, g.answer-is) at k)
+      (rw (v, w, x, y, z, g.answer_is) at k)
       (rw g.path_is at l)
 
   pub open_text_lem : (store room : List ℕ) {r : Expanded} {after : List ℕ} → expansion.AnsweredBy (expansion.expand_outcome message s e store room) r after
@@ -110,7 +110,7 @@ module _ {o p q : List ℕ} {n a b : ℕ} (head message : List ℕ) {s e : ℕ} 
   open_text_lem store room {r} {after} f k l =
       let g : expansion.AnsweredBy (expansion.expand_outcome message (start_of head) (end_of head message) store room) r after = rw (es, ee) at f in
       let d = expansion.expand_outcome message (start_of head) (end_of head message) store room in
-      puts_both {f = line 35 (d.openings ∷ [])} {g = given 1 d.answer d.text} (rw g.openings-is at k) (answered_by 1 g.answered l)
+      puts_both {f = line 35 (d.openings ∷ [])} {g = given 1 d.answer d.text} (rw g.openings_is at k) (answered_by 1 g.answered l)
 
 pub compare_text_lem : (message other room spare : List ℕ) {r t : Answer} {x y : List ℕ} {same : Bool} {w : ℕ} {o p q s : List ℕ} {n a b c : ℕ}
     → AnsweredBy (plain_outcome message 0 (length message) room) r x → AnsweredBy (plain_outcome other 0 (length other) spare) t y → same ≡ same_bytes x y → w ≡ pick same 1 0
@@ -119,16 +119,16 @@ unfolding compare_text
 compare_text_lem message other room spare f g e h j k l =
     let d = plain_outcome message 0 (length message) room in
     let i = plain_outcome other 0 (length other) spare in
-    puts_both {f = answer_line d.answer} {g = λ rest. answer_line i.answer (line 38 (pick (same_bytes d.table i.table) 1 0 ∷ []) rest)} (rw f.answer-is at j)
-    (puts_both {f = answer_line i.answer} {g = line 38 (pick (same_bytes d.table i.table) 1 0 ∷ [])} (rw g.answer-is at k) (rw (h, e, f.bytes-are, g.bytes-are) at l))
+    puts_both {f = answer_line d.answer} {g = λ rest. answer_line i.answer (line 38 (pick (same_bytes d.table i.table) 1 0 ∷ []) rest)} (rw f.answer_is at j)
+    (puts_both {f = answer_line i.answer} {g = line 38 (pick (same_bytes d.table i.table) 1 0 ∷ [])} (rw g.answer_is at k) (rw (h, e, f.bytes_are, g.bytes_are) at l))
 
-pub unfit-text : (head message table : List ℕ) {x t : ℕ} {r : Answer} {after : List ℕ} {refused : Bool} {w : ℕ} {o p : List ℕ} {n a : ℕ}
+pub unfit_text_lem : (head message table : List ℕ) {x t : ℕ} {r : Answer} {after : List ℕ} {refused : Bool} {w : ℕ} {o p : List ℕ} {n a : ℕ}
     → x ≡ edition_of head → AnsweredBy (outcome_of x message 0 (length message) table) r after → t ≡ place_of head → refused ≡ refuses_at r t → w ≡ pick refused 1 0
     → Puts (line 61 (w ∷ [])) o n p a → Puts (unfit_text head message table) o n p a
 unfolding unfit_text
-unfit-text head message table {r = r} {after = after} e f g h i w =
+unfit_text_lem head message table {r = r} {after = after} e f g h i w =
     let d : AnsweredBy (outcome_of (edition_of head) message 0 (length message) table) r after = rw e at f in
-    rw (i, h, d.answer-is, g) at w
+    rw (i, h, d.answer_is, g) at w
 
 -- ---- a line
 
@@ -137,8 +137,8 @@ pub room-length : (x : ℕ) (space : List ℕ) → 65536 ≡ length space → le
 room-length x space e = length-take-le (x % 65536) space (omega (arith, e))
 
 -- the message that is decoded
-pub message-is : (first : List ℕ) {text part x : List ℕ} → 65536 ≡ length first → part ≡ text → x ≡ take (length first) (decoded false part) → x ≡ message_of text
-message-is first l e d = d ∙ rw (← l, e)
+pub message_is : (first : List ℕ) {text part x : List ℕ} → 65536 ≡ length first → part ≡ text → x ≡ take (length first) (decoded false part) → x ≡ message_of text
+message_is first l e d = d ∙ rw (← l, e)
 
 module _ (letter : ℕ) (head message other store : List ℕ) {o p : List ℕ} {n m : ℕ} where
   -- rooms as they are lent
@@ -150,15 +150,15 @@ module _ (letter : ℕ) (head message other store : List ℕ) {o p : List ℕ} {
   unfolding vector_with
   with_room e f g w = rw (f, g, e) at w
 
-pub parts-text : (letter : ℕ) (head tail store : List ℕ) {x y o p : List ℕ} {n m : ℕ} → x ≡ message_of (before 124 tail) → y ≡ message_of (behind 124 tail)
+pub parts_text_lem : (letter : ℕ) (head tail store : List ℕ) {x y o p : List ℕ} {n m : ℕ} → x ≡ message_of (before 124 tail) → y ≡ message_of (behind 124 tail)
     → Puts (vector_with letter head x y store) o n p m → Puts (parts_text letter head tail store) o n p m
 unfolding parts_text
-parts-text letter head tail store e f w = rw (e, f) at w
+parts_text_lem letter head tail store e f w = rw (e, f) at w
 
-pub all-put : (line store : List ℕ) {letter : ℕ} {head tail o p q s : List ℕ} {n m k : ℕ} → head ≡ before 124 line → tail ≡ behind 124 line → letter ≡ number_at 1 line 0
+pub all_put : (line store : List ℕ) {letter : ℕ} {head tail o p q s : List ℕ} {n m k : ℕ} → head ≡ before 124 line → tail ≡ behind 124 line → letter ≡ number_at 1 line 0
     → Puts (λ rest. line ++ rest) o 0 p n → Puts (λ rest. line_feed_byte ∷ rest) p n q m → Puts (parts_text letter head tail store) q m s k → text_of s k ≡ putting o 0 (answer_of line store)
 unfolding putting
-all-put line store e f g x y z =
+all_put line store e f g x y z =
     let t = parts_text (number_at 1 line 0) (before 124 line) (behind 124 line) store [] in
     sym (x.same (line_feed_byte ∷ t) ∙ y.same t ∙ (rw (e, f, g) at (z.same [])))
 

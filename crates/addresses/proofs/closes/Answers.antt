@@ -6,12 +6,12 @@ use Rattle.grammar.specs.Believed.Rfc733.{same_class}
 use Rattle.grammar.specs.Executable.Trees733.{GreaterThan, Semicolon}
 use Rattle.addresses.specs.declared.Enclosure.{Enclosure}
 use Rattle.addresses.specs.Ties.Steps.{closing, closes_ahead}
-use Rattle.addresses.proofs.ClassCases.{by_class_not, no-symbol-ahead}
+use Rattle.addresses.proofs.ClassCases.{by_class_not, no_symbol_ahead}
 use borrow.Enum.Refused.{opened}
 use Rattle.addresses.proofs.closes.Goals as goal
 
 pub returns-in_default : goal.returns-in_default
-returns-in_default c = sym (no-symbol-ahead (closes_ahead c.args.enclosure) false refl refl c.args.ahead (opened c.in_default.in_default-own.keys2))
+returns-in_default c = sym (no_symbol_ahead (closes_ahead c.args.enclosure) false refl refl c.args.ahead (opened c.in_default.in_default-own.keys2))
 
 pub returns-in-GreaterThan : goal.returns-in-GreaterThan
 returns-in-GreaterThan c =

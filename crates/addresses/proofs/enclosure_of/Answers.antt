@@ -7,12 +7,12 @@ use Rattle.grammar.specs.Executable.Trees733.{LessThan}
 use Rattle.scanner.specs.declared.cursor.Ahead.TheVariants.{Symbol}
 use Rattle.addresses.specs.declared.Enclosure.TheVariants.{Angle, Group}
 use Rattle.addresses.specs.Ties.Steps.{enclosure_of}
-use Rattle.addresses.proofs.ClassCases.{by_class_not, no-symbol-ahead}
+use Rattle.addresses.proofs.ClassCases.{by_class_not, no_symbol_ahead}
 use borrow.Enum.Refused.{opened}
 use Rattle.addresses.proofs.enclosure_of.Goals as goal
 
 pub returns-in_default : goal.returns-in_default
-returns-in_default c = sym (no-symbol-ahead enclosure_of Group refl refl c.args.ahead (opened c.in_default.in_default-own.keys2))
+returns-in_default c = sym (no_symbol_ahead enclosure_of Group refl refl c.args.ahead (opened c.in_default.in_default-own.keys2))
 
 pub returns-in-LessThan : goal.returns-in-LessThan
 returns-in-LessThan c = sym (ap enclosure_of (c.in-Symbol.is ∙ ap Symbol c.in-LessThan.is))

@@ -4,12 +4,12 @@ use mathlib.Core.Bool.{false}
 use mathlib.Core.List.{[], ◌∷◌}
 use Rattle.scanner.specs.declared.cursor.Ahead.TheVariants.{Symbol}
 use Rattle.addresses.specs.Ties.Steps.{is_quoted, quoted_ahead}
-use Rattle.addresses.proofs.ClassCases.{by_class_not, no-symbol-ahead}
+use Rattle.addresses.proofs.ClassCases.{by_class_not, no_symbol_ahead}
 use borrow.Enum.Refused.{opened}
 use Rattle.addresses.proofs.is_quoted.Goals as goal
 
 pub returns-in_default : goal.returns-in_default
-returns-in_default c = sym (no-symbol-ahead quoted_ahead false refl refl c.args.ahead (opened c.in_default.in_default-own.keys2))
+returns-in_default c = sym (no_symbol_ahead quoted_ahead false refl refl c.args.ahead (opened c.in_default.in_default-own.keys2))
 
 pub returns-in-Quoted : goal.returns-in-Quoted
 returns-in-Quoted c = sym (ap quoted_ahead (c.in-Symbol.is ∙ ap Symbol c.in-Quoted.is))

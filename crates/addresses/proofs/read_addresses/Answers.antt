@@ -4,12 +4,12 @@ use native.Mathlib.Omega.{arith}
 use lib.Seq.{length-take-le}
 use Rattle.octets.specs.Believed.Classes.{class_table, class_of}
 use Rattle.scanner.proofs.BodyChecks.{passed}
-use Rattle.addresses.proofs.WholeLaws.{unfit-promised, first-promised, fitting}
+use Rattle.addresses.proofs.WholeLaws.{unfit_promised, first_promised, fitting}
 use borrow.Enum.Refused.{opened}
 use Rattle.addresses.proofs.read_addresses.Goals as goal
 
 pub returns-in-Refused : goal.returns-in-Refused
-returns-in-Refused c = let all = unfit-promised c.args.message.now c.args.start c.args.end c.args.table.now (sym c.in-Refused.is ∙ c.check_body.ensures) in record { outcome = all.0; condition3 = all.1 }
+returns-in-Refused c = let all = unfit_promised c.args.message.now c.args.start c.args.end c.args.table.now (sym c.in-Refused.is ∙ c.check_body.ensures) in record { outcome = all.0; condition3 = all.1 }
 
 pub overflow_sub-end : goal.overflow_sub-end
 overflow_sub-end c = omega (arith, (passed c.args.message.now c.args.start c.args.end c.check_body.result c.check_body.ensures (opened c.in_default.in_default-own.keys2)).ordered)
@@ -23,7 +23,7 @@ read_once-requires c = (fitting (passed c.args.message.now c.args.start c.args.e
 
 pub returns-then-end-start-le-ONCE_LIMIT : goal.returns-then-end-start-le-ONCE_LIMIT
 unfolding class_table class_of
-returns-then-end-start-le-ONCE_LIMIT c = let all = first-promised c.args.message.now c.args.start c.args.end c.args.table.now _ _ (passed c.args.message.now c.args.start c.args.end c.check_body.result c.check_body.ensures (opened c.in_default.in_default-own.keys2)) c.read_once.ensures in record { outcome = all.0; condition3 = all.1 }
+returns-then-end-start-le-ONCE_LIMIT c = let all = first_promised c.args.message.now c.args.start c.args.end c.args.table.now _ _ (passed c.args.message.now c.args.start c.args.end c.check_body.result c.check_body.ensures (opened c.in_default.in_default-own.keys2)) c.read_once.ensures in record { outcome = all.0; condition3 = all.1 }
 
 pub slice_bounds-read_twice-end : goal.slice_bounds-read_twice-end
 slice_bounds-read_twice-end c = sym (length-take-le _ c.args.message.now (passed c.args.message.now c.args.start c.args.end c.check_body.result c.check_body.ensures (opened c.in_default.in_default-own.keys2)).inside)
@@ -34,4 +34,4 @@ read_twice-requires c = fitting (passed c.args.message.now c.args.start c.args.e
 
 pub returns : goal.returns
 unfolding class_table class_of
-returns c = let all = first-promised c.args.message.now c.args.start c.args.end c.args.table.now _ _ (passed c.args.message.now c.args.start c.args.end c.check_body.result c.check_body.ensures (opened c.in_default.in_default-own.keys2)) c.read_twice.ensures in record { outcome = all.0; condition3 = all.1 }
+returns c = let all = first_promised c.args.message.now c.args.start c.args.end c.args.table.now _ _ (passed c.args.message.now c.args.start c.args.end c.check_body.result c.check_body.ensures (opened c.in_default.in_default-own.keys2)) c.read_twice.ensures in record { outcome = all.0; condition3 = all.1 }

@@ -40,7 +40,7 @@ module _ {N : Type 0} (edition : Edition N) where
     -- a list, without room: 11 with the number of its addresses
     pub without_room : (k : Forest Class N) → IsListIn symbols k → room_for address_record_size table < count k → (told r ≡ telling too_little_room 0 (count k)) × (after ≡ table)
     -- no list: refused, whatever the room
-    pub no-list : ((k : Forest Class N) → IsListIn symbols k → ⊥) → RightlyRefused symbols end r × (after ≡ table)
+    pub no_list : ((k : Forest Class N) → IsListIn symbols k → ⊥) → RightlyRefused symbols end r × (after ≡ table)
 
   -- condition 3 speaks of a body that scans without fault, with its positions in order, in a message within the limit
   abbrev pub Condition3In : List ℕ → ℕ → ℕ → List ℕ → Answer → List ℕ → Type 0

@@ -277,10 +277,10 @@ module _ (classes text : List ℕ) where
 
   pub record TypedFollows (at start end behind : ℕ) : Type 0 where
     pub colon : Lexeme
-    pub atom-apart : Bool
-    pub yields : symbols_from at ≡ symbol_at Atom start end atom-apart ∷ of Colon colon ∷ symbols_from behind
+    pub atom_apart : Bool
+    pub yields : symbols_from at ≡ symbol_at Atom start end atom_apart ∷ of Colon colon ∷ symbols_from behind
     pub from : at ≤ start
-    pub atom-starts : start < end
+    pub atom_starts : start < end
     pub end_before : end < behind
     pub within : behind ≤ length text
 
@@ -292,7 +292,7 @@ module _ (classes text : List ℕ) where
     pub sized : length after ≡ cursor_size
 
   pub record NamelessOn (before after : List ℕ) : Type 0 where
-    pub no-atom : atom_colon (symbols_from (get_or before 2 0)) ≡ false
+    pub no_atom : atom_colon (symbols_from (get_or before 2 0)) ≡ false
     pub free_kept : free_in after ≡ free_in before
     pub sized : length after ≡ cursor_size
 
@@ -308,7 +308,7 @@ module _ (classes text : List ℕ) where
     pub reads : (h : Here) → Clear (fresh h) (atom_colon xs) → run (levels_here h + frame.levels) (begin h) xs ≡ run (levels_here h + frame.levels) (done_address h tree) (symbols_ahead ahead)
     pub ends : AddressEnds (symbols_ahead ahead)
     pub ahead_ok : Comes last ahead
-    pub last-is : last ≡ address_end tree
+    pub last_is : last ≡ address_end tree
     pub count : free ≡ frame.number + address_count tree
     pub stored : after ≡ sets table (frame.number * address_record_size) (table_bytes (address_records tree (level_limit - frame.levels) frame.parent frame.number))
     pub from : start < last
@@ -326,8 +326,8 @@ module _ (classes text : List ℕ) where
   -- the text is not too long, at most 64 levels are left, and there are no more records than bytes so far
   pub record Ready (frame : Frame) (start : ℕ) : Type 0 where
     pub short : length text ≤ message_limit
-    pub levels-low : frame.levels ≤ level_limit
-    pub number-low : frame.number ≤ start
+    pub levels_low : frame.levels ≤ level_limit
+    pub number_low : frame.number ≤ start
 
   -- a symbol that may begin an address, or fits nowhere, stands ahead
   pub record BeginsAddress (cursor : List ℕ) (levels parent : ℕ) : Type 0 where
@@ -420,7 +420,7 @@ module _ (classes text : List ℕ) where
   NoMark (Fault number p) = Unit {0}
 
   pub record Lone (ahead : Next) (span : Span) (frame : Frame) : Type 0 where
-    pub no-mark : NoMark ahead
+    pub no_mark : NoMark ahead
     pub ahead_ok : Comes span.end ahead
     pub not_empty : span.start < span.end
     pub within : span.end ≤ length text
@@ -428,7 +428,7 @@ module _ (classes text : List ℕ) where
 
   pub record LoneAhead (cursor : List ℕ) (levels parent : ℕ) (span : Span) : Type 0 where
     pub lone : Lone (next_in cursor) span (frame_at levels parent cursor)
-    pub last-is : last_in cursor ≡ span.end
+    pub last_is : last_in cursor ≡ span.end
     pub sized : length cursor ≡ cursor_size
 
   abbrev pub LoneIs : List ℕ → ℕ → ℕ → Bool → Span → List ℕ → List ℕ → Bool → List ℕ → Type 0
@@ -453,13 +453,13 @@ module _ (classes text : List ℕ) where
 
   pub record NamedFirst (cursor : List ℕ) (levels parent : ℕ) : Type 0 where
     pub class : Class
-    pub ahead-is : ahead_of (get_or cursor 0 0) ≡ Symbol class
+    pub ahead_is : ahead_of (get_or cursor 0 0) ≡ Symbol class
     pub first : FirstWord class (get_or cursor 1 0) (get_or cursor 2 0)
     pub ready : Ready (frame_at levels parent cursor) (get_or cursor 1 0)
     pub sized : length cursor ≡ cursor_size
 
   pub record ColonFirst (cursor : List ℕ) (levels parent : ℕ) : Type 0 where
-    pub ahead-is : ahead_of (get_or cursor 0 0) ≡ Symbol Colon
+    pub ahead_is : ahead_of (get_or cursor 0 0) ≡ Symbol Colon
     pub stands : Standing (get_or cursor 1 0) (get_or cursor 2 0)
     pub ready : Ready (frame_at levels parent cursor) (get_or cursor 1 0)
     pub sized : length cursor ≡ cursor_size

@@ -52,7 +52,7 @@ module _ {N : Type 0} (verdict : List (Symbol Class) → Verdict Class (Forest C
   pub record IsListed (at : ℕ) (table after : List ℕ) (n : ℕ) : Type 0 where
     pub derivation : Forest Class N
     pub verdict_is : verdict (symbols_from classes text at) ≡ accepted derivation
-    pub count-is : n ≡ count derivation
+    pub count_is : n ≡ count derivation
     pub stored : after ≡ sets table 0 (table_bytes (records derivation))
 
   pub record IsRefused (at number-told place : ℕ) : Type 0 where
@@ -68,7 +68,7 @@ module _ {N : Type 0} (verdict : List (Symbol Class) → Verdict Class (Forest C
 
   -- what is decided of the symbols from a position on
   pub record TwiceIs (at : ℕ) (table after : List ℕ) (r : Answer) : Type 0 where
-    pub answer-is : r ≡ (decided (length text) table (verdict (symbols_from classes text at))).answer
+    pub answer_is : r ≡ (decided (length text) table (verdict (symbols_from classes text at))).answer
     pub table_is : after ≡ (decided (length text) table (verdict (symbols_from classes text at))).table
 
   -- ---- the fault is looked for last, and told first

@@ -6,4 +6,4 @@ use Rattle.capi.proofs.rfc733_expand.Goals as goal
 pub returns : goal.returns
 returns c =
     let e = c.expand.ensures.outcome in
-    (e.answered.bytes-are, c.tell_expanded.ensures ∙ ap₂ (expansion_told_in c.args.array.now) e.answered.answer-is e.openings-is)
+    (e.answered.bytes_are, c.tell_expanded.ensures ∙ ap₂ (expansion_told_in c.args.array.now) e.answered.answer_is e.openings_is)

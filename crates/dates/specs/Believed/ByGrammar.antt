@@ -23,13 +23,13 @@ refused_at number position = record { number = number; position = position; coun
 -- what is said of the parts of a body with this start, and of the answer
 pub record Settled (l : List Part) (start : ℕ) (r : DateAnswer) : Type 0 where
   -- they write one date at most
-  pub one-date : (w v : Written) → DateIs l w → DateIs l v → w ≡ v
+  pub one_date : (w v : Written) → DateIs l w → DateIs l v → w ≡ v
   -- a date of the form that says a moment: accepted, with its seconds
   pub possible : (w : Written) (value : ℤ) → DateIs l w → moment_of w ≡ At value → told r ≡ accepted_with value
   -- a date of the form that says none: 14 at the start
   pub impossible : (w : Written) → DateIs l w → moment_of w ≡ Impossible → told r ≡ refused_at date_impossible start
   -- no date of the form: 12 at the start
-  pub no-date : ((w : Written) → DateIs l w → ⊥) → told r ≡ refused_at date_form start
+  pub no_date : ((w : Written) → DateIs l w → ⊥) → told r ≡ refused_at date_form start
 
 -- of a body that scans without fault, with its positions in order, in a message within the limit
 abbrev pub ByGrammar : List ℕ → ℕ → ℕ → DateAnswer → Type 0

@@ -45,11 +45,11 @@ pub data DayNameIs : List Part → ℕ → List Part → Type 0 where
 -- a "-", which may be missing
 pub data DashIs : List Part → List Part → Type 0 where
   dash : {p : Part} {r : List Part} → p.key ≡ minus_byte → DashIs (p ∷ r) r
-  no-dash : {r : List Part} → DashIs r r
+  no_dash : {r : List Part} → DashIs r r
 
 -- 1 or 2 digits
 pub data DayIs : List Part → ℕ → List Part → Type 0 where
-  one-digit : {p : Part} {r : List Part} → Digits 1 p → DayIs (p ∷ r) (num p) r
+  one_digit : {p : Part} {r : List Part} → Digits 1 p → DayIs (p ∷ r) (num p) r
   two_digits : {p : Part} {r : List Part} → Digits 2 p → DayIs (p ∷ r) (num p) r
 
 pub data MonthIs : List Part → ℕ → List Part → Type 0 where
@@ -72,7 +72,7 @@ pub data HourIs : List Part → ℕ → ℕ → ℕ → List Part → Type 0 whe
 
 -- a name or letter, before which a "-" may stand, or a sign and HHMM; nothing follows the zone
 pub data ZoneIs : List Part → Offset → Type 0 where
-  zone-name : {p : Part} {z : ℕ} → Name zone_names z p → ZoneIs (p ∷ []) (Minutes (get_or zone_minutes z (pos 0)))
+  zone_name : {p : Part} {z : ℕ} → Name zone_names z p → ZoneIs (p ∷ []) (Minutes (get_or zone_minutes z (pos 0)))
   dashed_name : {s p : Part} {z : ℕ} → s.key ≡ minus_byte → Name zone_names z p → ZoneIs (s ∷ p ∷ []) (Minutes (get_or zone_minutes z (pos 0)))
   east : {s p : Part} → s.key ≡ plus_byte → Digits 4 p → ZoneIs (s ∷ p ∷ []) (offset_of ahead (num p))
   west : {s p : Part} → s.key ≡ minus_byte → Digits 4 p → ZoneIs (s ∷ p ∷ []) (offset_of behind (num p))

@@ -7,7 +7,7 @@ use Rattle.scanner.specs.Believed.Scanning.{Scanned, ended, next, fault_at}
 use Rattle.scanner.specs.declared.Class.{Class}
 use Rattle.scanner.specs.declared.Class.TheVariants.{Atom, Quoted, At, LessThan, GreaterThan, Comma, Semicolon, Colon, Stray, Dot, Literal}
 
--- a part: its key and its bytes. The key is the class `letter` or `digit` of a run, a mark's own byte, or `otherPart`
+-- a part: its key and its bytes. The key is the class `letter` or `digit` of a run, a mark's own byte, or `other_part`
 pub record Part : Type 0 where
   pub key : ℕ
   pub bytes : List ℕ

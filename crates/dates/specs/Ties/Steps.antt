@@ -49,9 +49,9 @@ pub record Token : Type 0 where
   pub end : ℕ
 
 pub record TokenIs (classes text : List ℕ) (l : List Part) (t : Token) : Type 0 where
-  pub key-is : first_key l ≡ t.key
-  pub bytes-are : first_bytes l ≡ part text t.start t.stop
-  pub rest-is : after l ≡ left classes text t.stop t.end
+  pub key_is : first_key l ≡ t.key
+  pub bytes_are : first_bytes l ≡ part text t.start t.stop
+  pub rest_is : after l ≡ left classes text t.stop t.end
   pub last : t.key ≡ no_part → l ≡ []
   pub order : t.start ≤ t.stop
   pub spot : Within text t.stop t.end
@@ -85,7 +85,7 @@ Holds classes text cursor = PartIs classes text (held classes text cursor) curso
 
 -- the digits ahead; after one to six of them, the parts behind
 pub record DigitRunIs (classes text : List ℕ) (l : List Part) (cursor : List ℕ) (n : DigitRun) : Type 0 where
-  pub count-is : length (digits_of l) ≡ n.count
+  pub count_is : length (digits_of l) ≡ n.count
   pub value_is : up_to_six (digits_of l) ≡ n.value
   pub small : n.value < 1000000000000000000
   pub next : 1 ≤ n.count → n.count ≤ 6 → PartIs classes text (after l) cursor

@@ -8,7 +8,7 @@ use Rattle.scanner.proofs.BodyChecks.{clean_by, when_refused_by}
 use Rattle.grammar.specs.Executable.Machine822.{read}
 use Rattle.addresses.specs.Believed.Editions.{edition822}
 use Rattle.addresses.specs.Believed.Outcome.{refusal}
-use Rattle.addresses.proofs.AnyEdition.{twice_outcome, clean-text}
+use Rattle.addresses.proofs.AnyEdition.{twice_outcome, clean_text}
 use Rattle.editions.specs.Ties.Places.{place_table}
 use Rattle.editions.proofs.EditionLaws.{by_equal}
 use borrow.Enum.Refused.{opened}
@@ -26,7 +26,7 @@ slice_bounds-read_twice-end c = sym (length-take-le _ c.args.message.now ((let a
 
 pub read_twice-requires : goal.read_twice-requires
 unfolding place_table class_table822 class_of822 class_of
-read_twice-requires c = (clean-text ((let a = c.args in clean_by class_table822 a.message.now a.start a.end c.scan_by.result c.scan_by.ensures (opened c.in_default.in_default-own.keys2))), refl)
+read_twice-requires c = (clean_text ((let a = c.args in clean_by class_table822 a.message.now a.start a.end c.scan_by.result c.scan_by.ensures (opened c.in_default.in_default-own.keys2))), refl)
 
 pub returns : goal.returns
 unfolding class_table822 class_of822 class_of

@@ -1,6 +1,6 @@
 -- `engine::complete` meets its contract. Assumes nothing.
 use Rattle.engine.proofs.TurnLaws.{ended_open}
-use Rattle.engine.proofs.CodeLaws.{complete-closing}
+use Rattle.engine.proofs.CodeLaws.{complete_closing}
 use Rattle.engine.proofs.complete.Goals as goal
 
 pub parent_at-requires : goal.parent_at-requires
@@ -13,7 +13,7 @@ close_typed-requires c =
       lent = p.lent;
       here = p.here;
       address = p.address;
-      closing = complete-closing p.state p.here p.address _ _ p.stands p.ended c.lone_kind.ensures
+      closing = complete_closing p.state p.here p.address _ _ p.stands p.ended c.lone_kind.ensures
           (c.parent_at.ensures p.here (ended_open p.state p.here p.address p.stands p.ended)) c.store.ensures;
     }
 
@@ -21,4 +21,4 @@ pub returns : goal.returns
 returns c =
     λ text lent s h a x g.
     c.close_typed.ensures lent h a
-    (complete-closing s h a _ _ x g c.lone_kind.ensures (c.parent_at.ensures h (ended_open s h a x g)) c.store.ensures)
+    (complete_closing s h a _ _ x g c.lone_kind.ensures (c.parent_at.ensures h (ended_open s h a x g)) c.store.ensures)

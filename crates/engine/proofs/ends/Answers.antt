@@ -1,7 +1,7 @@
 -- `engine::ends` meets its contract. Assumes nothing.
 use native.Mathlib.Omega.{arith}
 use Rattle.engine.specs.Ties.Turns.{is_angle}
-use Rattle.engine.proofs.Dispatch.{turn_ends, at-comma, turn_comma, turn_closes, turn_ended-closes}
+use Rattle.engine.proofs.Dispatch.{turn_ends, at_comma, turn_comma, turn_closes, turn_ended_closes}
 use Rattle.engine.proofs.ends.Goals as goal
 
 pub close_level-requires : goal.close_level-requires
@@ -25,16 +25,16 @@ complete-depth-requires c =
 pub close_level-requires-then-act-eq-ENDS_AND_CLOSES : goal.close_level-requires-then-act-eq-ENDS_AND_CLOSES
 close_level-requires-then-act-eq-ENDS_AND_CLOSES c =
     let p = c.requires in
-    let y = turn_ended-closes p.turning (omega arith) c.enclosure-kind.result c.enclosure-kind.ensures (λ h a g. c.complete-depth.ensures p.text p.lent p.state h a p.turning.stands g) in
+    let y = turn_ended_closes p.turning (omega arith) c.enclosure-kind.result c.enclosure-kind.ensures (λ h a g. c.complete-depth.ensures p.text p.lent p.state h a p.turning.stands g) in
     record { text = p.text; lent = p.lent; level = y.level; sofar = y.sofar; mark = p.symbol; angle = is_angle c.args.class; at = y.at }
 
 pub returns-then-act-eq-ENDS_AND_CLOSES : goal.returns-then-act-eq-ENDS_AND_CLOSES
 returns-then-act-eq-ENDS_AND_CLOSES c =
     λ text lent s t start x h.
-    let y = turn_ended-closes x (omega arith) c.enclosure-kind.result c.enclosure-kind.ensures (λ h a g. c.complete-depth.ensures text lent s h a x.stands g) in
+    let y = turn_ended_closes x (omega arith) c.enclosure-kind.result c.enclosure-kind.ensures (λ h a g. c.complete-depth.ensures text lent s h a x.stands g) in
     rw y.steps (c.close_level-then-act-eq-ENDS_AND_CLOSES.ensures text lent y.level y.sofar t (is_angle c.args.class) y.at)
 
 pub returns : goal.returns
 returns c =
     λ text lent s t start x h.
-    turn_comma x (at-comma x h (λ e. omega arith) (λ e. omega arith)) (λ h a g. c.complete-depth.ensures text lent s h a x.stands g)
+    turn_comma x (at_comma x h (λ e. omega arith) (λ e. omega arith)) (λ h a g. c.complete-depth.ensures text lent s h a x.stands g)

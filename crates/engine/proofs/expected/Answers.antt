@@ -3,7 +3,7 @@ use mathlib.Core.Path.{refl, sym, ◌∙◌}
 use lib.Seq.{length-take-le}
 use Rattle.octets.specs.Believed.Classes.{class_of, class_table}
 use Rattle.scanner.proofs.BodyChecks.{clean, when_clean, when_refused}
-use Rattle.addresses.proofs.AnyEdition.{clean-text}
+use Rattle.addresses.proofs.AnyEdition.{clean_text}
 use Rattle.engine.specs.Ties.Actions.{action_table}
 use borrow.Enum.Refused.{opened}
 use Rattle.engine.proofs.expected.Goals as goal
@@ -18,7 +18,7 @@ slice_bounds-expected_at_stop-end c = sym (length-take-le _ c.args.message.now (
 
 pub expected_at_stop-requires : goal.expected_at_stop-requires
 unfolding action_table class_table class_of
-expected_at_stop-requires c = (clean-text ((let a = c.args in clean a.message.now a.start a.end c.scan_body.result c.scan_body.ensures.outcome.1 (opened c.in_default.in_default-own.keys2))), refl)
+expected_at_stop-requires c = (clean_text ((let a = c.args in clean a.message.now a.start a.end c.scan_body.result c.scan_body.ensures.outcome.1 (opened c.in_default.in_default-own.keys2))), refl)
 
 pub returns : goal.returns
 unfolding class_table class_of

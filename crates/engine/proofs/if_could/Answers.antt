@@ -1,12 +1,12 @@
 -- `engine::if_could` meets its contract. Assumes nothing.
 use native.Mathlib.Omega.{arith}
-use Rattle.engine.proofs.ActionLaws.{class-small}
+use Rattle.engine.proofs.ActionLaws.{class_small}
 use Rattle.engine.proofs.LoopLaws.{mode_low, entry_of}
 use Rattle.engine.proofs.ExpectingLaws.{counted, not_counted}
 use Rattle.engine.proofs.if_could.Goals as goal
 
 pub action_at-action-requires : goal.action_at-action-requires
-action_at-action-requires c = (mode_low c.requires.0.stands, omega (arith, c.class_number.ensures.0, class-small c.args.class))
+action_at-action-requires c = (mode_low c.requires.0.stands, omega (arith, c.class_number.ensures.0, class_small c.args.class))
 
 pub could-requires : goal.could-requires
 could-requires c =

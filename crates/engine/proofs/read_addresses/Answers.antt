@@ -14,15 +14,15 @@ use Rattle.grammar.specs.Executable.Machine733.{answer}
 use Rattle.addresses.specs.Believed.Editions.{edition733}
 use Rattle.addresses.specs.Believed.Outcome.{refusal}
 use Rattle.addresses.specs.Ties.Whole.{TwiceIs}
-use Rattle.addresses.proofs.AnyEdition.{clean-text, twice_outcome}
+use Rattle.addresses.proofs.AnyEdition.{clean_text, twice_outcome}
 use Rattle.addresses.proofs.WholeLaws.{Promised, promised, settles}
 use Rattle.engine.specs.Ties.Actions.{action_table}
 use borrow.Enum.Refused.{opened}
 use Rattle.engine.proofs.read_addresses.Goals as goal
 
 -- a body that is refused by the checks or by a fault, and one that is clean
-refused-promised : (message : List ℕ) (start end : ℕ) (table : List ℕ) {n p : ℕ} → Refused n p ≡ body_scanned message start end → Promised message start end table (Refused n p) table
-refused-promised message start end table {n} {p} e = promised message start end table (refusal table n p) (when_refused message start end (refusal table) _ e)
+refused_promised : (message : List ℕ) (start end : ℕ) (table : List ℕ) {n p : ℕ} → Refused n p ≡ body_scanned message start end → Promised message start end table (Refused n p) table
+refused_promised message start end table {n} {p} e = promised message start end table (refusal table n p) (when_refused message start end (refusal table) _ e)
 
 twice-promised : (message : List ℕ) (start end : ℕ) (table after : List ℕ) (r : Answer) → Clean message start end
     → TwiceIs (answer level_limit) class_table (take end message) start table after r → Promised message start end table r after
@@ -33,14 +33,14 @@ twice-promised message start end table after r c x =
 pub returns-in-Refused : goal.returns-in-Refused
 returns-in-Refused c =
     let a = c.args in
-    let all = refused-promised a.message.now a.start a.end a.table.now (rw c.in-Refused.is at c.scan_body.ensures.outcome.1) in record { outcome = all.0; condition3 = all.1 }
+    let all = refused_promised a.message.now a.start a.end a.table.now (rw c.in-Refused.is at c.scan_body.ensures.outcome.1) in record { outcome = all.0; condition3 = all.1 }
 
 pub slice_bounds-read_twice-end : goal.slice_bounds-read_twice-end
 slice_bounds-read_twice-end c = sym (length-take-le _ c.args.message.now ((let a = c.args in clean a.message.now a.start a.end c.scan_body.result c.scan_body.ensures.outcome.1 (opened c.in_default.in_default-own.keys2))).inside)
 
 pub read_twice-requires : goal.read_twice-requires
 unfolding action_table class_table class_of
-read_twice-requires c = (clean-text ((let a = c.args in clean a.message.now a.start a.end c.scan_body.result c.scan_body.ensures.outcome.1 (opened c.in_default.in_default-own.keys2))), refl)
+read_twice-requires c = (clean_text ((let a = c.args in clean a.message.now a.start a.end c.scan_body.result c.scan_body.ensures.outcome.1 (opened c.in_default.in_default-own.keys2))), refl)
 
 pub returns : goal.returns
 unfolding class_table class_of

@@ -1,7 +1,7 @@
 -- `engine::read_whole` meets its contract. Assumes nothing.
 use mathlib.Core.Path.{refl}
 use native.Mathlib.Omega.{arith}
-use Rattle.engine.proofs.LoopLaws.{mode_low, ended-finishing, ended-whole}
+use Rattle.engine.proofs.LoopLaws.{mode_low, ended_finishing, ended_whole}
 use Rattle.engine.proofs.read_whole.Goals as goal
 
 pub run-requires : goal.run-requires
@@ -13,7 +13,7 @@ action_at-action-requires c = let x = rw c.in-AtEnd.is at c.run.ensures in (mode
 pub finish-requires : goal.finish-requires
 finish-requires c =
     let x = rw c.in-AtEnd.is at c.run.ensures in
-    record { lent = _; state = _; finishing = ended-finishing x c.requires.1 c.action_at-action.ensures }
+    record { lent = _; state = _; finishing = ended_finishing x c.requires.1 c.action_at-action.ensures }
 
 pub returns-in-AtSymbol : goal.returns-in-AtSymbol
 returns-in-AtSymbol c = (rw c.in-AtSymbol.is at c.run.ensures).refused
@@ -21,4 +21,4 @@ returns-in-AtSymbol c = (rw c.in-AtSymbol.is at c.run.ensures).refused
 pub returns-in-AtEnd : goal.returns-in-AtEnd
 returns-in-AtEnd c =
     let x = rw c.in-AtEnd.is at c.run.ensures in
-    ended-whole x _ c.finish.result (c.finish.ensures _ _ (ended-finishing x c.requires.1 c.action_at-action.ensures))
+    ended_whole x _ c.finish.result (c.finish.ensures _ _ (ended_finishing x c.requires.1 c.action_at-action.ensures))

@@ -1,7 +1,7 @@
 -- `engine::turn` meets its contract. Assumes nothing.
 use native.Mathlib.Omega.{arith}
 use Rattle.engine.specs.Ties.Turns.{is_angle}
-use Rattle.engine.proofs.Dispatch.{turn_refuses, turn_opens, turn_opens-named, turn_types}
+use Rattle.engine.proofs.Dispatch.{turn_refuses, turn_opens, turn_opens_named, turn_types}
 use Rattle.engine.proofs.turn.Goals as goal
 
 pub returns-then-act-eq-REFUSES : goal.returns-then-act-eq-REFUSES
@@ -23,13 +23,13 @@ returns-then-act-eq-OPENS c =
     rw y.steps (c.open_level.ensures a.text.now lent a.table.now y.here y.name t (is_angle a.class) y.opening)
 
 pub open_level-requires-then-act-eq-OPENS_NAMED : goal.open_level-requires-then-act-eq-OPENS_NAMED
-open_level-requires-then-act-eq-OPENS_NAMED c = (turn_opens-named c.requires.turning (omega arith) c.enclosure-then-act-eq-OPENS_NAMED.result c.enclosure-then-act-eq-OPENS_NAMED.ensures).opening.fits
+open_level-requires-then-act-eq-OPENS_NAMED c = (turn_opens_named c.requires.turning (omega arith) c.enclosure-then-act-eq-OPENS_NAMED.result c.enclosure-then-act-eq-OPENS_NAMED.ensures).opening.fits
 
 pub returns-then-act-eq-OPENS_NAMED : goal.returns-then-act-eq-OPENS_NAMED
 returns-then-act-eq-OPENS_NAMED c =
     λ lent s t x.
     let a = c.args in
-    let y = turn_opens-named x (omega arith) c.enclosure-then-act-eq-OPENS_NAMED.result c.enclosure-then-act-eq-OPENS_NAMED.ensures in
+    let y = turn_opens_named x (omega arith) c.enclosure-then-act-eq-OPENS_NAMED.result c.enclosure-then-act-eq-OPENS_NAMED.ensures in
     rw y.steps (c.open_level-then-act-eq-OPENS_NAMED.ensures a.text.now lent a.table.now y.here y.name t (is_angle a.class) y.opening)
 
 pub make_typed-requires : goal.make_typed-requires

@@ -100,9 +100,9 @@ place_of level which = level * level_size + which
 pub record Entry (stack : List ℕ) (level number start kind first last : ℕ) : Type 0 where
   pub number_is : get_or stack (place_of level 0) 0 ≡ number
   pub start_is : get_or stack (place_of level 1) 0 ≡ start
-  pub kind-is : get_or stack (place_of level 2) 0 ≡ kind
-  pub first-is : get_or stack (place_of level 3) 0 ≡ first
-  pub last-is : get_or stack (place_of level 4) 0 ≡ last
+  pub kind_is : get_or stack (place_of level 2) 0 ≡ kind
+  pub first_is : get_or stack (place_of level 3) 0 ≡ first
+  pub last_is : get_or stack (place_of level 4) 0 ≡ last
 
 abbrev mutual
   -- the array holds the levels around an address
@@ -173,7 +173,7 @@ FirstAtom text (more p w) = Unit {0}
 -- the start of the address and the end of its name are those of its phrase
 pub record NameIs (p : Phrase) (e : Engine) : Type 0 where
   pub start_is : e.start ≡ phrase_start p
-  pub name-is : e.name ≡ phrase_end p
+  pub name_is : e.name ≡ phrase_end p
 
 -- what is known of the address that is read
 abbrev pub Current : List ℕ → State → Engine → Type 0
@@ -188,8 +188,8 @@ Current text (want h t a u) e = Unit {0}
 
 -- what holds in every state: positions in order and in the text, levels and text within their limits
 pub record Ordered (text : List ℕ) (e : Engine) (stack : List ℕ) : Type 0 where
-  pub start-low : e.start ≤ e.at
-  pub name-low : e.name ≤ e.at
+  pub start_low : e.start ≤ e.at
+  pub name_low : e.name ≤ e.at
   pub inside : e.at ≤ length text
   pub deep : e.depth ≤ level_limit
   pub short : length text ≤ message_limit

@@ -80,7 +80,7 @@ ParentIs stack depth r = (h : Here) → OpenHere stack h depth → r ≡ parent_
 pub record LevelAt (stack : List ℕ) (level : ℕ) (h : Here) (start kind first last : ℕ) : Type 0 where
   pub entry : Entry stack level (number_here h) start kind first last
   pub is_open : OpenHere stack h level
-  pub kind-low : kind < 256
+  pub kind_low : kind < 256
   pub below : level < level_limit
 
 pub record SomeLevel (stack : List ℕ) (level : ℕ) : Type 0 where
@@ -150,7 +150,7 @@ pub record GoesTo (text lent : List ℕ) (step : Step State) (end : ℕ) (e : En
   pub state : State
   pub steps : step ≡ go state
   pub stands : Stands text lent state e stack table
-  pub at-is : e.at ≡ end
+  pub at_is : e.at ≡ end
 
 -- the machine stops, and the array is as it was
 pub record StopsBy (step : Step State) (n : ℕ) (stack after : List ℕ) : Type 0 where
@@ -167,9 +167,9 @@ TurnedIs text lent step end stack after table (Stop n) = StopsBy step n stack af
 -- the numbers that are put into the array fit
 pub record Fits (e : Engine) (kind end : ℕ) : Type 0 where
   pub free_low : e.free < end
-  pub start-low : e.start ≤ end
-  pub name-low : e.name ≤ end
-  pub kind-low : kind < 256
+  pub start_low : e.start ≤ end
+  pub name_low : e.name ≤ end
+  pub kind_low : kind < 256
   pub short : end ≤ message_limit
 
 -- a level is opened
@@ -178,9 +178,9 @@ pub record Opening (text lent : List ℕ) (h : Here) (o : Option Phrase) (t : Le
   pub free_is : e.free ≡ number_here h
   pub stored : table ≡ stored_here lent h
   pub start_is : e.start ≡ name_start o t
-  pub name-is : e.name ≡ name_end o t
-  pub kind-is : kind ≡ kind_if angle
-  pub next-is : next ≡ mode_number (mode_of (list (level_if angle h o t) (idle empty)))
+  pub name_is : e.name ≡ name_end o t
+  pub kind_is : kind ≡ kind_if angle
+  pub next_is : next ≡ mode_number (mode_of (list (level_if angle h o t) (idle empty)))
   pub fits : Fits e kind end
   pub within : end ≤ length text
   pub short : length text ≤ message_limit
@@ -198,8 +198,8 @@ pub record AtClose (text lent : List ℕ) (k : Level) (l : AddressList) (t : Lex
   pub free_is : free ≡ parent_at k + list_count l
   pub holds : HoldsLevel stack k
   pub stored : table ≡ stored_list lent k l
-  pub kind-is : kind ≡ kind_if angle
-  pub next-is : next ≡ mode_number after_address
+  pub kind_is : kind ≡ kind_if angle
+  pub next_is : next ≡ mode_number after_address
   pub end_is : end ≡ t.end
   pub room : free ≤ end
   pub within : end ≤ length text
@@ -223,7 +223,7 @@ CloseLevelIs stack table after depth free kind next end r =
 -- the nameless group turns typed
 pub record AtTyped (text lent : List ℕ) (h : Here) (colon atom : Lexeme) (e : Engine) (next end : ℕ) (stack table : List ℕ) : Type 0 where
   pub stands : Stands text lent (phrase (in_list (in_group h none colon) empty) (one (atom_word atom))) e stack table
-  pub next-is : next ≡ mode_number wanting
+  pub next_is : next ≡ mode_number wanting
   pub from : e.at < end
   pub within : end ≤ length text
 
@@ -294,7 +294,7 @@ pub record SomeFinishing (text : List ℕ) (e : Engine) (action : ℕ) (stack ta
 pub record FinishedList (lent : List ℕ) (s : State) (table : List ℕ) (n : ℕ) : Type 0 where
   pub tree : AddressList
   pub is : finish s ≡ some tree
-  pub count-is : n ≡ list_count tree
+  pub count_is : n ≡ list_count tree
   pub stored : table ≡ sets lent 0 (table_bytes (list_records tree 0 0 0))
 
 -- the text ends too soon

@@ -85,7 +85,7 @@ pub record BeginsWithComment (bytes : List ℕ) : Type 0 where
   pub comment : List ℕ
   pub behind : List ℕ
   pub splits : bytes ≡ comment ++ behind
-  pub is-comment : is_comment comment ≡ true
+  pub comment_is : is_comment comment ≡ true
 
 -- in a body that scans without fault, at every "(" where a comment may stand there stands one
 abbrev pub EveryCommentIsOne : Type 0

@@ -37,7 +37,7 @@ end_with place bytes = length place.before + (length bytes + place.rest)
 
 -- these bytes are a comment, and the message with them at the place is within its limit
 pub record Holds (place : Place) (comment : List ℕ) : Type 0 where
-  pub is-comment : is_comment comment ≡ true
+  pub comment_is : is_comment comment ≡ true
   pub short : length (message_with place comment) ≤ message_limit
 
 -- ---- what comes of the body then

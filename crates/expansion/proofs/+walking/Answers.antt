@@ -3,7 +3,7 @@ use native.Mathlib.Omega.{arith}
 use mathlib.Core.Path.{refl}
 use Rattle.octets.specs.Believed.Numbers.{store_record_size, store_name_size}
 use Rattle.octets.proofs.Parts.{part_length}
-use Rattle.plain.proofs.WalkSteps.{none_comes, behind_falls, behind-less}
+use Rattle.plain.proofs.WalkSteps.{none_comes, behind_falls, behind_less}
 use Rattle.expansion.specs.Ties.Steps.{RecordOpens}
 use Rattle.expansion.proofs.WalkRuns.{record_faulty, record_walked, walking_first, walking_none, comes, low, room, walking_symbol, walking_nowhere, record_inside, walking_stopped, walking_opened}
 use borrow.Enum.Refused.{opened}
@@ -32,7 +32,7 @@ walk-write_on-here-requires t c =
 pub walk-loop-coming-smaller-in-Otherwise : goal.walk-loop-coming-smaller-in-Otherwise
 walk-loop-coming-smaller-in-Otherwise t c =
     let e = c.in-Found.is in
-    behind-less (comes _ _ _ _ _ _ _ c.loop-coming.invariant e) e c.next_by-coming-in-Otherwise.ensures
+    behind_less (comes _ _ _ _ _ _ _ c.loop-coming.invariant e) e c.next_by-coming-in-Otherwise.ensures
 
 pub walk-loop-coming-preserved-in-Otherwise : goal.walk-loop-coming-preserved-in-Otherwise
 walk-loop-coming-preserved-in-Otherwise t c =
@@ -56,7 +56,7 @@ walk-walk_record-walked-requires t c =
     let p = c.requires in (
       omega (arith, p.few, l.from, l.few),
       record {
-        classes-are = p.classes-are;
+        classes_are = p.classes_are;
         inside =
             record_inside _ _ _ _ _ _ _ l c.in-Found.is (rw c.in-Behind.is at c.include_at.ensures) c.spot_of-spot.ensures.0
             (rw c.in-Stored.is at c.leads_to.ensures);
@@ -90,7 +90,7 @@ walk_record-walk-requires t c =
     let e = c.joined.ensures in
     rw e (
       omega (arith, o.few),
-      record { classes-are = p.classes-are; short = omega (arith, part_length a.store.now (a.i * store_record_size + store_name_size) (a.i * store_record_size + store_record_size) p.inside); low = o.low; few = omega (arith, o.few); counted = p.counted },
+      record { classes_are = p.classes_are; short = omega (arith, part_length a.store.now (a.i * store_record_size + store_name_size) (a.i * store_record_size + store_record_size) p.inside); low = o.low; few = omega (arith, o.few); counted = p.counted },
     )
 
 pub walk_record-returns-in-Faulty : goal.walk_record-returns-in-Faulty
@@ -99,5 +99,5 @@ walk_record-returns-in-Faulty t c = let a = c.args in record_faulty a.store.now 
 pub walk_record-returns-in-Opens : goal.walk_record-returns-in-Opens
 walk_record-returns-in-Opens t c =
     let a = c.args in
-    record_walked a.store.now a.i a.spot.position a.spot.depth a.stage a.out.now a.classes.now c.requires.classes-are (rw c.in-Opens.is at c.verdict_on.ensures) _ c.walk.result
+    record_walked a.store.now a.i a.spot.position a.spot.depth a.stage a.out.now a.classes.now c.requires.classes_are (rw c.in-Opens.is at c.verdict_on.ensures) _ c.walk.result
     (rw c.joined.ensures at c.walk.ensures)

@@ -3,7 +3,7 @@ use mathlib.Core.List.{[], ◌∷◌}
 use Rattle.grammar.proofs.Rfc733.Readers.{ends_address}
 use Rattle.addresses.proofs.ClassCases.{by_class, by_class_not}
 use Rattle.plain.proofs.CanWrite.{can_write_lem}
-use Rattle.plain.proofs.WalkSteps.{behind-less, none_comes}
+use Rattle.plain.proofs.WalkSteps.{behind_less, none_comes}
 use Rattle.expansion.proofs.AddressTexts.{coming_first, comes, coming_none, coming_end, coming_next}
 use borrow.Enum.Refused.{opened}
 use Rattle.expansion.proofs.address_text.Goals as goal
@@ -26,7 +26,7 @@ returns-in-GreaterThan c = coming_end c.loop-coming.invariant c.in-Found.is (by_
 pub loop-coming-smaller : goal.loop-coming-smaller
 loop-coming-smaller c =
     let e = c.in-Found.is in
-    behind-less (comes c.loop-coming.invariant e) e c.next_by-coming-in_default-class.ensures
+    behind_less (comes c.loop-coming.invariant e) e c.next_by-coming-in_default-class.ensures
 
 pub loop-coming-preserved : goal.loop-coming-preserved
 loop-coming-preserved c =

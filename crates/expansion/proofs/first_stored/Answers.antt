@@ -2,7 +2,7 @@ use native.Mathlib.Omega.{arith}
 use mathlib.Core.Path.{refl, sym, ◌∙◌}
 use Rattle.scanner.proofs.Unfolding.{found}
 use Rattle.plain.proofs.WalkSteps.{none_comes}
-use Rattle.expansion.proofs.SeekSteps.{first-none, first-closed, first-parts, first_found, first_later}
+use Rattle.expansion.proofs.SeekSteps.{first_none, first_closed, first_parts, first_found, first_later}
 use borrow.Enum.Refused.{opened}
 use Rattle.expansion.proofs.first_stored.Goals as goal
 
@@ -13,13 +13,13 @@ pub returns-in_default : goal.returns-in_default
 returns-in_default c =
     let a = c.args in
     let l = c.loop-symbol in
-    first-none a.classes.now a.text.now a.store.now a.at l.p l.starts l.invariant c.next_by.result c.next_by.ensures (none_comes c.next_by.result (opened c.in_default.in_default-own.keys2))
+    first_none a.classes.now a.text.now a.store.now a.at l.p l.starts l.invariant c.next_by.result c.next_by.ensures (none_comes c.next_by.result (opened c.in_default.in_default-own.keys2))
 
 pub returns-in-GreaterThan : goal.returns-in-GreaterThan
 returns-in-GreaterThan c =
     let a = c.args in
     let l = c.loop-symbol in
-    first-closed a.classes.now a.text.now a.store.now a.at l.p l.starts l.invariant ((found _ _ _ (sym c.in-Found.is ∙ c.next_by.ensures))) c.in-GreaterThan.is
+    first_closed a.classes.now a.text.now a.store.now a.at l.p l.starts l.invariant ((found _ _ _ (sym c.in-Found.is ∙ c.next_by.ensures))) c.in-GreaterThan.is
 
 pub loop-symbol-smaller-in-Comma : goal.loop-symbol-smaller-in-Comma
 loop-symbol-smaller-in-Comma c = let x = (found _ _ _ (sym c.in-Found.is ∙ c.next_by.ensures)) in omega (arith, x.from, x.starts, x.within)
@@ -28,7 +28,7 @@ pub loop-symbol-preserved-in-Comma : goal.loop-symbol-preserved-in-Comma
 loop-symbol-preserved-in-Comma c =
     let a = c.args in
     let l = c.loop-symbol in
-    first-parts a.classes.now a.text.now a.store.now a.at l.p l.starts l.invariant ((found _ _ _ (sym c.in-Found.is ∙ c.next_by.ensures))) c.in-Comma.is
+    first_parts a.classes.now a.text.now a.store.now a.at l.p l.starts l.invariant ((found _ _ _ (sym c.in-Found.is ∙ c.next_by.ensures))) c.in-Comma.is
 
 pub returns-in-Stored : goal.returns-in-Stored
 returns-in-Stored c =

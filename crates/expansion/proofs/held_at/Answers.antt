@@ -3,7 +3,7 @@ use mathlib.Core.Path.{refl, sym, ◌∙◌}
 use Rattle.scanner.proofs.Unfolding.{found}
 use Rattle.plain.proofs.WalkSteps.{none_comes}
 use Rattle.scanner.specs.declared.Class.TheVariants.{At, LessThan}
-use Rattle.expansion.proofs.SeekSteps.{held_none, held_as, held_word, held-other}
+use Rattle.expansion.proofs.SeekSteps.{held_none, held_as, held_word, held_other}
 use borrow.Enum.Refused.{opened}
 use Rattle.expansion.proofs.held_at.Goals as goal
 
@@ -40,4 +40,4 @@ pub returns-in_default-class : goal.returns-in_default-class
 returns-in_default-class c =
     let a = c.args in
     let l = c.loop-symbol in
-    held-other a.classes.now a.text.now a.at l.p l.invariant ((found _ _ _ (sym c.in-Found.is ∙ c.next_by.ensures))) (opened c.in_default-class.in_default-class-own.keys4)
+    held_other a.classes.now a.text.now a.at l.p l.invariant ((found _ _ _ (sym c.in-Found.is ∙ c.next_by.ensures))) (opened c.in_default-class.in_default-class-own.keys4)

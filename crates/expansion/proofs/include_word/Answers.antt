@@ -6,7 +6,7 @@ use lib.Dec.{eqb}
 use Rattle.grammar.specs.Believed.Rfc733.{kind_number, include}
 use Rattle.scanner.proofs.Unfolding.{found}
 use Rattle.plain.proofs.WalkSteps.{none_comes}
-use Rattle.expansion.proofs.IncludeLaws.{nothing_comes, no-atom, other_word, no_more, no-colon, include_comes}
+use Rattle.expansion.proofs.IncludeLaws.{nothing_comes, no_atom, other_word, no_more, no_colon, include_comes}
 use borrow.Enum.Refused.{opened}
 use Rattle.expansion.proofs.include_word.Goals as goal
 
@@ -34,7 +34,7 @@ returns-in-Colon c =
     (ap (λ k. eqb k (kind_number include)) (sym c.typed_kind.ensures) ∙ eq-eqb _ (kind_number include) c.if-typed_kind-ne-INCLUDE.false) c.in-Colon.is
 
 pub returns-in_default-marked : goal.returns-in_default-marked
-returns-in_default-marked c = no-colon _ _ ((found _ _ _ (sym c.in-Found.is ∙ c.next_by.ensures))) c.in-Atom.is (found _ _ _ (sym c.in-Found-next_by.is ∙ c.next_by-in-Atom.ensures)) (opened c.in_default-marked.in_default-marked-own.keys2)
+returns-in_default-marked c = no_colon _ _ ((found _ _ _ (sym c.in-Found.is ∙ c.next_by.ensures))) c.in-Atom.is (found _ _ _ (sym c.in-Found-next_by.is ∙ c.next_by-in-Atom.ensures)) (opened c.in_default-marked.in_default-marked-own.keys2)
 
 pub returns-in_default-class : goal.returns-in_default-class
-returns-in_default-class c = no-atom _ _ ((found _ _ _ (sym c.in-Found.is ∙ c.next_by.ensures))) (opened c.in_default-class.in_default-class-own.keys2)
+returns-in_default-class c = no_atom _ _ ((found _ _ _ (sym c.in-Found.is ∙ c.next_by.ensures))) (opened c.in_default-class.in_default-class-own.keys2)

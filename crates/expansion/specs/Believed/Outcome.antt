@@ -35,4 +35,4 @@ expand_outcome message start end store lent = body_read (refusal lent 0) (λ k. 
 -- an answer and a lent text afterwards are those of an outcome
 pub record AnsweredBy (o : Outcome) (r : Expanded) (after : List ℕ) : Type 0 where
   pub answered : Answered o.answer o.text r.answer after
-  pub openings-is : r.openings ≡ o.openings
+  pub openings_is : r.openings ≡ o.openings

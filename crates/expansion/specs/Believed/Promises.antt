@@ -53,7 +53,7 @@ pub record Promises (message : List ℕ) (start end : ℕ) (store lent : List �
   pub without_include : (k : Derivation) → AcceptedBody message start end k → NoInclude (meaning k)
       → addresses.AnsweredBy (plain_outcome message start end lent) r.answer after × (r.openings ≡ 0)
   -- a body that scans without fault and is no list is refused with 8, 9 or 10, as condition 3 has it, with no opening, and the lent text is unchanged
-  pub no-list : body_scanned message start end ≡ Accepted 0 → ((k : Derivation) → AcceptedBody message start end k → ⊥)
+  pub no_list : body_scanned message start end ≡ Accepted 0 → ((k : Derivation) → AcceptedBody message start end k → ⊥)
       → RightlyRefused edition733 (body_symbols message start end) end r.answer × (r.openings ≡ 0) × (after ≡ lent)
   -- any other is refused with the number and position of the check or of the fault
   pub unread : (number position : ℕ) → body_scanned message start end ≡ Refused number position → (told r.answer ≡ telling number position 0) × (r.openings ≡ 0) × (after ≡ lent)

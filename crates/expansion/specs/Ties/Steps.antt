@@ -55,7 +55,7 @@ bits_of (false ∷ s) = 2 * bits_of s
 -- levels in numbers
 pub record LevelsAre (levels : Levels) (s : List Bool) : Type 0 where
   pub many_is : levels.many ≡ length s
-  pub typed-is : levels.typed ≡ bits_of s
+  pub typed_is : levels.typed ≡ bits_of s
   pub few : length s ≤ level_limit
 
 -- what is done to the levels
@@ -126,7 +126,7 @@ module _ (classes text : List ℕ) where
   -- a symbol is written
   pub record WriteOnIs (class : Class) (start end : ℕ) (colon : Bool) (stage : Stage) (out after' : List ℕ) (r : Stage) : Type 0 where
     pub place_is : r.place ≡ after class stage.place colon
-    pub openings-is : r.openings ≡ stage.openings
+    pub openings_is : r.openings ≡ stage.openings
     pub wrote : Wrote (symbol_text class (meaning_at classes text class start end) stage.place colon) out stage.written after' r.written
     pub counted : r.written ≤ stage.written + 2 * length text + 3
 
@@ -193,7 +193,7 @@ WalkedIs trails more stage out after' (Stopped n p openings) = Halts trails stag
 
 -- what a record's list is walked with: it stands in the store, and a count holds what may be written
 pub record RecordReady (classes store : List ℕ) (i : ℕ) (stage : Stage) : Type 0 where
-  pub classes-are : classes ≡ class_table
+  pub classes_are : classes ≡ class_table
   pub inside : i * store_record_size + store_record_size ≤ length store
   pub few : stage.openings ≤ opening_limit
   pub counted : stage.written ≤ text_share * (stage.openings + 1)
@@ -205,7 +205,7 @@ RecordWalked store i position depth stage out after' r =
 
 -- what a text is walked with
 pub record WalkReady (classes text : List ℕ) (around : Around) (stage : Stage) : Type 0 where
-  pub classes-are : classes ≡ class_table
+  pub classes_are : classes ≡ class_table
   pub short : length text ≤ message_limit
   pub low : levels_around around ≤ level_limit
   pub few : stage.openings ≤ opening_limit
@@ -220,7 +220,7 @@ TextWalked classes store text start around stage out after' r =
 
 -- what a body is walked with
 pub record BodyReady (classes text : List ℕ) : Type 0 where
-  pub classes-are : classes ≡ class_table
+  pub classes_are : classes ≡ class_table
   pub short : length text ≤ message_limit
 
 -- what is answered of a trail
@@ -231,10 +231,10 @@ trail_outcome lent (wrote t openings) = fitted lent openings t
 module _ (classes store text : List ℕ) (start : ℕ) where
   -- the walk over a body comes to its end, with this text
   pub record BodyWent (out after' : List ℕ) (r : Stage) : Type 0 where
-    pub written-text : List ℕ
-    pub trail : walked store (symbols_from classes text start) ≡ wrote written-text r.openings
-    pub count : r.written ≡ length written-text
-    pub stored : after' ≡ sets out 0 written-text
+    pub written_text : List ℕ
+    pub trail : walked store (symbols_from classes text start) ≡ wrote written_text r.openings
+    pub count : r.written ≡ length written_text
+    pub stored : after' ≡ sets out 0 written_text
 
   -- .. or it halts
   abbrev pub BodyWalked : List ℕ → List ℕ → Walked → Type 0

@@ -8,7 +8,7 @@ use mathlib.Core.List.{List, [], ◌∷◌, ◌++◌, append_assoc, append-nil}
 use mathlib.Core.Option.{Option, none, some}
 use Rattle.scanner.specs.Believed.Symbols.{Symbol}
 use Rattle.grammar.specs.Believed.Language.{AtMost, MoreThan, up_to, GoesOn, FirstRefused, Refusal, unfit, unfinished, too_deep, Verdict, accepted, refused, Right}
-use Rattle.grammar.proofs.Any.OnlyRight.{goes-on-at, refused-whole}
+use Rattle.grammar.proofs.Any.OnlyRight.{goes_on_at, refused_whole}
 use Rattle.grammar.specs.Executable.Machines.{Step, Result, after, run_by, at_end, verdict_by, stands_after, stands_by, go, stop, ended, stopped}
 
 -- more levels change nothing but the refusal of a level
@@ -101,7 +101,7 @@ module _ {C S T : Type 0} (Derives : T → List (Symbol C) → Type 0) (levels :
           after = c.after;
           place = c.place;
           splits = c.splits;
-          earlier = λ p y q e. goes-on-at Derives levels (AtMost n) p y q c.before e on;
+          earlier = λ p y q e. goes_on_at Derives levels (AtMost n) p y q c.before e on;
           here = goes_off n n c.before c.at c.x why (omega arith) c.leads c.stops;
         }
 
@@ -133,7 +133,7 @@ module _ {C S T : Type 0} (Derives : T → List (Symbol C) → Type 0) (levels :
 
     right_end : (n : ℕ) (xs : List (Symbol C)) (s : S) (o : Option T) → Leads n start xs s → read n xs ≡ at_end o → Right Derives levels n xs (at_end o)
     right_end n xs s (some t) f r = M.sound n t xs r
-    right_end n xs s none f r = (refl, λ place g. refused-whole Derives levels n g (goes_on n xs s (f n (omega arith))), none_is)
+    right_end n xs s none f r = (refl, λ place g. refused_whole Derives levels n g (goes_on n xs s (f n (omega arith))), none_is)
       where
         none_is : (t : T) → Derives t xs → levels t ≤ n → ⊥
         none_is t d l =
@@ -159,17 +159,17 @@ module _ {C S T : Type 0} (Derives : T → List (Symbol C) → Type 0) (levels :
     -- ---- what could stand after symbols that the machine has taken
 
     -- a symbol that the machine takes goes on ..
-    pub taken-goes-on : (n : ℕ) (p : List (Symbol C)) (s s' : S) (x : Symbol C) → Leads n start p s → step n s x ≡ go s' → GoesOn Derives levels (AtMost n) (up_to p x)
-    taken-goes-on n p s s' x f e = goes_on n (up_to p x) s' (leads_on n p s s' x (f n (omega arith)) e)
+    pub taken_goes_on : (n : ℕ) (p : List (Symbol C)) (s s' : S) (x : Symbol C) → Leads n start p s → step n s x ≡ go s' → GoesOn Derives levels (AtMost n) (up_to p x)
+    taken_goes_on n p s s' x f e = goes_on n (up_to p x) s' (leads_on n p s s' x (f n (omega arith)) e)
 
     -- .. and one at which it stops does not
-    pub stopped-goes_off : (n : ℕ) (p : List (Symbol C)) (s : S) (x : Symbol C) (why : Refusal) → Leads n start p s → step n s x ≡ stop why → GoesOn Derives levels (AtMost n) (up_to p x) → ⊥
-    stopped-goes_off n p s x why f e = goes_off n n p s x why (omega arith) f e
+    pub stopped_goes_off : (n : ℕ) (p : List (Symbol C)) (s : S) (x : Symbol C) (why : Refusal) → Leads n start p s → step n s x ≡ stop why → GoesOn Derives levels (AtMost n) (up_to p x) → ⊥
+    stopped_goes_off n p s x why f e = goes_off n n p s x why (omega arith) f e
 
     -- symbols with which a list goes on lead to a state
     led_by : (n : ℕ) (p : List (Symbol C)) (r : Result C S) → Comes n start p r → GoesOn Derives levels (AtMost n) p → (s : S) × Leads n start p s
     led_by n p (ended s) c g = (s, c)
-    led_by n p (stopped why rest) c g = absurd (refused-whole Derives levels n (first_of n p why rest c) g)
+    led_by n p (stopped why rest) c g = absurd (refused_whole Derives levels n (first_of n p why rest c) g)
 
     pub led : (n : ℕ) (p : List (Symbol C)) (x : Symbol C) → GoesOn Derives levels (AtMost n) (up_to p x) → (s : S) × Leads n start p s
     led n p x g =
@@ -210,22 +210,22 @@ module _ {C S T : Type 0} (Derives : T → List (Symbol C) → Type 0) (levels :
     stood_end n s why rest (some t) v = let z : ◌≡◌ {A = ℕ} 0 1 = cc in absurd (omega arith)
 
     -- a run that ends stands at the end
-    ended-step : (n : ℕ) (s s'' : S) (x : Symbol C) (xs : List (Symbol C)) (st : Step S) → after st (λ s'. run n s' xs) (x ∷ xs) ≡ ended s'' → ((s' : S) → run n s' xs ≡ ended s'' → stands_by step n s' xs ≡ s'')
+    ended_step : (n : ℕ) (s s'' : S) (x : Symbol C) (xs : List (Symbol C)) (st : Step S) → after st (λ s'. run n s' xs) (x ∷ xs) ≡ ended s'' → ((s' : S) → run n s' xs ≡ ended s'' → stands_by step n s' xs ≡ s'')
         → stands_after st (λ s'. stands_by step n s' xs) s ≡ s''
-    ended-step n s s'' x xs (go s') e f = f s' e
-    ended-step n s s'' x xs (stop why) e f = let z : ◌≡◌ {A = ℕ} 0 1 = cc in absurd (omega arith)
+    ended_step n s s'' x xs (go s') e f = f s' e
+    ended_step n s s'' x xs (stop why) e f = let z : ◌≡◌ {A = ℕ} 0 1 = cc in absurd (omega arith)
 
-    ended-stands : (n : ℕ) (s s'' : S) (xs : List (Symbol C)) → run n s xs ≡ ended s'' → stands_by step n s xs ≡ s''
-    ended-stands n s s'' [] e = cc
-    ended-stands n s s'' (x ∷ xs) e = ended-step n s s'' x xs (step n s x) e (λ s'. ended-stands n s' s'' xs)
+    ended_stands : (n : ℕ) (s s'' : S) (xs : List (Symbol C)) → run n s xs ≡ ended s'' → stands_by step n s xs ≡ s''
+    ended_stands n s s'' [] e = cc
+    ended_stands n s s'' (x ∷ xs) e = ended_step n s s'' x xs (step n s x) e (λ s'. ended_stands n s' s'' xs)
 
     -- .. to which all symbols of a list lead
     list_stood : (n : ℕ) (t : T) (xs : List (Symbol C)) (r : Result C S) → run n start xs ≡ r → Comes n start xs r → verdict_by finish r ≡ accepted t → Leads n start xs (stands_by step n start xs)
-    list_stood n t xs (ended s) e c v = rw (ended-stands n start s xs e) c
+    list_stood n t xs (ended s) e c v = rw (ended_stands n start s xs e) c
     list_stood n t xs (stopped why rest) e c v = let z : ◌≡◌ {A = ℕ} 0 1 = cc in absurd (omega arith)
 
-    pub stood_at-end : (n : ℕ) (t : T) (xs : List (Symbol C)) → Derives t xs → levels t ≤ n → Leads n start xs (stands_by step n start xs)
-    stood_at-end n t xs d v = list_stood n t xs (run n start xs) refl (comes n start xs) (M.complete n t xs d v)
+    pub stood_at_end : (n : ℕ) (t : T) (xs : List (Symbol C)) → Derives t xs → levels t ≤ n → Leads n start xs (stands_by step n start xs)
+    stood_at_end n t xs d v = list_stood n t xs (run n start xs) refl (comes n start xs) (M.complete n t xs d v)
 
     -- a refused run stands before the refused place
     pub stood : (n : ℕ) (s : S) (xs rest : List (Symbol C)) (why : Refusal) → verdict_by finish (run n s xs) ≡ refused why rest → Stood n s xs rest

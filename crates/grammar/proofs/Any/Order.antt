@@ -7,12 +7,12 @@ use Rattle.records.specs.Believed.AddressRecords.{AddressRecord}
 
 -- a record's span lies between two positions, and its name in it
 pub record Lies (from to : ℕ) (r : AddressRecord) : Type 0 where
-  pub after-from : from ≤ r.start
-  pub name-after : r.start ≤ r.name_start
-  pub name-order : r.name_start ≤ r.name_end
-  pub name-before : r.name_end ≤ r.end
+  pub after_from : from ≤ r.start
+  pub name_after : r.start ≤ r.name_start
+  pub name_order : r.name_start ≤ r.name_end
+  pub name_before : r.name_end ≤ r.end
   pub not_empty : r.start < r.end
-  pub before-to : r.end ≤ to
+  pub before_to : r.end ≤ to
 
 -- records lie between two positions, and each starts after the start of the one before
 abbrev pub Ascending : ℕ → ℕ → List AddressRecord → Type 0
@@ -25,7 +25,7 @@ ascending_le from to (r ∷ rs) h = omega (arith, h.0)
 
 pub lies_widen : (a b a' b' : ℕ) (r : AddressRecord) → Lies a b r → a' ≤ a → b ≤ b' → Lies a' b' r
 lies_widen a b a' b' r h p q =
-    record { after-from = omega (arith, h.after-from); name-after = h.name-after; name-order = h.name-order; name-before = h.name-before; not_empty = h.not_empty; before-to = omega (arith, h.before-to) }
+    record { after_from = omega (arith, h.after_from); name_after = h.name_after; name_order = h.name_order; name_before = h.name_before; not_empty = h.not_empty; before_to = omega (arith, h.before_to) }
 
 pub ascending_widen : (a b a' b' : ℕ) (rs : List AddressRecord) → Ascending a b rs → a' ≤ a → b ≤ b' → Ascending a' b' rs
 ascending_widen a b a' b' [] h p q = omega arith

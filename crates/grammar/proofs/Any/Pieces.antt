@@ -40,8 +40,8 @@ module _ {C N : Type 0} (G : Grammar C N) where
       → Allowed G.same (get_or (G.rules A) i r).never (yield p) → From A (piece (get_or (G.rules A) i r) p)
   by_rule A i r h d o = record { member = member (G.rules A) i r h; fits = d; allowed = o }
 
-  pub put-fits : {A : N} {p : Piece C N} {items : List (Item C N)} {k : Forest C N} → From A p → Fits G items k → Fits G (nonterminal A ∷ items) (put p k)
-  put-fits f d = apply f.member f.fits f.allowed d
+  pub put_fits : {A : N} {p : Piece C N} {items : List (Item C N)} {k : Forest C N} → From A p → Fits G items k → Fits G (nonterminal A ∷ items) (put p k)
+  put_fits f d = apply f.member f.fits f.allowed d
 
   module _ (Tree : N → Type 0) (piece_of : (A : N) → Tree A → Piece C N) where
     -- what these items hold: for a class a lexeme, for a nonterminal a tree

@@ -24,13 +24,13 @@ module _ {C : Type 0} (limit : ℕ) where
   SymbolsUpTo [] = Unit {0}
   SymbolsUpTo (x ∷ xs) = (x.lexeme.start ≤ limit) × (x.lexeme.end ≤ limit) × SymbolsUpTo xs
 
-  position-up-to : (q : ℕ) → q ≤ limit → (xs : List (Symbol C)) → SymbolsUpTo xs → start_of q xs ≤ limit
-  position-up-to q h [] u = h
-  position-up-to q h (x ∷ xs) u = u.0
+  position_up_to : (q : ℕ) → q ≤ limit → (xs : List (Symbol C)) → SymbolsUpTo xs → start_of q xs ≤ limit
+  position_up_to q h [] u = h
+  position_up_to q h (x ∷ xs) u = u.0
 
-  last-up-to : (q : ℕ) → q ≤ limit → (xs : List (Symbol C)) → SymbolsUpTo xs → last_end q xs ≤ limit
-  last-up-to q h [] u = h
-  last-up-to q h (x ∷ xs) u = last-up-to x.lexeme.end u.1 xs u.2
+  last_up_to : (q : ℕ) → q ≤ limit → (xs : List (Symbol C)) → SymbolsUpTo xs → last_end q xs ≤ limit
+  last_up_to q h [] u = h
+  last_up_to q h (x ∷ xs) u = last_up_to x.lexeme.end u.1 xs u.2
 
 -- ---- forests
 
@@ -41,29 +41,29 @@ module _ {C N : Type 0} (limit : ℕ) where
   ForestUpTo (leaf x forest) = (x.lexeme.start ≤ limit) × (x.lexeme.end ≤ limit) × ForestUpTo forest
   ForestUpTo (branch rule parts forest) = ForestUpTo parts × ForestUpTo forest
 
-  forest_up-to : (forest : Forest C N) (xs : List (Symbol C)) → SymbolsUpTo limit (yield_then forest xs) → ForestUpTo forest × SymbolsUpTo limit xs
-  forest_up-to nil xs u = (tt, u)
-  forest_up-to (leaf x forest) xs u = let (a, b) = forest_up-to forest xs u.2 in ((u.0, u.1, a), b)
-  forest_up-to (branch rule parts forest) xs u =
-      let (a, b) = forest_up-to parts (yield_then forest xs) u in
-      let (c, d) = forest_up-to forest xs b in
+  forest_up_to : (forest : Forest C N) (xs : List (Symbol C)) → SymbolsUpTo limit (yield_then forest xs) → ForestUpTo forest × SymbolsUpTo limit xs
+  forest_up_to nil xs u = (tt, u)
+  forest_up_to (leaf x forest) xs u = let (a, b) = forest_up_to forest xs u.2 in ((u.0, u.1, a), b)
+  forest_up_to (branch rule parts forest) xs u =
+      let (a, b) = forest_up_to parts (yield_then forest xs) u in
+      let (c, d) = forest_up_to forest xs b in
       ((a, c), d)
 
-  yield-up-to : (forest : Forest C N) (xs : List (Symbol C)) → ForestUpTo forest → SymbolsUpTo limit xs → SymbolsUpTo limit (yield_then forest xs)
-  yield-up-to nil xs r u = u
-  yield-up-to (leaf x forest) xs r u = (r.0, r.1, yield-up-to forest xs r.2 u)
-  yield-up-to (branch rule parts forest) xs r u = yield-up-to parts (yield_then forest xs) r.0 (yield-up-to forest xs r.1 u)
+  yield_up_to : (forest : Forest C N) (xs : List (Symbol C)) → ForestUpTo forest → SymbolsUpTo limit xs → SymbolsUpTo limit (yield_then forest xs)
+  yield_up_to nil xs r u = u
+  yield_up_to (leaf x forest) xs r u = (r.0, r.1, yield_up_to forest xs r.2 u)
+  yield_up_to (branch rule parts forest) xs r u = yield_up_to parts (yield_then forest xs) r.0 (yield_up_to forest xs r.1 u)
 
-  part-up-to : (i : ℕ) (forest : Forest C N) → ForestUpTo forest → SymbolsUpTo limit (part_of i forest)
-  part-up-to i nil r = tt
-  part-up-to zero (leaf x forest) r = (r.0, r.1, tt)
-  part-up-to zero (branch rule parts forest) r = yield-up-to parts [] r.0 tt
-  part-up-to (suc i) (leaf x forest) r = part-up-to i forest r.2
-  part-up-to (suc i) (branch rule parts forest) r = part-up-to i forest r.1
+  part_up_to : (i : ℕ) (forest : Forest C N) → ForestUpTo forest → SymbolsUpTo limit (part_of i forest)
+  part_up_to i nil r = tt
+  part_up_to zero (leaf x forest) r = (r.0, r.1, tt)
+  part_up_to zero (branch rule parts forest) r = yield_up_to parts [] r.0 tt
+  part_up_to (suc i) (leaf x forest) r = part_up_to i forest r.2
+  part_up_to (suc i) (branch rule parts forest) r = part_up_to i forest r.1
 
-  name-up-to : (o : Option ℕ) (forest : Forest C N) → ForestUpTo forest → SymbolsUpTo limit (name_of o forest)
-  name-up-to none forest r = tt
-  name-up-to (some i) forest r = part-up-to i forest r
+  name_up_to : (o : Option ℕ) (forest : Forest C N) → ForestUpTo forest → SymbolsUpTo limit (name_of o forest)
+  name_up_to none forest r = tt
+  name_up_to (some i) forest r = part_up_to i forest r
 
 -- ---- records
 
@@ -71,8 +71,8 @@ module _ {C N : Type 0} (limit : ℕ) where
 pub record RecordUpTo (limit : ℕ) (r : AddressRecord) : Type 0 where
   pub start : r.start ≤ limit
   pub end : r.end ≤ limit
-  pub name-start : r.name_start ≤ limit
-  pub name-end : r.name_end ≤ limit
+  pub name_start_lem : r.name_start ≤ limit
+  pub name_end_lem : r.name_end ≤ limit
 
 module _ (limit : ℕ) where
   -- each of these
@@ -80,45 +80,45 @@ module _ (limit : ℕ) where
   RecordsUpTo [] = Unit {0}
   RecordsUpTo (r ∷ rs) = RecordUpTo limit r × RecordsUpTo rs
 
-  up-to-append : (rs ss : List AddressRecord) → RecordsUpTo rs → RecordsUpTo ss → RecordsUpTo (rs ++ ss)
-  up-to-append [] ss a b = b
-  up-to-append (r ∷ rs) ss a b = (a.0, up-to-append rs ss a.1 b)
+  up_to-append : (rs ss : List AddressRecord) → RecordsUpTo rs → RecordsUpTo ss → RecordsUpTo (rs ++ ss)
+  up_to-append [] ss a b = b
+  up_to-append (r ∷ rs) ss a b = (a.0, up_to-append rs ss a.1 b)
 
-  up-to-at : (rs : List AddressRecord) (i : ℕ) (d : AddressRecord) → RecordsUpTo rs → i < length rs → RecordUpTo limit (get_or rs i d)
-  up-to-at [] i d a l = absurd (omega arith)
-  up-to-at (r ∷ rs) zero d a l = a.0
-  up-to-at (r ∷ rs) (suc i) d a l = up-to-at rs i d a.1 (omega arith)
+  up_to_at : (rs : List AddressRecord) (i : ℕ) (d : AddressRecord) → RecordsUpTo rs → i < length rs → RecordUpTo limit (get_or rs i d)
+  up_to_at [] i d a l = absurd (omega arith)
+  up_to_at (r ∷ rs) zero d a l = a.0
+  up_to_at (r ∷ rs) (suc i) d a l = up_to_at rs i d a.1 (omega arith)
 
 module _ {C N : Type 0} (limit : ℕ) where
-  record_up-to : (makes : Makes) (depth parent : ℕ) (parts : Forest C N) → ForestUpTo limit parts → RecordUpTo limit (record_of makes depth parent parts)
-  record_up-to makes depth parent parts r =
-      let xs = yield-up-to limit parts [] r tt in
-      let name = name-up-to limit makes.name parts r in
-      let start : start_of 0 (yield parts) ≤ limit = position-up-to limit 0 (omega arith) (yield parts) xs in
+  record_up_to : (makes : Makes) (depth parent : ℕ) (parts : Forest C N) → ForestUpTo limit parts → RecordUpTo limit (record_of makes depth parent parts)
+  record_up_to makes depth parent parts r =
+      let xs = yield_up_to limit parts [] r tt in
+      let name = name_up_to limit makes.name parts r in
+      let start : start_of 0 (yield parts) ≤ limit = position_up_to limit 0 (omega arith) (yield parts) xs in
       record {
         start = start;
-        end = last-up-to limit (start_of 0 (yield parts)) start (yield parts) xs;
-        name-start = position-up-to limit (start_of 0 (yield parts)) start (name_of makes.name parts) name;
-        name-end = last-up-to limit (start_of 0 (yield parts)) start (name_of makes.name parts) name;
+        end = last_up_to limit (start_of 0 (yield parts)) start (yield parts) xs;
+        name_start_lem = position_up_to limit (start_of 0 (yield parts)) start (name_of makes.name parts) name;
+        name_end_lem = last_up_to limit (start_of 0 (yield parts)) start (name_of makes.name parts) name;
       }
 
-  branch-up-to : (rule : Rule C N) (parts forest : Forest C N) (depth parent next : ℕ) → ForestUpTo limit parts
+  branch_up_to : (rule : Rule C N) (parts forest : Forest C N) (depth parent next : ℕ) → ForestUpTo limit parts
       → ((d p i : ℕ) → RecordsUpTo limit (records_from parts d p i)) → ((d p i : ℕ) → RecordsUpTo limit (records_from forest d p i))
       → RecordsUpTo limit (records_from (branch rule parts forest) depth parent next)
-  branch-up-to rule parts forest depth parent next r a b = by rule.makes refl
+  branch_up_to rule parts forest depth parent next r a b = by rule.makes refl
     where
       by : (o : Option Makes) → rule.makes ≡ o → RecordsUpTo limit (records_from (branch rule parts forest) depth parent next)
-      by none e = rw e (up-to-append limit (records_from parts depth parent next) _ (a depth parent next) (b depth parent (next + count parts)))
-      by (some makes) e = rw e (record_up-to makes depth parent parts r, up-to-append limit (records_from parts (suc depth) (suc next) (suc next)) _ (a (suc depth) (suc next) (suc next)) (b depth parent (suc next + count parts)))
+      by none e = rw e (up_to-append limit (records_from parts depth parent next) _ (a depth parent next) (b depth parent (next + count parts)))
+      by (some makes) e = rw e (record_up_to makes depth parent parts r, up_to-append limit (records_from parts (suc depth) (suc next) (suc next)) _ (a (suc depth) (suc next) (suc next)) (b depth parent (suc next + count parts)))
 
-  from-up-to : (forest : Forest C N) (depth parent next : ℕ) → ForestUpTo limit forest → RecordsUpTo limit (records_from forest depth parent next)
-  from-up-to nil depth parent next r = tt
-  from-up-to (leaf x forest) depth parent next r = from-up-to forest depth parent next r.2
-  from-up-to (branch rule parts forest) depth parent next r = branch-up-to rule parts forest depth parent next r.0 (λ d p i. from-up-to parts d p i r.0) (λ d p i. from-up-to forest d p i r.1)
+  from_up_to : (forest : Forest C N) (depth parent next : ℕ) → ForestUpTo limit forest → RecordsUpTo limit (records_from forest depth parent next)
+  from_up_to nil depth parent next r = tt
+  from_up_to (leaf x forest) depth parent next r = from_up_to forest depth parent next r.2
+  from_up_to (branch rule parts forest) depth parent next r = branch_up_to rule parts forest depth parent next r.0 (λ d p i. from_up_to parts d p i r.0) (λ d p i. from_up_to forest d p i r.1)
 
   -- the records of a derivation of symbols that do not lie past a position
-  pub records-up-to : (forest : Forest C N) → SymbolsUpTo limit (yield forest) → RecordsUpTo limit (records forest)
-  records-up-to forest u = from-up-to forest 0 0 0 (forest_up-to limit forest [] u).0
+  pub records_up_to : (forest : Forest C N) → SymbolsUpTo limit (yield forest) → RecordsUpTo limit (records forest)
+  records_up_to forest u = from_up_to forest 0 0 0 (forest_up_to limit forest [] u).0
 
 -- ---- read back from a table
 
@@ -132,6 +132,6 @@ pub read_back : {C N : Type 0} (k : Forest C N) (limit : ℕ) → limit < 256 ^ 
 read_back k limit small u table fits i l h =
     let n : length (records k) ≡ count k = length-records k in
     let before : (get_or (records k) i no_record).parent ≤ i = parent_smaller k i no_record (omega arith) in
-    let here = up-to-at limit (records k) i no_record (records-up-to limit k u) (omega arith) in
+    let here = up_to_at limit (records k) i no_record (records_up_to limit k u) (omega arith) in
     address_back (records k) table (omega arith) i (omega arith)
-    (record { parent = omega arith; start = omega (arith, here.start); end = omega (arith, here.end); name-start = omega (arith, here.name-start); name-end = omega (arith, here.name-end) })
+    (record { parent = omega arith; start = omega (arith, here.start); end = omega (arith, here.end); name_start_lem = omega (arith, here.name_start_lem); name_end_lem = omega (arith, here.name_end_lem) })

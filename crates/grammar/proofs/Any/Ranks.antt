@@ -9,7 +9,7 @@ use mathlib.Core.List.{List, [], ◌∷◌, Memᴰ}
 use lib.Dec.{leb}
 use borrow.Author.Tests.{leb-true}
 use Rattle.octets.specs.Believed.Choice.{pick, both}
-use Rattle.octets.proofs.ChoiceLaws.{both-parts}
+use Rattle.octets.proofs.ChoiceLaws.{both_parts}
 use Rattle.scanner.specs.Believed.Symbols.{Symbol}
 use Rattle.grammar.specs.Believed.Grammar.{Item, symbol, nonterminal, Rule, Grammar, Forest, levels, Fits, done, take, apply, Derived}
 
@@ -27,25 +27,25 @@ module _ {C N : Type 0} (rank : N → ℕ) where
 
   ranked_rule : (bound : ℕ) (r : Rule C N) (rs : List (Rule C N)) → Memᴰ r rs → ranked bound rs ≡ true → below bound (pick r.opens 1 0) r.items ≡ true
   ranked_rule bound r [] m h = elim m [ ]
-  ranked_rule bound r (r' ∷ rs) (here e) h = rw e (both-parts (below bound (pick r'.opens 1 0) r'.items) (ranked bound rs) h).0
-  ranked_rule bound r (r' ∷ rs) (there m) h = ranked_rule bound r rs m (both-parts (below bound (pick r'.opens 1 0) r'.items) (ranked bound rs) h).1
+  ranked_rule bound r (r' ∷ rs) (here e) h = rw e (both_parts (below bound (pick r'.opens 1 0) r'.items) (ranked bound rs) h).0
+  ranked_rule bound r (r' ∷ rs) (there m) h = ranked_rule bound r rs m (both_parts (below bound (pick r'.opens 1 0) r'.items) (ranked bound rs) h).1
 
   module _ (G : Grammar C N) (all : (A : N) → ranked (rank A) (G.rules A) ≡ true) where
-    levels-below : {items : List (Item C N)} {k : Forest C N} → Fits G items k → (bound around : ℕ) → below bound around items ≡ true → around + levels k ≤ bound
-    levels-below done bound around h = let l = leb-true around bound h in omega arith
-    levels-below (take e d) bound around h = levels-below d bound around h
-    levels-below (apply {A = A} {rule = r} {items = items} {parts = p} {forest = k} m d o d') bound around h =
-        let (a, b) = both-parts (leb (around + rank A) bound) (below bound around items) h in
+    levels_below : {items : List (Item C N)} {k : Forest C N} → Fits G items k → (bound around : ℕ) → below bound around items ≡ true → around + levels k ≤ bound
+    levels_below done bound around h = let l = leb-true around bound h in omega arith
+    levels_below (take e d) bound around h = levels_below d bound around h
+    levels_below (apply {A = A} {rule = r} {items = items} {parts = p} {forest = k} m d o d') bound around h =
+        let (a, b) = both_parts (leb (around + rank A) bound) (below bound around items) h in
         let l = leb-true (around + rank A) bound a in
-        let i = levels-below d (rank A) (pick r.opens 1 0) (ranked_rule (rank A) r (G.rules A) m (all A)) in
-        let j = levels-below d' bound around b in
+        let i = levels_below d (rank A) (pick r.opens 1 0) (ranked_rule (rank A) r (G.rules A) m (all A)) in
+        let j = levels_below d' bound around b in
         omega arith
 
-    part-below : {A : N} {k : Forest C N} → Fits G (nonterminal A ∷ []) k → levels k ≤ rank A
-    part-below {A} (apply {rule = r} m e o done) =
-        let i = levels-below e (rank A) (pick r.opens 1 0) (ranked_rule (rank A) r (G.rules A) m (all A)) in
+    part_below : {A : N} {k : Forest C N} → Fits G (nonterminal A ∷ []) k → levels k ≤ rank A
+    part_below {A} (apply {rule = r} m e o done) =
+        let i = levels_below e (rank A) (pick r.opens 1 0) (ranked_rule (rank A) r (G.rules A) m (all A)) in
         omega arith
 
     -- what is derived has at most as many levels as its rank
     pub bounded : {A : N} {k : Forest C N} {xs : List (Symbol C)} → Derived G A k xs → levels k ≤ rank A
-    bounded d = part-below d.fits
+    bounded d = part_below d.fits

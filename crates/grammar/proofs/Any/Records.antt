@@ -23,10 +23,10 @@ parents-append next (r ∷ rs) ss p q =
     let e : next + suc (length rs) ≡ suc next + length rs = omega arith in
     (p.0, parents-append (suc next) rs ss p.1 (rw e at q))
 
-parent-at : (rs : List AddressRecord) (next i : ℕ) (r : AddressRecord) → ParentsBefore next rs → i < length rs → (get_or rs i r).parent ≤ next + i
-parent-at [] next i r p h = absurd (omega arith)
-parent-at (s ∷ rs) next zero r p h = omega arith
-parent-at (s ∷ rs) next (suc i) r p h = omega (arith, parent-at rs (suc next) i r p.1 (omega arith))
+parent_at : (rs : List AddressRecord) (next i : ℕ) (r : AddressRecord) → ParentsBefore next rs → i < length rs → (get_or rs i r).parent ≤ next + i
+parent_at [] next i r p h = absurd (omega arith)
+parent_at (s ∷ rs) next zero r p h = omega arith
+parent_at (s ∷ rs) next (suc i) r p h = omega (arith, parent_at rs (suc next) i r p.1 (omega arith))
 
 -- ---- the end of symbols that end with others
 
@@ -63,10 +63,10 @@ module _ {C N : Type 0} where
   pub length-records : (forest : Forest C N) → length (records forest) ≡ count forest
   length-records forest = length_from forest 0 0 0
 
-  parents-branch : (rule : Rule C N) (parts forest : Forest C N) (depth parent next : ℕ) → parent ≤ next
+  parents_branch : (rule : Rule C N) (parts forest : Forest C N) (depth parent next : ℕ) → parent ≤ next
       → ((d p i : ℕ) → p ≤ i → ParentsBefore i (records_from parts d p i)) → ((d p i : ℕ) → p ≤ i → ParentsBefore i (records_from forest d p i))
       → ParentsBefore next (records_from (branch rule parts forest) depth parent next)
-  parents-branch rule parts forest depth parent next h a b = by rule.makes refl
+  parents_branch rule parts forest depth parent next h a b = by rule.makes refl
     where
       by : (o : Option Makes) → rule.makes ≡ o → ParentsBefore next (records_from (branch rule parts forest) depth parent next)
       by none e =
@@ -79,15 +79,15 @@ module _ {C N : Type 0} where
                 (a (suc depth) (suc next) (suc next) (omega arith)) (rw (length_from parts (suc depth) (suc next) (suc next)) (b depth parent (suc next + count parts) (omega arith))),
           )
 
-  pub parents-from : (forest : Forest C N) (depth parent next : ℕ) → parent ≤ next → ParentsBefore next (records_from forest depth parent next)
-  parents-from nil depth parent next h = tt
-  parents-from (leaf x forest) depth parent next h = parents-from forest depth parent next h
-  parents-from (branch rule parts forest) depth parent next h =
-      parents-branch rule parts forest depth parent next h (λ d p i g. parents-from parts d p i g) (λ d p i g. parents-from forest d p i g)
+  pub parents_from : (forest : Forest C N) (depth parent next : ℕ) → parent ≤ next → ParentsBefore next (records_from forest depth parent next)
+  parents_from nil depth parent next h = tt
+  parents_from (leaf x forest) depth parent next h = parents_from forest depth parent next h
+  parents_from (branch rule parts forest) depth parent next h =
+      parents_branch rule parts forest depth parent next h (λ d p i g. parents_from parts d p i g) (λ d p i g. parents_from forest d p i g)
 
   -- the record numbered `i` has as parent, plus 1, at most `i`
   pub parent_smaller : (forest : Forest C N) (i : ℕ) (r : AddressRecord) → i < length (records forest) → (get_or (records forest) i r).parent ≤ i
-  parent_smaller forest i r h = omega (arith, parent-at (records forest) 0 i r (parents-from forest 0 0 0 (omega arith)) h)
+  parent_smaller forest i r h = omega (arith, parent_at (records forest) 0 i r (parents_from forest 0 0 0 (omega arith)) h)
 
   -- ---- records after others
 

@@ -28,26 +28,26 @@ module _ {C S : Type 0} (good : ℕ → S → Type 0) (then : S → List (Symbol
     Ends n ys (ended s) = Stands n [] ys s
     Ends n ys (stopped why xs) = Unit {0}
 
-    step-ends : (n : ℕ) (s : S) (x : Symbol C) (xs : List (Symbol C)) (st : Step S) → Going (Stands n xs (then s (x ∷ xs))) st
+    step_ends : (n : ℕ) (s : S) (x : Symbol C) (xs : List (Symbol C)) (st : Step S) → Going (Stands n xs (then s (x ∷ xs))) st
         → ((s' : S) → good n s' → Ends n (then s' xs) (run_by step n s' xs)) → Ends n (then s (x ∷ xs)) (after st (λ s'. run_by step n s' xs) (x ∷ xs))
-    step-ends n s x xs (go s') g f = rw g.1 at (f s' g.0)
-    step-ends n s x xs (stop why) g f = tt
+    step_ends n s x xs (go s') g f = rw g.1 at (f s' g.0)
+    step_ends n s x xs (stop why) g f = tt
 
     run_ends : (n : ℕ) (s : S) (xs : List (Symbol C)) → good n s → Ends n (then s xs) (run_by step n s xs)
     run_ends n s [] g = (g, refl)
-    run_ends n s (x ∷ xs) g = step-ends n s x xs (step n s x) (keeps n s x xs g) (λ s' g'. run_ends n s' xs g')
+    run_ends n s (x ∷ xs) g = step_ends n s x xs (step n s x) (keeps n s x xs g) (λ s' g'. run_ends n s' xs g')
 
     module _ {T : Type 0} (Accept : ℕ → List (Symbol C) → T → Type 0) (finish : S → Option T) (gives : (n : ℕ) (s : S) → good n s → Given (Accept n (then s [])) (finish s)) where
       abbrev Accepts : ℕ → List (Symbol C) → Verdict C T → Type 0
       Accepts n xs (accepted t) = Accept n xs t
       Accepts n xs (refused why rest) = Unit {0}
 
-      at-end : (n : ℕ) (xs : List (Symbol C)) (o : Option T) → Given (Accept n xs) o → Accepts n xs (at_end o)
-      at-end n xs none g = tt
-      at-end n xs (some t) g = g
+      at_end_lem : (n : ℕ) (xs : List (Symbol C)) (o : Option T) → Given (Accept n xs) o → Accepts n xs (at_end o)
+      at_end_lem n xs none g = tt
+      at_end_lem n xs (some t) g = g
 
       accepts : (n : ℕ) (xs : List (Symbol C)) (r : Result C S) → Ends n xs r → Accepts n xs (verdict_by finish r)
-      accepts n xs (ended s) e = at-end n xs (finish s) (rw e.1 at (gives n s e.0))
+      accepts n xs (ended s) e = at_end_lem n xs (finish s) (rw e.1 at (gives n s e.0))
       accepts n xs (stopped why rest) e = tt
 
       -- from a state that stands for nothing

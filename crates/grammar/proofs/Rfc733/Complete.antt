@@ -46,8 +46,8 @@ complete_done_list k (full r a) = complete_done_address (in_list k r) a
 
 -- ---- opening a level
 
-pub enter-within : (n : ℕ) (k : Level) → levels_at k ≤ n → enter n k ≡ go (list k (idle empty))
-enter-within n k h = by (within_limit n k) refl
+pub enter_within : (n : ℕ) (k : Level) → levels_at k ≤ n → enter n k ≡ go (list k (idle empty))
+enter_within n k h = by (within_limit n k) refl
   where
     by : (b : Bool) → within_limit n k ≡ b → entered b k ≡ go (list k (idle empty))
     by true e = refl
@@ -66,23 +66,23 @@ on_word_begin : (h : Here) (w : Word) → on_word (begin h) w ≡ go (phrase h (
 on_word_begin (in_list k r) w = refl
 on_word_begin (in_typed h t a u) w = refl
 
-pub run-word : (n : ℕ) (s : State) (w : Word) (xs : List Sym) → run n s (word_symbol w ∷ xs) ≡ after (on_word s w) (λ s'. run n s' xs) (word_symbol w ∷ xs)
-run-word n s (atom_word t) xs = refl
-run-word n s (quoted_word t) xs = refl
+pub run_word : (n : ℕ) (s : State) (w : Word) (xs : List Sym) → run n s (word_symbol w ∷ xs) ≡ after (on_word s w) (λ s'. run n s' xs) (word_symbol w ∷ xs)
+run_word n s (atom_word t) xs = refl
+run_word n s (quoted_word t) xs = refl
 
-pub run-phrase : (n : ℕ) (h : Here) (p : Phrase) (xs : List Sym) → run n (begin h) (phrase_then p xs) ≡ run n (phrase h p) xs
-run-phrase n h (one w) xs = run-word n (begin h) w xs ∙ rw on_word_begin
-run-phrase n h (more p w) xs = run-phrase n h p _ ∙ run-word n (phrase h p) w xs
+pub run_phrase : (n : ℕ) (h : Here) (p : Phrase) (xs : List Sym) → run n (begin h) (phrase_then p xs) ≡ run n (phrase h p) xs
+run_phrase n h (one w) xs = run_word n (begin h) w xs ∙ rw on_word_begin
+run_phrase n h (more p w) xs = run_phrase n h p _ ∙ run_word n (phrase h p) w xs
 
-pub run-mailbox : (n : ℕ) (h : Here) (p : Phrase) (m : Nodes) (xs : List Sym) → run n (begin h) (phrase_then p (nodes_then m xs)) ≡ run n (node h p m) xs
-run-mailbox n h p (first t w) xs = run-phrase n h p _ ∙ run-word n (first_at h p t) w xs
-run-mailbox n h p (next m t w) xs = run-mailbox n h p m _ ∙ run-word n (next_at h p m t) w xs
+pub run_mailbox : (n : ℕ) (h : Here) (p : Phrase) (m : Nodes) (xs : List Sym) → run n (begin h) (phrase_then p (nodes_then m xs)) ≡ run n (node h p m) xs
+run_mailbox n h p (first t w) xs = run_phrase n h p _ ∙ run_word n (first_at h p t) w xs
+run_mailbox n h p (next m t w) xs = run_mailbox n h p m _ ∙ run_word n (next_at h p m t) w xs
 
-pub run-angle : (n : ℕ) (h : Here) (o : Option Phrase) (t : Lexeme) (xs : List Sym) → levels_here h < n
+pub run_angle : (n : ℕ) (h : Here) (o : Option Phrase) (t : Lexeme) (xs : List Sym) → levels_here h < n
     → run n (begin h) (name_then o (of LessThan t ∷ xs)) ≡ run n (list (in_angle h o t) (idle empty)) xs
-run-angle n (in_list k r) none t xs d = rw (enter-within n (in_angle (in_list k r) none t) d)
-run-angle n (in_typed h v a u) none t xs d = rw (enter-within n (in_angle (in_typed h v a u) none t) d)
-run-angle n h (some p) t xs d = run-phrase n h p _ ∙ rw (enter-within n (in_angle h (some p) t) d)
+run_angle n (in_list k r) none t xs d = rw (enter_within n (in_angle (in_list k r) none t) d)
+run_angle n (in_typed h v a u) none t xs d = rw (enter_within n (in_angle (in_typed h v a u) none t) d)
+run_angle n h (some p) t xs d = run_phrase n h p _ ∙ rw (enter_within n (in_angle h (some p) t) d)
 
 -- where a nameless group may just have begun, no atom and ":" follow
 abbrev pub Clear : Option Began → Bool → Type 0
@@ -102,11 +102,11 @@ not_begun h (one (atom_word t)) c = by (fresh h) c
 not_begun h (one (quoted_word t)) c = refl
 not_begun h (more p w) c = refl
 
-pub run-group : (n : ℕ) (h : Here) (o : Option Phrase) (t : Lexeme) (xs : List Sym) → levels_here h < n → Clear (fresh h) (atom_named o)
+pub run_group : (n : ℕ) (h : Here) (o : Option Phrase) (t : Lexeme) (xs : List Sym) → levels_here h < n → Clear (fresh h) (atom_named o)
     → run n (begin h) (name_then o (of Colon t ∷ xs)) ≡ run n (list (in_group h o t) (idle empty)) xs
-run-group n (in_list k r) none t xs d c = rw (enter-within n (in_group (in_list k r) none t) d)
-run-group n (in_typed h v a u) none t xs d c = rw (enter-within n (in_group (in_typed h v a u) none t) d)
-run-group n h (some p) t xs d c = run-phrase n h p _ ∙ rw (not_begun h p c, enter-within n (in_group h (some p) t) d)
+run_group n (in_list k r) none t xs d c = rw (enter_within n (in_group (in_list k r) none t) d)
+run_group n (in_typed h v a u) none t xs d c = rw (enter_within n (in_group (in_typed h v a u) none t) d)
+run_group n h (some p) t xs d c = run_phrase n h p _ ∙ rw (not_begun h p c, enter_within n (in_group h (some p) t) d)
 
 -- the fresh place of a list and of its first address
 clear_slot : (k : Level) (r : Slot) (b : Bool) → Clear (nameless k) (slot_atom_group r b) → Clear (nameless k) (slot_atom_group r false)
@@ -125,26 +125,26 @@ mutual
   pub run_slot : (r : Slot) (n : ℕ) (k : Level) (xs : List Sym) → levels_at k + slot_levels r ≤ n → slot_lawful r → Clear (nameless k) (slot_atom_group r false)
       → run n (list k (idle empty)) (slot_then r xs) ≡ run n (list k (idle r)) xs
   run_slot empty n k xs d o c = refl
-  run_slot (comma l t) n k xs d o c = run-list l n k _ d o c ∙ rw (complete_done_list k l)
+  run_slot (comma l t) n k xs d o c = run_list l n k _ d o c ∙ rw (complete_done_list k l)
 
-  pub run-list : (l : AddressList) (n : ℕ) (k : Level) (xs : List Sym) → levels_at k + list_levels l ≤ n → list_lawful l → Clear (nameless k) (list_atom_group l)
+  pub run_list : (l : AddressList) (n : ℕ) (k : Level) (xs : List Sym) → levels_at k + list_levels l ≤ n → list_lawful l → Clear (nameless k) (list_atom_group l)
       → run n (list k (idle empty)) (list_then l xs) ≡ run n (done_list k l) xs
-  run-list (idle r) n k xs d o c = run_slot r n k xs d o c
-  run-list (full r a) n k xs d o c =
-      run_slot r n k _ (omega arith) o.0 (clear_slot k r (atom_group a) c) ∙ run-address a n (in_list k r) xs (omega arith) o.1 (clear_address k r (atom_group a) c)
+  run_list (idle r) n k xs d o c = run_slot r n k xs d o c
+  run_list (full r a) n k xs d o c =
+      run_slot r n k _ (omega arith) o.0 (clear_slot k r (atom_group a) c) ∙ run_address a n (in_list k r) xs (omega arith) o.1 (clear_address k r (atom_group a) c)
 
-  pub run-address : (a : Address) (n : ℕ) (h : Here) (xs : List Sym) → levels_here h + address_levels a ≤ n → address_lawful a → Clear (fresh h) (atom_group a)
+  pub run_address : (a : Address) (n : ℕ) (h : Here) (xs : List Sym) → levels_here h + address_levels a ≤ n → address_lawful a → Clear (fresh h) (atom_group a)
       → run n (begin h) (address_then a xs) ≡ run n (done_address h a) xs
-  run-address (mailbox p m) n h xs d o c = run-mailbox n h p m xs
-  run-address (angle p t l u) n h xs d o c =
-      run-angle n h p t _ (omega arith) ∙ run-list l n (in_angle h p t) _ (omega arith) o tt ∙ rw (complete_done_list (in_angle h p t) l)
-  run-address (group p t l u) n h xs d o c =
-      run-group n h p t _ (omega arith) c ∙ run-list l n (in_group h p t) _ (omega arith) o.0 (clear_group h p t l u o.1) ∙ rw (complete_done_list (in_group h p t) l)
-  run-address (quoted t) n h xs d o c = run-phrase n h (one (quoted_word t)) xs
-  run-address (typed t x u b) n h xs d o c =
-      run-group n h none t (of Atom x ∷ of Colon u ∷ address_then b xs) (omega arith) (clear_false (fresh h))
-      ∙ run-address b n (in_typed h t x u) xs (omega arith) o tt
+  run_address (mailbox p m) n h xs d o c = run_mailbox n h p m xs
+  run_address (angle p t l u) n h xs d o c =
+      run_angle n h p t _ (omega arith) ∙ run_list l n (in_angle h p t) _ (omega arith) o tt ∙ rw (complete_done_list (in_angle h p t) l)
+  run_address (group p t l u) n h xs d o c =
+      run_group n h p t _ (omega arith) c ∙ run_list l n (in_group h p t) _ (omega arith) o.0 (clear_group h p t l u o.1) ∙ rw (complete_done_list (in_group h p t) l)
+  run_address (quoted t) n h xs d o c = run_phrase n h (one (quoted_word t)) xs
+  run_address (typed t x u b) n h xs d o c =
+      run_group n h none t (of Atom x ∷ of Colon u ∷ address_then b xs) (omega arith) (clear_false (fresh h))
+      ∙ run_address b n (in_typed h t x u) xs (omega arith) o tt
 
 -- what the rules derive is read, as that very derivation
-pub complete-read : {n : ℕ} {l : AddressList} {xs : List Sym} → DerivedTree l xs → list_levels l ≤ n → read n xs ≡ accepted l
-complete-read {n} {l} {xs} d v = rw (← d.yields, run-list l n top [] (omega arith) d.lawful tt, complete_done_list top l)
+pub complete_read : {n : ℕ} {l : AddressList} {xs : List Sym} → DerivedTree l xs → list_levels l ≤ n → read n xs ≡ accepted l
+complete_read {n} {l} {xs} d v = rw (← d.yields, run_list l n top [] (omega arith) d.lawful tt, complete_done_list top l)

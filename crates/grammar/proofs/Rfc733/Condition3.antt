@@ -15,38 +15,38 @@ use Rattle.grammar.specs.Executable.Trees733.{Sym, as_forest}
 use Rattle.grammar.proofs.Rfc733.Trees.{list_levels, DerivedTree}
 use Rattle.grammar.specs.Executable.Machine733.{step, read, finish, start, answer}
 use Rattle.grammar.proofs.Rfc733.Steps.{machine}
-use Rattle.grammar.proofs.Rfc733.Derivations.{forest_levels, forest_derived, tree-derived}
+use Rattle.grammar.proofs.Rfc733.Derivations.{forest_levels, forest_derived, tree_derived}
 
 -- ---- what is right of trees is right of derivations
 
 trees : alike.Alike DerivedTree list_levels DerivedList levels as_forest
-trees = record { derived = forest_derived; tree = tree-derived; levels = forest_levels }
+trees = record { derived = forest_derived; tree = tree_derived; levels = forest_levels }
 
-pub goes-on_forest : (Levels : ℕ → Type 0) (xs : List Sym) → GoesOn DerivedTree list_levels Levels xs → GoesOn DerivedList levels Levels xs
-goes-on_forest Levels xs g = alike.goes_to DerivedTree list_levels DerivedList levels as_forest trees Levels xs g
+pub goes_on_forest : (Levels : ℕ → Type 0) (xs : List Sym) → GoesOn DerivedTree list_levels Levels xs → GoesOn DerivedList levels Levels xs
+goes_on_forest Levels xs g = alike.goes_to DerivedTree list_levels DerivedList levels as_forest trees Levels xs g
 
-pub goes-on-tree : (Levels : ℕ → Type 0) (xs : List Sym) → GoesOn DerivedList levels Levels xs → GoesOn DerivedTree list_levels Levels xs
-goes-on-tree Levels xs g = alike.goes_back DerivedTree list_levels DerivedList levels as_forest trees Levels xs g
+pub goes_on_tree : (Levels : ℕ → Type 0) (xs : List Sym) → GoesOn DerivedList levels Levels xs → GoesOn DerivedTree list_levels Levels xs
+goes_on_tree Levels xs g = alike.goes_back DerivedTree list_levels DerivedList levels as_forest trees Levels xs g
 
 -- ---- condition 3
 
 -- the answer is right, for every list of symbols and every limit
-pub answer-right : (limit : ℕ) (xs : List Sym) → RightWithin limit xs (answer limit xs)
-answer-right limit xs =
+pub answer_right : (limit : ℕ) (xs : List Sym) → RightWithin limit xs (answer limit xs)
+answer_right limit xs =
     alike.right_alike DerivedTree list_levels DerivedList levels as_forest trees limit xs (read limit xs) (any-machine.right DerivedTree list_levels step finish start machine limit xs)
 
 -- exactly one derivation: two derivations of the same symbols are equal, whatever their levels
-pub one-derivation : {k k' : Derivation} {xs : List Sym} → DerivedList k xs → DerivedList k' xs → k ≡ k'
-one-derivation {k} {k'} {xs} d e =
+pub one_derivation : {k k' : Derivation} {xs : List Sym} → DerivedList k xs → DerivedList k' xs → k ≡ k'
+one_derivation {k} {k'} {xs} d e =
     alike.one_alike DerivedTree list_levels DerivedList levels as_forest trees (any-machine.unique DerivedTree list_levels step finish start machine) k k' xs d e
 
 -- what is proved of this edition
 pub decides : Decides733
-decides = any-reader.decides_by rfc733 list 0 answer (λ limit h xs. answer-right limit xs) (λ k k' xs d e. one-derivation d e)
+decides = any-reader.decides_by rfc733 list 0 answer (λ limit h xs. answer_right limit xs) (λ k k' xs d e. one_derivation d e)
 
 -- a right verdict is the answer
-pub answer-only : (limit : ℕ) (xs : List Sym) (v : Verdict Class Derivation) → RightWithin limit xs v → v ≡ answer limit xs
-answer-only limit xs v r = decides.only limit (omega arith) xs v r
+pub answer_only : (limit : ℕ) (xs : List Sym) (v : Verdict Class Derivation) → RightWithin limit xs v → v ≡ answer limit xs
+answer_only limit xs v r = decides.only limit (omega arith) xs v r
 
 -- a derivation of at most `limit` levels is accepted as itself
 pub answer_accepts : (limit : ℕ) {k : Derivation} {xs : List Sym} → DerivedList k xs → levels k ≤ limit → answer limit xs ≡ accepted k

@@ -14,11 +14,11 @@ use Rattle.grammar.specs.Believed.Grammar.{levels}
 use Rattle.grammar.specs.Believed.Language.{Verdict, accepted, refused, verdict_number, verdict_position}
 use Rattle.grammar.specs.Believed.Records.{records}
 use Rattle.grammar.specs.Believed.Rfc733.{Derivation, DerivedList}
-use Rattle.grammar.proofs.Any.OnlyRight.{unfit-none}
+use Rattle.grammar.proofs.Any.OnlyRight.{unfit_none}
 use Rattle.grammar.specs.Executable.Trees733.{Class, Atom, Quoted, At, LessThan, GreaterThan, Semicolon, Colon, Stray, Sym, of}
 use Rattle.grammar.proofs.Symbols.{InOrder}
 use Rattle.grammar.specs.Executable.Machine733.{answer}
-use Rattle.grammar.proofs.Rfc733.Condition3.{answer-right}
+use Rattle.grammar.proofs.Rfc733.Condition3.{answer_right}
 
 -- a symbol from a position to another, its meaning left out
 abbrev s : Class → ℕ → ℕ → Sym
@@ -57,8 +57,8 @@ abbrev levels_of : Verdict Class Derivation → ℕ
 levels_of (accepted k) = levels k
 levels_of (refused why rest) = 0
 
-levels-of_64 : levels_of (answer level_limit (placed 0 (times 64 LessThan (times 64 GreaterThan [])))) ≡ 64
-levels-of_64 = refl
+levels_of_64 : levels_of (answer level_limit (placed 0 (times 64 LessThan (times 64 GreaterThan [])))) ≡ 64
+levels_of_64 = refl
 
 levels_65 : Gives (times 65 LessThan (times 65 GreaterThan [])) 10 64 0
 levels_65 = (refl, refl, refl)
@@ -68,21 +68,21 @@ typed_64 : Gives (times 63 LessThan (Colon ∷ Atom ∷ Colon ∷ Quoted ∷ tim
 typed_64 = (refl, refl, refl)
 
 -- with 64 open a colon after a mailbox is no list's, and one after a phrase is a level too many
-mailbox-colon : Gives (times 64 LessThan (Atom ∷ At ∷ Atom ∷ Colon ∷ [])) 8 67 0
-mailbox-colon = (refl, refl, refl)
+mailbox_colon : Gives (times 64 LessThan (Atom ∷ At ∷ Atom ∷ Colon ∷ [])) 8 67 0
+mailbox_colon = (refl, refl, refl)
 
-phrase-colon : Gives (times 64 LessThan (Atom ∷ Colon ∷ [])) 10 65 0
-phrase-colon = (refl, refl, refl)
+phrase_colon : Gives (times 64 LessThan (Atom ∷ Colon ∷ [])) 10 65 0
+phrase_colon = (refl, refl, refl)
 
 -- a lone ")" or backslash, and "at" where a word or a typed atom is wanted
 stray : Gives (Atom ∷ Stray ∷ []) 8 1 0
 stray = (refl, refl, refl)
 
-at-no-word : Gives (At ∷ []) 8 0 0
-at-no-word = (refl, refl, refl)
+at_no_word : Gives (At ∷ []) 8 0 0
+at_no_word = (refl, refl, refl)
 
-at-no-typed : Gives (Colon ∷ At ∷ Colon ∷ Quoted ∷ []) 8 1 0
-at-no-typed = (refl, refl, refl)
+at_no_typed : Gives (Colon ∷ At ∷ Colon ∷ Quoted ∷ []) 8 1 0
+at_no_typed = (refl, refl, refl)
 
 -- `Men at Work: ;` is no group
 men_at_work : Gives (Atom ∷ At ∷ Atom ∷ Colon ∷ Semicolon ∷ []) 8 3 0
@@ -93,7 +93,7 @@ abbrev typed_in_typed : List Sym
 typed_in_typed = placed 0 (Colon ∷ Atom ∷ Colon ∷ Colon ∷ Atom ∷ Colon ∷ Quoted ∷ Semicolon ∷ Semicolon ∷ [])
 
 typed_in_typed_lem : (k : Derivation) → DerivedList k typed_in_typed → ⊥
-typed_in_typed_lem k d = unfit-none DerivedList levels level_limit {rest = placed 7 (Semicolon ∷ Semicolon ∷ [])} (answer-right level_limit typed_in_typed) k d
+typed_in_typed_lem k d = unfit_none DerivedList levels level_limit {rest = placed 7 (Semicolon ∷ Semicolon ∷ [])} (answer_right level_limit typed_in_typed) k d
 
 -- ---- kinds
 

@@ -14,8 +14,8 @@ use Rattle.grammar.proofs.Any.Records.{length-records}
 use Rattle.grammar.proofs.Any.Order.{Lies, Ascending, lies_widen, ascending_widen, ascending_append}
 use Rattle.grammar.specs.Executable.Trees733.{At, LessThan, GreaterThan, Comma, Semicolon, Colon, Lexeme, Sym, of, Word, atom_word, quoted_word, Phrase, one, more, Nodes, first, next, Slot, empty, comma, AddressList, idle, full, Address, mailbox, angle, group, quoted, typed}
 use Rattle.grammar.proofs.Rfc733.Trees.{word_symbol, phrase_then, name_then, nodes_then, slot_then, list_then, address_then}
-use Rattle.grammar.proofs.Rfc733.Derivations.{tree-derived}
-use Rattle.grammar.proofs.Rfc733.TreeRecords.{word_lexeme, phrase_start, phrase_end, nodes_end, name_start, name_end, address_end, address_record, slot_count, list_count, address_count, slot_records, list_records, inside_records, tree-records, tree-count}
+use Rattle.grammar.proofs.Rfc733.Derivations.{tree_derived}
+use Rattle.grammar.proofs.Rfc733.TreeRecords.{word_lexeme, phrase_start, phrase_end, nodes_end, name_start, name_end, address_end, address_record, slot_count, list_count, address_count, slot_records, list_records, inside_records, tree_records, tree_count}
 
 -- ---- the parts of a list in order
 
@@ -70,13 +70,13 @@ marked_lies : (from to : ℕ) (o : Option Phrase) (t u : Lexeme) (l : AddressLis
     → (k : Taken t.end to (list_count l) xs (list_records l)) → (k.up_to ≤ u.start)
     → (d par : ℕ) → Lies from u.end record { kind = kind; depth = d; parent = par; start = name_start o t; end = u.end; name_start = name_start o t; name_end = name_end o t }
 marked_lies from to o t u l kind xs a b c e f k g d par =
-    record { after-from = a; name-after = omega arith; name-order = b; name-before = omega (arith, k.wide); not_empty = omega (arith, k.wide); before-to = omega arith }
+    record { after_from = a; name_after = omega arith; name_order = b; name_before = omega (arith, k.wide); not_empty = omega (arith, k.wide); before_to = omega arith }
 
 mutual
   slot_taken : (r : Slot) (from to : ℕ) (xs : List Sym) → InOrder from to (slot_then r xs) → Taken from to (slot_count r) xs (slot_records r)
   slot_taken empty from to xs h = record { up_to = from; wide = omega arith; rest = h; ascending = λ d par i. omega arith }
   slot_taken (comma l t) from to xs h =
-      let k = list-taken l from to (of Comma t ∷ xs) h in
+      let k = list_taken l from to (of Comma t ∷ xs) h in
       record {
         up_to = t.end;
         wide = omega (arith, k.wide, k.rest.0, k.rest.1);
@@ -84,11 +84,11 @@ mutual
         ascending = λ d par i. ascending_widen from k.up_to from t.end (list_records l d par i) (k.ascending d par i) (omega arith) (omega (arith, k.rest.0, k.rest.1));
       }
 
-  list-taken : (l : AddressList) (from to : ℕ) (xs : List Sym) → InOrder from to (list_then l xs) → Taken from to (list_count l) xs (list_records l)
-  list-taken (idle r) from to xs h = slot_taken r from to xs h
-  list-taken (full r a) from to xs h =
+  list_taken : (l : AddressList) (from to : ℕ) (xs : List Sym) → InOrder from to (list_then l xs) → Taken from to (list_count l) xs (list_records l)
+  list_taken (idle r) from to xs h = slot_taken r from to xs h
+  list_taken (full r a) from to xs h =
       let k = slot_taken r from to (address_then a xs) h in
-      let b = address-taken a k.up_to to xs k.rest in
+      let b = address_taken a k.up_to to xs k.rest in
       record {
         up_to = address_end a;
         wide = omega (arith, k.wide, b.wide);
@@ -97,19 +97,19 @@ mutual
             ascending_append from k.up_to (address_end a) (slot_records r d par i) _ (k.ascending d par i) (b.lies d par, b.ascending d par (suc d) (suc (i + slot_count r)));
       }
 
-  address-taken : (a : Address) (from to : ℕ) (xs : List Sym) → InOrder from to (address_then a xs) → TakenBy a from to xs
-  address-taken (mailbox p m) from to xs h =
+  address_taken : (a : Address) (from to : ℕ) (xs : List Sym) → InOrder from to (address_then a xs) → TakenBy a from to xs
+  address_taken (mailbox p m) from to xs h =
       let f = phrase_lies p from to (nodes_then m xs) h in
       let g = nodes_lies m (phrase_end p) to xs f.2 in
       record {
         wide = omega (arith, f.0, f.1, g.0);
         rest = g.1;
-        lies = λ d par. record { after-from = f.0; name-after = omega arith; name-order = omega (arith, f.1); name-before = omega (arith, g.0); not_empty = omega (arith, f.1, g.0); before-to = omega arith };
+        lies = λ d par. record { after_from = f.0; name_after = omega arith; name_order = omega (arith, f.1); name_before = omega (arith, g.0); not_empty = omega (arith, f.1, g.0); before_to = omega arith };
         ascending = λ d par e i. omega (arith, f.1, g.0);
       }
-  address-taken (angle o t l u) from to xs h =
+  address_taken (angle o t l u) from to xs h =
       let f = name_lies o from to (of LessThan t) (list_then l (of GreaterThan u ∷ xs)) h in
-      let k = list-taken l t.end to (of GreaterThan u ∷ xs) f.4 in
+      let k = list_taken l t.end to (of GreaterThan u ∷ xs) f.4 in
       let opened : t.start < t.end = omega (arith, f.3) in
       let closed : u.start < u.end = omega (arith, k.rest.1) in
       record {
@@ -118,9 +118,9 @@ mutual
         lies = marked_lies from to o t u l _ _ f.0 f.1 f.2 opened closed k k.rest.0;
         ascending = λ d par e i. ascending_widen t.end k.up_to (suc (name_start o t)) u.end (list_records l e i i) (k.ascending e i i) (omega (arith, f.1, f.2)) (omega (arith, k.rest.0));
       }
-  address-taken (group o t l u) from to xs h =
+  address_taken (group o t l u) from to xs h =
       let f = name_lies o from to (of Colon t) (list_then l (of Semicolon u ∷ xs)) h in
-      let k = list-taken l t.end to (of Semicolon u ∷ xs) f.4 in
+      let k = list_taken l t.end to (of Semicolon u ∷ xs) f.4 in
       let opened : t.start < t.end = omega (arith, f.3) in
       let closed : u.start < u.end = omega (arith, k.rest.1) in
       record {
@@ -129,39 +129,39 @@ mutual
         lies = marked_lies from to o t u l _ _ f.0 f.1 f.2 opened closed k k.rest.0;
         ascending = λ d par e i. ascending_widen t.end k.up_to (suc (name_start o t)) u.end (list_records l e i i) (k.ascending e i i) (omega (arith, f.1, f.2)) (omega (arith, k.rest.0));
       }
-  address-taken (quoted t) from to xs h =
+  address_taken (quoted t) from to xs h =
       record {
         wide = omega (arith, h.0, h.1);
         rest = h.2;
-        lies = λ d par. record { after-from = h.0; name-after = omega arith; name-order = omega (arith, h.1); name-before = omega arith; not_empty = omega (arith, h.1); before-to = omega arith };
+        lies = λ d par. record { after_from = h.0; name_after = omega arith; name_order = omega (arith, h.1); name_before = omega arith; not_empty = omega (arith, h.1); before_to = omega arith };
         ascending = λ d par e i. omega (arith, h.1);
       }
-  address-taken (typed t a u b) from to xs h =
-      let k = address-taken b u.end to xs h.2.2.2 in
+  address_taken (typed t a u b) from to xs h =
+      let k = address_taken b u.end to xs h.2.2.2 in
       let z : t.start + 3 ≤ u.end = omega (arith, h.1, h.2.0, h.2.1, h.2.2.0, h.2.2.1) in
       record {
         wide = omega (arith, h.0, k.wide);
         rest = k.rest;
-        lies = λ d par. record { after-from = h.0; name-after = omega (arith, h.1, h.2.0); name-order = omega (arith, h.2.1); name-before = omega (arith, h.2.2.0, h.2.2.1, k.wide); not_empty = omega (arith, k.wide); before-to = omega arith };
+        lies = λ d par. record { after_from = h.0; name_after = omega (arith, h.1, h.2.0); name_order = omega (arith, h.2.1); name_before = omega (arith, h.2.2.0, h.2.2.1, k.wide); not_empty = omega (arith, k.wide); before_to = omega arith };
         ascending = λ d par e i. (lies_widen u.end (address_end b) (suc t.start) (address_end b) _ (k.lies e i) (omega arith) (omega arith), k.ascending e i (suc e) (suc i));
       }
 
 -- ---- of a derivation
 
 -- the records lie in the body, in order of start
-pub records-ascend : {k : Derivation} {xs : List Sym} (from to : ℕ) → DerivedList k xs → InOrder from to xs → Ascending from to (records k)
-records-ascend {k} {xs} from to d h =
-    let (l, e, t) = tree-derived d in
-    let y = list-taken l from to [] (rw t.yields h) in
-    let q : records k ≡ list_records l 0 0 0 = ap records e ∙ tree-records l in
+pub records_ascend : {k : Derivation} {xs : List Sym} (from to : ℕ) → DerivedList k xs → InOrder from to xs → Ascending from to (records k)
+records_ascend {k} {xs} from to d h =
+    let (l, e, t) = tree_derived d in
+    let y = list_taken l from to [] (rw t.yields h) in
+    let q : records k ≡ list_records l 0 0 0 = ap records e ∙ tree_records l in
     rw q (ascending_widen from y.up_to from to (list_records l 0 0 0) (y.ascending 0 0 0) (omega arith) y.rest)
 
 -- there are at most half as many addresses as bytes
 pub count_half : {k : Derivation} {xs : List Sym} (from to : ℕ) → DerivedList k xs → InOrder from to xs → from + 2 * count k ≤ to
 count_half {k} {xs} from to d h =
-    let (l, e, t) = tree-derived d in
-    let y = list-taken l from to [] (rw t.yields h) in
-    let q : count k ≡ list_count l = ap count e ∙ tree-count l in
+    let (l, e, t) = tree_derived d in
+    let y = list_taken l from to [] (rw t.yields h) in
+    let q : count k ≡ list_count l = ap count e ∙ tree_count l in
     omega (arith, y.wide, y.rest)
 
 -- .. and so many records

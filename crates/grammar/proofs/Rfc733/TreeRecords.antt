@@ -16,7 +16,7 @@ use Rattle.grammar.specs.Executable.Trees733.{put, Lexeme, LessThan, GreaterThan
 use Rattle.grammar.proofs.Rfc733.Trees.{word_symbol, phrase_then, nodes_then, list_then, address_then}
 use Rattle.grammar.proofs.Any.Records.{yield-append, last-append}
 use Rattle.grammar.proofs.Any.Silent.{silent_rules, silent_records, silent_count}
-use Rattle.grammar.proofs.Rfc733.Derivations.{phrase-yield, list-yield, address-yield, phrase-is, nodes-is}
+use Rattle.grammar.proofs.Rfc733.Derivations.{phrase_yield, list_yield, address_yield, phrase_is, nodes_is}
 
 -- ---- the record of an address
 
@@ -102,34 +102,34 @@ address_records a depth parent i = address_record a depth parent ∷ inside_reco
 
 -- ---- the symbols of a tree: the first and the last of them
 
-start-phrase : (q : ℕ) (p : Phrase) (xs : List Sym) → start_of q (phrase_then p xs) ≡ phrase_start p
-start-phrase q (one (atom_word t)) xs = refl
-start-phrase q (one (quoted_word t)) xs = refl
-start-phrase q (more p w) xs = start-phrase q p (word_symbol w ∷ xs)
+start_phrase : (q : ℕ) (p : Phrase) (xs : List Sym) → start_of q (phrase_then p xs) ≡ phrase_start p
+start_phrase q (one (atom_word t)) xs = refl
+start_phrase q (one (quoted_word t)) xs = refl
+start_phrase q (more p w) xs = start_phrase q p (word_symbol w ∷ xs)
 
 last_word : (q : ℕ) (w : Word) (xs : List Sym) → last_end q (word_symbol w ∷ xs) ≡ last_end (word_lexeme w).end xs
 last_word q (atom_word t) xs = refl
 last_word q (quoted_word t) xs = refl
 
-last-phrase : (q : ℕ) (p : Phrase) (xs : List Sym) → last_end q (phrase_then p xs) ≡ last_end (phrase_end p) xs
-last-phrase q (one w) xs = last_word q w xs
-last-phrase q (more p w) xs = last-phrase q p (word_symbol w ∷ xs) ∙ last_word (phrase_end p) w xs
+last_phrase : (q : ℕ) (p : Phrase) (xs : List Sym) → last_end q (phrase_then p xs) ≡ last_end (phrase_end p) xs
+last_phrase q (one w) xs = last_word q w xs
+last_phrase q (more p w) xs = last_phrase q p (word_symbol w ∷ xs) ∙ last_word (phrase_end p) w xs
 
-last-nodes : (q : ℕ) (m : Nodes) (xs : List Sym) → last_end q (nodes_then m xs) ≡ last_end (nodes_end m) xs
-last-nodes q (first t w) xs = last_word t.end w xs
-last-nodes q (next m t w) xs = last-nodes q m (of At t ∷ word_symbol w ∷ xs) ∙ last_word t.end w xs
+last_nodes : (q : ℕ) (m : Nodes) (xs : List Sym) → last_end q (nodes_then m xs) ≡ last_end (nodes_end m) xs
+last_nodes q (first t w) xs = last_word t.end w xs
+last_nodes q (next m t w) xs = last_nodes q m (of At t ∷ word_symbol w ∷ xs) ∙ last_word t.end w xs
 
-last-list : (q : ℕ) (l : AddressList) (x : Sym) (xs : List Sym) → last_end q (list_then l (x ∷ xs)) ≡ last_end x.lexeme.end xs
-last-list q l x xs = ap (last_end q) (sym (list-yield l (x ∷ xs)) ∙ yield-append (list_piece l).parts (x ∷ xs)) ∙ last-append q (yield (list_piece l).parts) x xs
+last_list : (q : ℕ) (l : AddressList) (x : Sym) (xs : List Sym) → last_end q (list_then l (x ∷ xs)) ≡ last_end x.lexeme.end xs
+last_list q l x xs = ap (last_end q) (sym (list_yield l (x ∷ xs)) ∙ yield-append (list_piece l).parts (x ∷ xs)) ∙ last-append q (yield (list_piece l).parts) x xs
 
-last-address : (q : ℕ) (a : Address) (xs : List Sym) → last_end q (address_then a xs) ≡ last_end (address_end a) xs
-last-address q (mailbox p m) xs = last-phrase q p (nodes_then m xs) ∙ last-nodes (phrase_end p) m xs
-last-address q (angle none t l u) xs = last-list t.end l (of GreaterThan u) xs
-last-address q (angle (some p) t l u) xs = last-phrase q p _ ∙ last-list t.end l (of GreaterThan u) xs
-last-address q (group none t l u) xs = last-list t.end l (of Semicolon u) xs
-last-address q (group (some p) t l u) xs = last-phrase q p _ ∙ last-list t.end l (of Semicolon u) xs
-last-address q (quoted t) xs = refl
-last-address q (typed t a u b) xs = last-address u.end b xs
+last_address : (q : ℕ) (a : Address) (xs : List Sym) → last_end q (address_then a xs) ≡ last_end (address_end a) xs
+last_address q (mailbox p m) xs = last_phrase q p (nodes_then m xs) ∙ last_nodes (phrase_end p) m xs
+last_address q (angle none t l u) xs = last_list t.end l (of GreaterThan u) xs
+last_address q (angle (some p) t l u) xs = last_phrase q p _ ∙ last_list t.end l (of GreaterThan u) xs
+last_address q (group none t l u) xs = last_list t.end l (of Semicolon u) xs
+last_address q (group (some p) t l u) xs = last_phrase q p _ ∙ last_list t.end l (of Semicolon u) xs
+last_address q (quoted t) xs = refl
+last_address q (typed t a u b) xs = last_address u.end b xs
 
 -- ---- the record of an address is its rule's
 
@@ -142,17 +142,17 @@ cons_record e f = cc
 -- a name at the beginning of a forest
 module _ (p : Phrase) (k : Derivation) where
   forest_start : start_of 0 (yield (put (phrase_piece p) k)) ≡ phrase_start p
-  forest_start = ap (start_of 0) (phrase-yield p (yield k)) ∙ start-phrase 0 p _
+  forest_start = ap (start_of 0) (phrase_yield p (yield k)) ∙ start_phrase 0 p _
 
-  name-start : (q : ℕ) → start_of q (part_of 0 (put (phrase_piece p) k)) ≡ phrase_start p
-  name-start q = ap (start_of q) (phrase-yield p []) ∙ start-phrase q p []
+  name_start_lem : (q : ℕ) → start_of q (part_of 0 (put (phrase_piece p) k)) ≡ phrase_start p
+  name_start_lem q = ap (start_of q) (phrase_yield p []) ∙ start_phrase q p []
 
-  name-end : (q : ℕ) → last_end q (part_of 0 (put (phrase_piece p) k)) ≡ phrase_end p
-  name-end q = ap (last_end q) (phrase-yield p []) ∙ last-phrase q p []
+  name_end_lem : (q : ℕ) → last_end q (part_of 0 (put (phrase_piece p) k)) ≡ phrase_end p
+  name_end_lem q = ap (last_end q) (phrase_yield p []) ∙ last_phrase q p []
 
 -- the end of an address
 forest_end : (q : ℕ) (a : Address) (xs : List Sym) → xs ≡ address_then a [] → last_end q xs ≡ address_end a
-forest_end q a xs e = ap (last_end q) e ∙ last-address q a []
+forest_end q a xs e = ap (last_end q) e ∙ last_address q a []
 
 -- ---- the records of a tree are those of its derivation
 
@@ -175,11 +175,11 @@ all_silent at_nodes = refl
 all_silent node = refl
 all_silent word = refl
 
-phrase-count : (p : Phrase) (k : Derivation) → count (put (phrase_piece p) k) ≡ count k
-phrase-count p k = silent_count silent rfc733 all_silent (phrase-is p) refl k
+phrase_count : (p : Phrase) (k : Derivation) → count (put (phrase_piece p) k) ≡ count k
+phrase_count p k = silent_count silent rfc733 all_silent (phrase_is p) refl k
 
-nodes-count : (m : Nodes) (k : Derivation) → count (put (nodes_piece m) k) ≡ count k
-nodes-count m k = silent_count silent rfc733 all_silent (nodes-is m) refl k
+nodes_count : (m : Nodes) (k : Derivation) → count (put (nodes_piece m) k) ≡ count k
+nodes_count m k = silent_count silent rfc733 all_silent (nodes_is m) refl k
 
 mutual
   slot_count_lem : (r : Slot) (k : Derivation) → count (put (slot_piece r) k) ≡ slot_count r + count k
@@ -188,76 +188,76 @@ mutual
 
   list_count_lem : (l : AddressList) (k : Derivation) → count (put (list_piece l) k) ≡ list_count l + count k
   list_count_lem (idle r) k = omega (arith, slot_count_lem r nil)
-  list_count_lem (full r a) k = omega (arith, slot_count_lem r (put (address_piece a) nil), address-count a nil)
+  list_count_lem (full r a) k = omega (arith, slot_count_lem r (put (address_piece a) nil), address_count_lem a nil)
 
-  address-count : (a : Address) (k : Derivation) → count (put (address_piece a) k) ≡ address_count a + count k
-  address-count (mailbox p m) k = omega (arith, phrase-count p (put (nodes_piece m) nil), nodes-count m nil)
-  address-count (angle none t l u) k = omega (arith, list_count_lem l (leaf (of GreaterThan u) nil))
-  address-count (angle (some p) t l u) k = omega (arith, phrase-count p (leaf (of LessThan t) (put (list_piece l) (leaf (of GreaterThan u) nil))), list_count_lem l (leaf (of GreaterThan u) nil))
-  address-count (group none t l u) k = omega (arith, list_count_lem l (leaf (of Semicolon u) nil))
-  address-count (group (some p) t l u) k = omega (arith, phrase-count p (leaf (of Colon t) (put (list_piece l) (leaf (of Semicolon u) nil))), list_count_lem l (leaf (of Semicolon u) nil))
-  address-count (quoted t) k = omega arith
-  address-count (typed t a u b) k = omega (arith, address-count b nil)
+  address_count_lem : (a : Address) (k : Derivation) → count (put (address_piece a) k) ≡ address_count a + count k
+  address_count_lem (mailbox p m) k = omega (arith, phrase_count p (put (nodes_piece m) nil), nodes_count m nil)
+  address_count_lem (angle none t l u) k = omega (arith, list_count_lem l (leaf (of GreaterThan u) nil))
+  address_count_lem (angle (some p) t l u) k = omega (arith, phrase_count p (leaf (of LessThan t) (put (list_piece l) (leaf (of GreaterThan u) nil))), list_count_lem l (leaf (of GreaterThan u) nil))
+  address_count_lem (group none t l u) k = omega (arith, list_count_lem l (leaf (of Semicolon u) nil))
+  address_count_lem (group (some p) t l u) k = omega (arith, phrase_count p (leaf (of Colon t) (put (list_piece l) (leaf (of Semicolon u) nil))), list_count_lem l (leaf (of Semicolon u) nil))
+  address_count_lem (quoted t) k = omega arith
+  address_count_lem (typed t a u b) k = omega (arith, address_count_lem b nil)
 
 -- a forest of two parts: what comes from the first, and then from the second, which starts at the number `m`
-both-parts : {a : List AddressRecord} {m : ℕ} (b : ℕ → List AddressRecord) (a' : List AddressRecord) (n : ℕ) → a ≡ a' → m ≡ n → a ++ b m ≡ a' ++ b n
-both-parts b a' n e f = cc
+both_parts : {a : List AddressRecord} {m : ℕ} (b : ℕ → List AddressRecord) (a' : List AddressRecord) (n : ℕ) → a ≡ a' → m ≡ n → a ++ b m ≡ a' ++ b n
+both_parts b a' n e f = cc
 
-phrase-records : (p : Phrase) (k : Derivation) (d par i : ℕ) → records_from (put (phrase_piece p) k) d par i ≡ records_from k d par i
-phrase-records p k d par i = silent_records silent rfc733 all_silent (phrase-is p) refl k d par i
+phrase_records : (p : Phrase) (k : Derivation) (d par i : ℕ) → records_from (put (phrase_piece p) k) d par i ≡ records_from k d par i
+phrase_records p k d par i = silent_records silent rfc733 all_silent (phrase_is p) refl k d par i
 
-nodes-records : (m : Nodes) (k : Derivation) (d par i : ℕ) → records_from (put (nodes_piece m) k) d par i ≡ records_from k d par i
-nodes-records m k d par i = silent_records silent rfc733 all_silent (nodes-is m) refl k d par i
+nodes_records : (m : Nodes) (k : Derivation) (d par i : ℕ) → records_from (put (nodes_piece m) k) d par i ≡ records_from k d par i
+nodes_records m k d par i = silent_records silent rfc733 all_silent (nodes_is m) refl k d par i
 
 mutual
   slot_records_lem : (r : Slot) (k : Derivation) (d par i : ℕ) → records_from (put (slot_piece r) k) d par i ≡ slot_records r d par i ++ records_from k d par (i + slot_count r)
   slot_records_lem empty k d par i = refl
   slot_records_lem (comma l t) k d par i =
-      both-parts (records_from k d par) (slot_records (comma l t) d par i) (i + slot_count (comma l t)) (list-records l (leaf (of Comma t) nil) d par i ∙ append-nil _) (omega (arith, list_count_lem l (leaf (of Comma t) nil)))
+      both_parts (records_from k d par) (slot_records (comma l t) d par i) (i + slot_count (comma l t)) (list_records_lem l (leaf (of Comma t) nil) d par i ∙ append-nil _) (omega (arith, list_count_lem l (leaf (of Comma t) nil)))
 
-  list-records : (l : AddressList) (k : Derivation) (d par i : ℕ) → records_from (put (list_piece l) k) d par i ≡ list_records l d par i ++ records_from k d par (i + list_count l)
-  list-records (idle r) k d par i = both-parts (records_from k d par) (list_records (idle r) d par i) (i + list_count (idle r)) (slot_records_lem r nil d par i ∙ append-nil _) (omega (arith, slot_count_lem r nil))
-  list-records (full r a) k d par i =
-      both-parts (records_from k d par) (list_records (full r a) d par i) (i + list_count (full r a))
-      (slot_records_lem r (put (address_piece a) nil) d par i ∙ ap (λ rs. slot_records r d par i ++ rs) (address-records a nil d par (i + slot_count r) ∙ append-nil _))
-      (omega (arith, slot_count_lem r (put (address_piece a) nil), address-count a nil))
+  list_records_lem : (l : AddressList) (k : Derivation) (d par i : ℕ) → records_from (put (list_piece l) k) d par i ≡ list_records l d par i ++ records_from k d par (i + list_count l)
+  list_records_lem (idle r) k d par i = both_parts (records_from k d par) (list_records (idle r) d par i) (i + list_count (idle r)) (slot_records_lem r nil d par i ∙ append-nil _) (omega (arith, slot_count_lem r nil))
+  list_records_lem (full r a) k d par i =
+      both_parts (records_from k d par) (list_records (full r a) d par i) (i + list_count (full r a))
+      (slot_records_lem r (put (address_piece a) nil) d par i ∙ ap (λ rs. slot_records r d par i ++ rs) (address_records_lem a nil d par (i + slot_count r) ∙ append-nil _))
+      (omega (arith, slot_count_lem r (put (address_piece a) nil), address_count_lem a nil))
 
-  address-records : (a : Address) (k : Derivation) (d par i : ℕ) → records_from (put (address_piece a) k) d par i ≡ address_records a d par i ++ records_from k d par (i + address_count a)
-  address-records (mailbox p m) k d par i =
-      both-parts (records_from k d par) (address_records (mailbox p m) d par i) (i + address_count (mailbox p m))
-      (cons_record (same_record d par refl (forest_start p (put (nodes_piece m) nil)) (forest_end _ (mailbox p m) _ (address-yield (mailbox p m) [])) (name-start p (put (nodes_piece m) nil) _) (name-end p (put (nodes_piece m) nil) _))
-      (phrase-records p (put (nodes_piece m) nil) (suc d) (suc i) (suc i) ∙ nodes-records m nil (suc d) (suc i) (suc i)))
-      (omega (arith, phrase-count p (put (nodes_piece m) nil), nodes-count m nil))
-  address-records (angle none t l u) k d par i =
-      both-parts (records_from k d par) (address_records (angle none t l u) d par i) (i + address_count (angle none t l u))
-      (cons_record (same_record d par refl refl (forest_end 0 (angle none t l u) _ (address-yield (angle none t l u) [])) refl refl)
-      (list-records l (leaf (of GreaterThan u) nil) (suc d) (suc i) (suc i) ∙ append-nil _))
+  address_records_lem : (a : Address) (k : Derivation) (d par i : ℕ) → records_from (put (address_piece a) k) d par i ≡ address_records a d par i ++ records_from k d par (i + address_count a)
+  address_records_lem (mailbox p m) k d par i =
+      both_parts (records_from k d par) (address_records (mailbox p m) d par i) (i + address_count (mailbox p m))
+      (cons_record (same_record d par refl (forest_start p (put (nodes_piece m) nil)) (forest_end _ (mailbox p m) _ (address_yield (mailbox p m) [])) (name_start_lem p (put (nodes_piece m) nil) _) (name_end_lem p (put (nodes_piece m) nil) _))
+      (phrase_records p (put (nodes_piece m) nil) (suc d) (suc i) (suc i) ∙ nodes_records m nil (suc d) (suc i) (suc i)))
+      (omega (arith, phrase_count p (put (nodes_piece m) nil), nodes_count m nil))
+  address_records_lem (angle none t l u) k d par i =
+      both_parts (records_from k d par) (address_records (angle none t l u) d par i) (i + address_count (angle none t l u))
+      (cons_record (same_record d par refl refl (forest_end 0 (angle none t l u) _ (address_yield (angle none t l u) [])) refl refl)
+      (list_records_lem l (leaf (of GreaterThan u) nil) (suc d) (suc i) (suc i) ∙ append-nil _))
       (omega (arith, list_count_lem l (leaf (of GreaterThan u) nil)))
-  address-records (angle (some p) t l u) k d par i =
-      both-parts (records_from k d par) (address_records (angle (some p) t l u) d par i) (i + address_count (angle (some p) t l u))
-      (cons_record (same_record d par refl (forest_start p (leaf (of LessThan t) (put (list_piece l) (leaf (of GreaterThan u) nil)))) (forest_end _ (angle (some p) t l u) _ (address-yield (angle (some p) t l u) [])) (name-start p (leaf (of LessThan t) (put (list_piece l) (leaf (of GreaterThan u) nil))) _) (name-end p (leaf (of LessThan t) (put (list_piece l) (leaf (of GreaterThan u) nil))) _))
-      (phrase-records p (leaf (of LessThan t) (put (list_piece l) (leaf (of GreaterThan u) nil))) (suc d) (suc i) (suc i) ∙ list-records l (leaf (of GreaterThan u) nil) (suc d) (suc i) (suc i) ∙ append-nil _))
-      (omega (arith, phrase-count p (leaf (of LessThan t) (put (list_piece l) (leaf (of GreaterThan u) nil))), list_count_lem l (leaf (of GreaterThan u) nil)))
-  address-records (group none t l u) k d par i =
-      both-parts (records_from k d par) (address_records (group none t l u) d par i) (i + address_count (group none t l u))
-      (cons_record (same_record d par refl refl (forest_end 0 (group none t l u) _ (address-yield (group none t l u) [])) refl refl)
-      (list-records l (leaf (of Semicolon u) nil) (suc d) (suc i) (suc i) ∙ append-nil _))
+  address_records_lem (angle (some p) t l u) k d par i =
+      both_parts (records_from k d par) (address_records (angle (some p) t l u) d par i) (i + address_count (angle (some p) t l u))
+      (cons_record (same_record d par refl (forest_start p (leaf (of LessThan t) (put (list_piece l) (leaf (of GreaterThan u) nil)))) (forest_end _ (angle (some p) t l u) _ (address_yield (angle (some p) t l u) [])) (name_start_lem p (leaf (of LessThan t) (put (list_piece l) (leaf (of GreaterThan u) nil))) _) (name_end_lem p (leaf (of LessThan t) (put (list_piece l) (leaf (of GreaterThan u) nil))) _))
+      (phrase_records p (leaf (of LessThan t) (put (list_piece l) (leaf (of GreaterThan u) nil))) (suc d) (suc i) (suc i) ∙ list_records_lem l (leaf (of GreaterThan u) nil) (suc d) (suc i) (suc i) ∙ append-nil _))
+      (omega (arith, phrase_count p (leaf (of LessThan t) (put (list_piece l) (leaf (of GreaterThan u) nil))), list_count_lem l (leaf (of GreaterThan u) nil)))
+  address_records_lem (group none t l u) k d par i =
+      both_parts (records_from k d par) (address_records (group none t l u) d par i) (i + address_count (group none t l u))
+      (cons_record (same_record d par refl refl (forest_end 0 (group none t l u) _ (address_yield (group none t l u) [])) refl refl)
+      (list_records_lem l (leaf (of Semicolon u) nil) (suc d) (suc i) (suc i) ∙ append-nil _))
       (omega (arith, list_count_lem l (leaf (of Semicolon u) nil)))
-  address-records (group (some p) t l u) k d par i =
-      both-parts (records_from k d par) (address_records (group (some p) t l u) d par i) (i + address_count (group (some p) t l u))
-      (cons_record (same_record d par refl (forest_start p (leaf (of Colon t) (put (list_piece l) (leaf (of Semicolon u) nil)))) (forest_end _ (group (some p) t l u) _ (address-yield (group (some p) t l u) [])) (name-start p (leaf (of Colon t) (put (list_piece l) (leaf (of Semicolon u) nil))) _) (name-end p (leaf (of Colon t) (put (list_piece l) (leaf (of Semicolon u) nil))) _))
-      (phrase-records p (leaf (of Colon t) (put (list_piece l) (leaf (of Semicolon u) nil))) (suc d) (suc i) (suc i) ∙ list-records l (leaf (of Semicolon u) nil) (suc d) (suc i) (suc i) ∙ append-nil _))
-      (omega (arith, phrase-count p (leaf (of Colon t) (put (list_piece l) (leaf (of Semicolon u) nil))), list_count_lem l (leaf (of Semicolon u) nil)))
-  address-records (quoted t) k d par i = both-parts (records_from k d par) (address_records (quoted t) d par i) (i + address_count (quoted t)) refl (omega arith)
-  address-records (typed t a u b) k d par i =
-      both-parts (records_from k d par) (address_records (typed t a u b) d par i) (i + address_count (typed t a u b))
-      (cons_record (same_record d par (ap (λ name. kind_number (typed_kind name)) (append-nil a.meaning)) refl (forest_end 0 (typed t a u b) _ (address-yield (typed t a u b) [])) refl refl)
-      (address-records b nil (suc d) (suc i) (suc i) ∙ append-nil _))
-      (omega (arith, address-count b nil))
+  address_records_lem (group (some p) t l u) k d par i =
+      both_parts (records_from k d par) (address_records (group (some p) t l u) d par i) (i + address_count (group (some p) t l u))
+      (cons_record (same_record d par refl (forest_start p (leaf (of Colon t) (put (list_piece l) (leaf (of Semicolon u) nil)))) (forest_end _ (group (some p) t l u) _ (address_yield (group (some p) t l u) [])) (name_start_lem p (leaf (of Colon t) (put (list_piece l) (leaf (of Semicolon u) nil))) _) (name_end_lem p (leaf (of Colon t) (put (list_piece l) (leaf (of Semicolon u) nil))) _))
+      (phrase_records p (leaf (of Colon t) (put (list_piece l) (leaf (of Semicolon u) nil))) (suc d) (suc i) (suc i) ∙ list_records_lem l (leaf (of Semicolon u) nil) (suc d) (suc i) (suc i) ∙ append-nil _))
+      (omega (arith, phrase_count p (leaf (of Colon t) (put (list_piece l) (leaf (of Semicolon u) nil))), list_count_lem l (leaf (of Semicolon u) nil)))
+  address_records_lem (quoted t) k d par i = both_parts (records_from k d par) (address_records (quoted t) d par i) (i + address_count (quoted t)) refl (omega arith)
+  address_records_lem (typed t a u b) k d par i =
+      both_parts (records_from k d par) (address_records (typed t a u b) d par i) (i + address_count (typed t a u b))
+      (cons_record (same_record d par (ap (λ name. kind_number (typed_kind name)) (append-nil a.meaning)) refl (forest_end 0 (typed t a u b) _ (address_yield (typed t a u b) [])) refl refl)
+      (address_records_lem b nil (suc d) (suc i) (suc i) ∙ append-nil _))
+      (omega (arith, address_count_lem b nil))
 
 -- the records of a derivation
-pub tree-records : (l : AddressList) → records (as_forest l) ≡ list_records l 0 0 0
-tree-records l = list-records l nil 0 0 0 ∙ append-nil _
+pub tree_records : (l : AddressList) → records (as_forest l) ≡ list_records l 0 0 0
+tree_records l = list_records_lem l nil 0 0 0 ∙ append-nil _
 
-pub tree-count : (l : AddressList) → count (as_forest l) ≡ list_count l
-tree-count l = omega (arith, list_count_lem l nil)
+pub tree_count : (l : AddressList) → count (as_forest l) ≡ list_count l
+tree_count l = omega (arith, list_count_lem l nil)

@@ -13,7 +13,7 @@ use Rattle.grammar.proofs.Any.Pieces.{seen}
 use Rattle.grammar.proofs.Any.Arrows as any
 use Rattle.grammar.proofs.Symbols.{same_class_lem, nowhere}
 use Rattle.grammar.specs.Executable.Trees822.{Class, Atom, At, LessThan, GreaterThan, Comma, Semicolon, Colon, Dot, Lexeme, Sym, of, Word, atom_word, quoted_word, Phrase, one, more, Sub, atom_sub, literal_sub, Domain, one_sub, more_sub, Local, one_word, more_word, Spec, spec, Empties, no_empty, one_empty, Hops, first_hop, next_hop, Route, direct, trailing, Mailbox, bare, angle, routed, Slot, empty, comma, Listed, idle, full, Address, box, group, word_piece, phrase_piece, sub_piece, domain_piece, local_piece, spec_piece, empties_piece, hops_piece, route_piece, mailbox_piece, box_slot_piece, boxes_piece, address_piece, slot_piece, list_piece, as_forest}
-use Rattle.grammar.proofs.Rfc822.Derivations.{DerivedList, tree-derived}
+use Rattle.grammar.proofs.Rfc822.Derivations.{DerivedList, tree_derived}
 use Rattle.grammar.specs.Executable.Machine822.{Here, in_list, in_group, Open, less, In, bare_in, angle_in, route_in, first_at, next_at, Behind, of_spec, of_hop, State, place, word, phrase, local, local_dot, at, domain, domain_dot, opened, hop, route, boxed, closed, words, subs, arrows, step, run, finish, start, read}
 use Rattle.grammar.proofs.Rfc822.Machine.{state_then, kept, gives}
 
@@ -82,27 +82,27 @@ word_next_lem : (n : ℕ) (h : Here) (p : Phrase) (w : Word) (xs : List Sym) →
 word_next_lem n h (one v) w xs = word_on n (word h v) (λ u. phrase h (more (one v) u)) _ w xs refl
 word_next_lem n h (more p v) w xs = word_on n (phrase h (more p v)) (λ u. phrase h (more (more p v) u)) _ w xs refl
 
-run-phrase : (p : Phrase) (n : ℕ) (h : Here) (xs : List Sym) → run n (place h) (seen (phrase_piece p) xs) ≡ run n (done_phrase h p) xs
-run-phrase (one w) n h xs = word_first n h w xs
-run-phrase (more p w) n h xs = run-phrase p n h _ ∙ word_next_lem n h p w xs
+run_phrase : (p : Phrase) (n : ℕ) (h : Here) (xs : List Sym) → run n (place h) (seen (phrase_piece p) xs) ≡ run n (done_phrase h p) xs
+run_phrase (one w) n h xs = word_first n h w xs
+run_phrase (more p w) n h xs = run_phrase p n h _ ∙ word_next_lem n h p w xs
 
-less-on : (n : ℕ) (h : Here) (p : Phrase) (t : Lexeme) (xs : List Sym) → run n (done_phrase h p) (of LessThan t ∷ xs) ≡ run n (opened (less h p t)) xs
-less-on n (in_list r) (one w) t xs = refl
-less-on n (in_list r) (more p w) t xs = refl
-less-on n (in_group r q c s) (one w) t xs = refl
-less-on n (in_group r q c s) (more p w) t xs = refl
+less_on : (n : ℕ) (h : Here) (p : Phrase) (t : Lexeme) (xs : List Sym) → run n (done_phrase h p) (of LessThan t ∷ xs) ≡ run n (opened (less h p t)) xs
+less_on n (in_list r) (one w) t xs = refl
+less_on n (in_list r) (more p w) t xs = refl
+less_on n (in_group r q c s) (one w) t xs = refl
+less_on n (in_group r q c s) (more p w) t xs = refl
 
-colon-on : (n : ℕ) (r : Slot Address) (p : Phrase) (t : Lexeme) (xs : List Sym) → run n (done_phrase (in_list r) p) (of Colon t ∷ xs) ≡ run n (place (in_group r p t empty)) xs
-colon-on n r (one w) t xs = refl
-colon-on n r (more p w) t xs = refl
+colon_on : (n : ℕ) (r : Slot Address) (p : Phrase) (t : Lexeme) (xs : List Sym) → run n (done_phrase (in_list r) p) (of Colon t ∷ xs) ≡ run n (place (in_group r p t empty)) xs
+colon_on n r (one w) t xs = refl
+colon_on n r (more p w) t xs = refl
 
 -- ---- local-part and domain
 
-dot-on : (n : ℕ) (c : In) (l : Local) (t : Lexeme) (xs : List Sym) → run n (done_local c l) (of Dot t ∷ xs) ≡ run n (local_dot c l t) xs
-dot-on n (bare_in h) (one_word w) t xs = refl
-dot-on n (bare_in h) (more_word l u w) t xs = refl
-dot-on n (angle_in o) l t xs = refl
-dot-on n (route_in o r) l t xs = refl
+dot_on : (n : ℕ) (c : In) (l : Local) (t : Lexeme) (xs : List Sym) → run n (done_local c l) (of Dot t ∷ xs) ≡ run n (local_dot c l t) xs
+dot_on n (bare_in h) (one_word w) t xs = refl
+dot_on n (bare_in h) (more_word l u w) t xs = refl
+dot_on n (angle_in o) l t xs = refl
+dot_on n (route_in o r) l t xs = refl
 
 at_on : (n : ℕ) (c : In) (l : Local) (t : Lexeme) (xs : List Sym) → run n (done_local c l) (of At t ∷ xs) ≡ run n (at (of_spec c l t)) xs
 at_on n (bare_in h) (one_word w) t xs = refl
@@ -115,39 +115,39 @@ done_more (bare_in h) l t w = refl
 done_more (angle_in o) l t w = refl
 done_more (route_in o r) l t w = refl
 
-local-first : (n : ℕ) (c : In) (w : Word) (xs : List Sym) → run n (begin_local c) (seen (word_piece w) xs) ≡ run n (done_local c (one_word w)) xs
-local-first n (bare_in h) w xs = word_first n h w xs
-local-first n (angle_in o) w xs = word_on n (opened o) (λ u. local (angle_in o) (one_word u)) _ w xs refl
-local-first n (route_in o r) w xs = word_on n (route o r) (λ u. local (route_in o r) (one_word u)) _ w xs refl
+local_first : (n : ℕ) (c : In) (w : Word) (xs : List Sym) → run n (begin_local c) (seen (word_piece w) xs) ≡ run n (done_local c (one_word w)) xs
+local_first n (bare_in h) w xs = word_first n h w xs
+local_first n (angle_in o) w xs = word_on n (opened o) (λ u. local (angle_in o) (one_word u)) _ w xs refl
+local_first n (route_in o r) w xs = word_on n (route o r) (λ u. local (route_in o r) (one_word u)) _ w xs refl
 
-run-local : (l : Local) (n : ℕ) (c : In) (xs : List Sym) → run n (begin_local c) (seen (local_piece l) xs) ≡ run n (done_local c l) xs
-run-local (one_word w) n c xs = local-first n c w xs
-run-local (more_word l t w) n c xs = run-local l n c _ ∙ dot-on n c l t (seen (word_piece w) xs) ∙ word_on n (local_dot c l t) (λ u. local c (more_word l t u)) _ w xs refl ∙ ap (λ s. run n s xs) (done_more c l t w)
+run_local : (l : Local) (n : ℕ) (c : In) (xs : List Sym) → run n (begin_local c) (seen (local_piece l) xs) ≡ run n (done_local c l) xs
+run_local (one_word w) n c xs = local_first n c w xs
+run_local (more_word l t w) n c xs = run_local l n c _ ∙ dot_on n c l t (seen (word_piece w) xs) ∙ word_on n (local_dot c l t) (λ u. local c (more_word l t u)) _ w xs refl ∙ ap (λ s. run n s xs) (done_more c l t w)
 
-run-domain : (m : Domain) (n : ℕ) (d : Behind) (xs : List Sym) → run n (at d) (seen (domain_piece m) xs) ≡ run n (domain d m) xs
-run-domain (one_sub b) n d xs = sub_on n (at d) (λ e. domain d (one_sub e)) b xs refl
-run-domain (more_sub m t b) n d xs = run-domain m n d _ ∙ sub_on n (domain_dot d m t) (λ e. domain d (more_sub m t e)) b xs refl
+run_domain : (m : Domain) (n : ℕ) (d : Behind) (xs : List Sym) → run n (at d) (seen (domain_piece m) xs) ≡ run n (domain d m) xs
+run_domain (one_sub b) n d xs = sub_on n (at d) (λ e. domain d (one_sub e)) b xs refl
+run_domain (more_sub m t b) n d xs = run_domain m n d _ ∙ sub_on n (domain_dot d m t) (λ e. domain d (more_sub m t e)) b xs refl
 
 run_spec : (s : Spec) (n : ℕ) (c : In) (xs : List Sym) → run n (begin_local c) (seen (spec_piece s) xs) ≡ run n (done_spec c s) xs
-run_spec (spec l t m) n c xs = run-local l n c _ ∙ at_on n c l t (seen (domain_piece m) xs) ∙ run-domain m n (of_spec c l t) xs
+run_spec (spec l t m) n c xs = run_local l n c _ ∙ at_on n c l t (seen (domain_piece m) xs) ∙ run_domain m n (of_spec c l t) xs
 
 -- ---- routes
 
-empty-on : (n : ℕ) (o : Open) (g : Empties) (t : Lexeme) (xs : List Sym) → run n (done_empties o g) (of Comma t ∷ xs) ≡ run n (hop o (first_at (one_empty g t))) xs
-empty-on n o no_empty t xs = refl
-empty-on n o (one_empty g u) t xs = refl
+empty_on : (n : ℕ) (o : Open) (g : Empties) (t : Lexeme) (xs : List Sym) → run n (done_empties o g) (of Comma t ∷ xs) ≡ run n (hop o (first_at (one_empty g t))) xs
+empty_on n o no_empty t xs = refl
+empty_on n o (one_empty g u) t xs = refl
 
 run_empties : (g : Empties) (n : ℕ) (o : Open) (xs : List Sym) → run n (opened o) (seen (empties_piece g) xs) ≡ run n (done_empties o g) xs
 run_empties no_empty n o xs = refl
-run_empties (one_empty g t) n o xs = run_empties g n o _ ∙ empty-on n o g t xs
+run_empties (one_empty g t) n o xs = run_empties g n o _ ∙ empty_on n o g t xs
 
 run_gap : (g : Empties) (n : ℕ) (o : Open) (h : Hops) (u : Lexeme) (xs : List Sym) → run n (hop o (next_at h u no_empty)) (seen (empties_piece g) xs) ≡ run n (hop o (next_at h u g)) xs
 run_gap no_empty n o h u xs = refl
 run_gap (one_empty g t) n o h u xs = run_gap g n o h u _
 
-first-at : (n : ℕ) (o : Open) (g : Empties) (t : Lexeme) (xs : List Sym) → run n (done_empties o g) (of At t ∷ xs) ≡ run n (at (of_hop o (first_at g) t)) xs
-first-at n o no_empty t xs = refl
-first-at n o (one_empty g u) t xs = refl
+first_at_lem : (n : ℕ) (o : Open) (g : Empties) (t : Lexeme) (xs : List Sym) → run n (done_empties o g) (of At t ∷ xs) ≡ run n (at (of_hop o (first_at g) t)) xs
+first_at_lem n o no_empty t xs = refl
+first_at_lem n o (one_empty g u) t xs = refl
 
 hops_comma : (n : ℕ) (o : Open) (h : Hops) (u : Lexeme) (xs : List Sym) → run n (done_hops o h) (of Comma u ∷ xs) ≡ run n (hop o (next_at h u no_empty)) xs
 hops_comma n o (first_hop g t m) u xs = refl
@@ -158,28 +158,28 @@ hops_colon n o (first_hop g t m) u xs = refl
 hops_colon n o (next_hop h v g t m) u xs = refl
 
 run_hops : (h : Hops) (n : ℕ) (o : Open) (xs : List Sym) → run n (opened o) (seen (hops_piece h) xs) ≡ run n (done_hops o h) xs
-run_hops (first_hop g t m) n o xs = run_empties g n o _ ∙ first-at n o g t (seen (domain_piece m) xs) ∙ run-domain m n (of_hop o (first_at g) t) xs
-run_hops (next_hop h u g t m) n o xs = run_hops h n o _ ∙ hops_comma n o h u (seen (empties_piece g) (of At t ∷ seen (domain_piece m) xs)) ∙ run_gap g n o h u (of At t ∷ seen (domain_piece m) xs) ∙ run-domain m n (of_hop o (next_at h u g) t) xs
+run_hops (first_hop g t m) n o xs = run_empties g n o _ ∙ first_at_lem n o g t (seen (domain_piece m) xs) ∙ run_domain m n (of_hop o (first_at g) t) xs
+run_hops (next_hop h u g t m) n o xs = run_hops h n o _ ∙ hops_comma n o h u (seen (empties_piece g) (of At t ∷ seen (domain_piece m) xs)) ∙ run_gap g n o h u (of At t ∷ seen (domain_piece m) xs) ∙ run_domain m n (of_hop o (next_at h u g) t) xs
 
-run-route : (r : Route) (n : ℕ) (o : Open) (xs : List Sym) → run n (opened o) (seen (route_piece r) xs) ≡ run n (route o r) xs
-run-route (direct h t) n o xs = run_hops h n o _ ∙ hops_colon n o h t xs
-run-route (trailing h u g t) n o xs = run_hops h n o _ ∙ hops_comma n o h u (seen (empties_piece g) (of Colon t ∷ xs)) ∙ run_gap g n o h u (of Colon t ∷ xs)
+run_route : (r : Route) (n : ℕ) (o : Open) (xs : List Sym) → run n (opened o) (seen (route_piece r) xs) ≡ run n (route o r) xs
+run_route (direct h t) n o xs = run_hops h n o _ ∙ hops_colon n o h t xs
+run_route (trailing h u g t) n o xs = run_hops h n o _ ∙ hops_comma n o h u (seen (empties_piece g) (of Colon t ∷ xs)) ∙ run_gap g n o h u (of Colon t ∷ xs)
 
 -- ---- mailboxes
 
-angle-ends : (n : ℕ) (h : Here) (p : Phrase) (t : Lexeme) (s : Spec) (u : Lexeme) (xs : List Sym) → run n (done_spec (angle_in (less h p t)) s) (of GreaterThan u ∷ xs) ≡ run n (boxed h (angle p t s u)) xs
-angle-ends n h p t (spec l v m) u xs = refl
+angle_ends : (n : ℕ) (h : Here) (p : Phrase) (t : Lexeme) (s : Spec) (u : Lexeme) (xs : List Sym) → run n (done_spec (angle_in (less h p t)) s) (of GreaterThan u ∷ xs) ≡ run n (boxed h (angle p t s u)) xs
+angle_ends n h p t (spec l v m) u xs = refl
 
-route-ends : (n : ℕ) (h : Here) (p : Phrase) (t : Lexeme) (r : Route) (s : Spec) (u : Lexeme) (xs : List Sym)
+route_ends : (n : ℕ) (h : Here) (p : Phrase) (t : Lexeme) (r : Route) (s : Spec) (u : Lexeme) (xs : List Sym)
     → run n (done_spec (route_in (less h p t) r) s) (of GreaterThan u ∷ xs) ≡ run n (boxed h (routed p t r s u)) xs
-route-ends n h p t r (spec l v m) u xs = refl
+route_ends n h p t r (spec l v m) u xs = refl
 
-run-box : (b : Mailbox) (n : ℕ) (h : Here) (xs : List Sym) → run n (place h) (seen (mailbox_piece b) xs) ≡ run n (done_box h b) xs
-run-box (bare s) n h xs = run_spec s n (bare_in h) xs
-run-box (angle p t s u) n h xs = run-phrase p n h _ ∙ less-on n h p t (seen (spec_piece s) (of GreaterThan u ∷ xs)) ∙ run_spec s n (angle_in (less h p t)) (of GreaterThan u ∷ xs) ∙ angle-ends n h p t s u xs
-run-box (routed p t r s u) n h xs =
-    run-phrase p n h _ ∙ less-on n h p t (seen (route_piece r) (seen (spec_piece s) (of GreaterThan u ∷ xs)))
-    ∙ run-route r n (less h p t) (seen (spec_piece s) (of GreaterThan u ∷ xs)) ∙ run_spec s n (route_in (less h p t) r) (of GreaterThan u ∷ xs) ∙ route-ends n h p t r s u xs
+run_box : (b : Mailbox) (n : ℕ) (h : Here) (xs : List Sym) → run n (place h) (seen (mailbox_piece b) xs) ≡ run n (done_box h b) xs
+run_box (bare s) n h xs = run_spec s n (bare_in h) xs
+run_box (angle p t s u) n h xs = run_phrase p n h _ ∙ less_on n h p t (seen (spec_piece s) (of GreaterThan u ∷ xs)) ∙ run_spec s n (angle_in (less h p t)) (of GreaterThan u ∷ xs) ∙ angle_ends n h p t s u xs
+run_box (routed p t r s u) n h xs =
+    run_phrase p n h _ ∙ less_on n h p t (seen (route_piece r) (seen (spec_piece s) (of GreaterThan u ∷ xs)))
+    ∙ run_route r n (less h p t) (seen (spec_piece s) (of GreaterThan u ∷ xs)) ∙ run_spec s n (route_in (less h p t) r) (of GreaterThan u ∷ xs) ∙ route_ends n h p t r s u xs
 
 -- ---- groups
 
@@ -206,42 +206,42 @@ mutual
   run_boxes : (l : Listed Mailbox) (n : ℕ) (r : Slot Address) (p : Phrase) (c : Lexeme) (xs : List Sym)
       → run n (place (in_group r p c empty)) (seen (boxes_piece l) xs) ≡ run n (done_boxes r p c l) xs
   run_boxes (idle s) n r p c xs = run_box_place s n r p c xs
-  run_boxes (full s b) n r p c xs = run_box_place s n r p c (seen (mailbox_piece b) xs) ∙ run-box b n (in_group r p c s) xs
+  run_boxes (full s b) n r p c xs = run_box_place s n r p c (seen (mailbox_piece b) xs) ∙ run_box b n (in_group r p c s) xs
 
 -- ---- lists
 
-run-address : (a : Address) (n : ℕ) (r : Slot Address) (xs : List Sym) → run n (place (in_list r)) (seen (address_piece a) xs) ≡ run n (done_address r a) xs
-run-address (box b) n r xs = run-box b n (in_list r) xs
-run-address (group p t l u) n r xs = run-phrase p n (in_list r) _ ∙ colon-on n r p t (seen (boxes_piece l) (of Semicolon u ∷ xs)) ∙ run_boxes l n r p t (of Semicolon u ∷ xs) ∙ boxes_end n r p t l u xs
+run_address : (a : Address) (n : ℕ) (r : Slot Address) (xs : List Sym) → run n (place (in_list r)) (seen (address_piece a) xs) ≡ run n (done_address r a) xs
+run_address (box b) n r xs = run_box b n (in_list r) xs
+run_address (group p t l u) n r xs = run_phrase p n (in_list r) _ ∙ colon_on n r p t (seen (boxes_piece l) (of Semicolon u ∷ xs)) ∙ run_boxes l n r p t (of Semicolon u ∷ xs) ∙ boxes_end n r p t l u xs
 
-list-comma : (n : ℕ) (l : Listed Address) (t : Lexeme) (xs : List Sym) → run n (done_list l) (of Comma t ∷ xs) ≡ run n (place (in_list (comma l t))) xs
-list-comma n (idle r) t xs = refl
-list-comma n (full r (box (bare (spec l v m)))) t xs = refl
-list-comma n (full r (box (angle q v e u))) t xs = refl
-list-comma n (full r (box (routed q v w e u))) t xs = refl
-list-comma n (full r (group p c l u)) t xs = refl
+list_comma : (n : ℕ) (l : Listed Address) (t : Lexeme) (xs : List Sym) → run n (done_list l) (of Comma t ∷ xs) ≡ run n (place (in_list (comma l t))) xs
+list_comma n (idle r) t xs = refl
+list_comma n (full r (box (bare (spec l v m)))) t xs = refl
+list_comma n (full r (box (angle q v e u))) t xs = refl
+list_comma n (full r (box (routed q v w e u))) t xs = refl
+list_comma n (full r (group p c l u)) t xs = refl
 
 mutual
-  run-place : (r : Slot Address) (n : ℕ) (xs : List Sym) → run n start (seen (slot_piece r) xs) ≡ run n (place (in_list r)) xs
-  run-place empty n xs = refl
-  run-place (comma l t) n xs = run-list l n (of Comma t ∷ xs) ∙ list-comma n l t xs
+  run_place : (r : Slot Address) (n : ℕ) (xs : List Sym) → run n start (seen (slot_piece r) xs) ≡ run n (place (in_list r)) xs
+  run_place empty n xs = refl
+  run_place (comma l t) n xs = run_list l n (of Comma t ∷ xs) ∙ list_comma n l t xs
 
-  run-list : (l : Listed Address) (n : ℕ) (xs : List Sym) → run n start (seen (list_piece l) xs) ≡ run n (done_list l) xs
-  run-list (idle r) n xs = run-place r n xs
-  run-list (full r a) n xs = run-place r n (seen (address_piece a) xs) ∙ run-address a n r xs
+  run_list : (l : Listed Address) (n : ℕ) (xs : List Sym) → run n start (seen (list_piece l) xs) ≡ run n (done_list l) xs
+  run_list (idle r) n xs = run_place r n xs
+  run_list (full r a) n xs = run_place r n (seen (address_piece a) xs) ∙ run_address a n r xs
 
-list-ends : (l : Listed Address) → finish (done_list l) ≡ some (as_forest l)
-list-ends (idle r) = refl
-list-ends (full r (box (bare (spec l v m)))) = refl
-list-ends (full r (box (angle q v e u))) = refl
-list-ends (full r (box (routed q v w e u))) = refl
-list-ends (full r (group p c l u)) = refl
+list_ends : (l : Listed Address) → finish (done_list l) ≡ some (as_forest l)
+list_ends (idle r) = refl
+list_ends (full r (box (bare (spec l v m)))) = refl
+list_ends (full r (box (angle q v e u))) = refl
+list_ends (full r (box (routed q v w e u))) = refl
+list_ends (full r (group p c l u)) = refl
 
 -- what the rules derive is read, as that very derivation
-pub complete-read : (n : ℕ) (k : Forest Class Nonterminal) (xs : List Sym) → DerivedList k xs → read n xs ≡ accepted k
-complete-read n k xs d =
-    let (l, e, y) = tree-derived d in
-    let a : read n (yield (as_forest l)) ≡ accepted (as_forest l) = ap (verdict_by finish) (run-list l n []) ∙ ap at_end (list-ends l) in
+pub complete_read : (n : ℕ) (k : Forest Class Nonterminal) (xs : List Sym) → DerivedList k xs → read n xs ≡ accepted k
+complete_read n k xs d =
+    let (l, e, y) = tree_derived d in
+    let a : read n (yield (as_forest l)) ≡ accepted (as_forest l) = ap (verdict_by finish) (run_list l n []) ∙ ap at_end (list_ends l) in
     rw e (rw y at a)
 
 -- ---- every state can be brought to an end
@@ -306,4 +306,4 @@ ending n (closed r a) = ending_closed n r a
 -- ---- the machine of RFC 822
 
 pub machine : Machine DerivedList (λ k. 0) step finish start
-machine = any.machine same_class same_class_lem arrows state_then DerivedList finish start kept (λ xs. refl) gives complete-read ending
+machine = any.machine same_class same_class_lem arrows state_then DerivedList finish start kept (λ xs. refl) gives complete_read ending

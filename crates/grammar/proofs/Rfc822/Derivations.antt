@@ -8,7 +8,7 @@ use Rattle.grammar.specs.Believed.Grammar.{Item, nonterminal, Forest, nil, yield
 use Rattle.grammar.specs.Believed.Rfc733.{same_class, plain}
 use Rattle.grammar.specs.Believed.Rfc822.{rules_of, Nonterminal, list, slot, address, boxes, box_slot, mailbox, route_addr, addr_spec, route, hops, empty_slots, local_part, domain, sub_domain, phrase, word, rfc822}
 use Rattle.grammar.specs.Executable.Trees822.{put, Class, Sym, Word, atom_word, quoted_word, Phrase, one, more, Sub, Domain, Local, Spec, Empties, Hops, Route, RouteAddr, Mailbox, Slot, Listed, Address, Bit, bit, word_piece, phrase_piece, sub_piece, domain_piece, local_piece, spec_piece, empties_piece, hops_piece, route_piece, route_addr_piece, mailbox_piece, box_slot_piece, boxes_piece, address_piece, slot_piece, list_piece, atom_sub, literal_sub, one_sub, more_sub, one_word, more_word, spec, no_empty, one_empty, first_hop, next_hop, direct, trailing, no_route, with_route, bare, angle, routed, empty, comma, idle, full, box, group, as_forest}
-use Rattle.grammar.proofs.Any.Pieces.{From, by_rule, put-fits, AllCovered, tree_of}
+use Rattle.grammar.proofs.Any.Pieces.{From, by_rule, put_fits, AllCovered, tree_of}
 
 -- ---- every tree is a derivation
 
@@ -20,51 +20,51 @@ by : (A : Nonterminal) (i : ℕ) {p : Forest Class Nonterminal} → i < length (
 by A i h d o = by_rule rfc822 A i (plain []) h d o
 
 with : {A : Nonterminal} {p : Bit} {items : List (Item Class Nonterminal)} {k : Forest Class Nonterminal} → Is A p → Fits rfc822 items k → Fits rfc822 (nonterminal A ∷ items) (put p k)
-with f d = put-fits rfc822 f d
+with f d = put_fits rfc822 f d
 
-pub word-is : (w : Word) → Is word (word_piece w)
-word-is (atom_word t) = by word 0 (omega arith) (take refl done) tt
-word-is (quoted_word t) = by word 1 (omega arith) (take refl done) tt
+pub word_is : (w : Word) → Is word (word_piece w)
+word_is (atom_word t) = by word 0 (omega arith) (take refl done) tt
+word_is (quoted_word t) = by word 1 (omega arith) (take refl done) tt
 
-pub phrase-is : (p : Phrase) → Is phrase (phrase_piece p)
-phrase-is (one w) = by phrase 0 (omega arith) (with (word-is w) done) tt
-phrase-is (more p w) = by phrase 1 (omega arith) (with (phrase-is p) (with (word-is w) done)) tt
+pub phrase_is : (p : Phrase) → Is phrase (phrase_piece p)
+phrase_is (one w) = by phrase 0 (omega arith) (with (word_is w) done) tt
+phrase_is (more p w) = by phrase 1 (omega arith) (with (phrase_is p) (with (word_is w) done)) tt
 
 pub sub_is : (s : Sub) → Is sub_domain (sub_piece s)
 sub_is (atom_sub t) = by sub_domain 0 (omega arith) (take refl done) tt
 sub_is (literal_sub t) = by sub_domain 1 (omega arith) (take refl done) tt
 
-pub domain-is : (m : Domain) → Is domain (domain_piece m)
-domain-is (one_sub s) = by domain 0 (omega arith) (with (sub_is s) done) tt
-domain-is (more_sub m t s) = by domain 1 (omega arith) (with (domain-is m) (take refl (with (sub_is s) done))) tt
+pub domain_is : (m : Domain) → Is domain (domain_piece m)
+domain_is (one_sub s) = by domain 0 (omega arith) (with (sub_is s) done) tt
+domain_is (more_sub m t s) = by domain 1 (omega arith) (with (domain_is m) (take refl (with (sub_is s) done))) tt
 
-pub local-is : (l : Local) → Is local_part (local_piece l)
-local-is (one_word w) = by local_part 0 (omega arith) (with (word-is w) done) tt
-local-is (more_word l t w) = by local_part 1 (omega arith) (with (local-is l) (take refl (with (word-is w) done))) tt
+pub local_is : (l : Local) → Is local_part (local_piece l)
+local_is (one_word w) = by local_part 0 (omega arith) (with (word_is w) done) tt
+local_is (more_word l t w) = by local_part 1 (omega arith) (with (local_is l) (take refl (with (word_is w) done))) tt
 
 pub spec_is : (s : Spec) → Is addr_spec (spec_piece s)
-spec_is (spec l t m) = by addr_spec 0 (omega arith) (with (local-is l) (take refl (with (domain-is m) done))) tt
+spec_is (spec l t m) = by addr_spec 0 (omega arith) (with (local_is l) (take refl (with (domain_is m) done))) tt
 
 pub empties_is : (g : Empties) → Is empty_slots (empties_piece g)
 empties_is no_empty = by empty_slots 0 (omega arith) done tt
 empties_is (one_empty g t) = by empty_slots 1 (omega arith) (with (empties_is g) (take refl done)) tt
 
 pub hops_is : (h : Hops) → Is hops (hops_piece h)
-hops_is (first_hop g t m) = by hops 0 (omega arith) (with (empties_is g) (take refl (with (domain-is m) done))) tt
-hops_is (next_hop h u g t m) = by hops 1 (omega arith) (with (hops_is h) (take refl (with (empties_is g) (take refl (with (domain-is m) done))))) tt
+hops_is (first_hop g t m) = by hops 0 (omega arith) (with (empties_is g) (take refl (with (domain_is m) done))) tt
+hops_is (next_hop h u g t m) = by hops 1 (omega arith) (with (hops_is h) (take refl (with (empties_is g) (take refl (with (domain_is m) done))))) tt
 
-pub route-is : (r : Route) → Is route (route_piece r)
-route-is (direct h t) = by route 0 (omega arith) (with (hops_is h) (take refl done)) tt
-route-is (trailing h u g t) = by route 1 (omega arith) (with (hops_is h) (take refl (with (empties_is g) (take refl done)))) tt
+pub route_is : (r : Route) → Is route (route_piece r)
+route_is (direct h t) = by route 0 (omega arith) (with (hops_is h) (take refl done)) tt
+route_is (trailing h u g t) = by route 1 (omega arith) (with (hops_is h) (take refl (with (empties_is g) (take refl done)))) tt
 
 pub route_addr_is : (r : RouteAddr) → Is route_addr (route_addr_piece r)
 route_addr_is (no_route t s u) = by route_addr 0 (omega arith) (take refl (with (spec_is s) (take refl done))) tt
-route_addr_is (with_route t r s u) = by route_addr 1 (omega arith) (take refl (with (route-is r) (with (spec_is s) (take refl done)))) tt
+route_addr_is (with_route t r s u) = by route_addr 1 (omega arith) (take refl (with (route_is r) (with (spec_is s) (take refl done)))) tt
 
-pub mailbox-is : (b : Mailbox) → Is mailbox (mailbox_piece b)
-mailbox-is (bare s) = by mailbox 0 (omega arith) (with (spec_is s) done) tt
-mailbox-is (angle p t s u) = by mailbox 1 (omega arith) (with (phrase-is p) (with (route_addr_is (no_route t s u)) done)) tt
-mailbox-is (routed p t r s u) = by mailbox 1 (omega arith) (with (phrase-is p) (with (route_addr_is (with_route t r s u)) done)) tt
+pub mailbox_is : (b : Mailbox) → Is mailbox (mailbox_piece b)
+mailbox_is (bare s) = by mailbox 0 (omega arith) (with (spec_is s) done) tt
+mailbox_is (angle p t s u) = by mailbox 1 (omega arith) (with (phrase_is p) (with (route_addr_is (no_route t s u)) done)) tt
+mailbox_is (routed p t r s u) = by mailbox 1 (omega arith) (with (phrase_is p) (with (route_addr_is (with_route t r s u)) done)) tt
 
 mutual
   box_slot_is : (r : Slot Mailbox) → Is box_slot (box_slot_piece r)
@@ -73,20 +73,20 @@ mutual
 
   boxes_is : (l : Listed Mailbox) → Is boxes (boxes_piece l)
   boxes_is (idle r) = by boxes 1 (omega arith) (with (box_slot_is r) done) tt
-  boxes_is (full r b) = by boxes 0 (omega arith) (with (box_slot_is r) (with (mailbox-is b) done)) tt
+  boxes_is (full r b) = by boxes 0 (omega arith) (with (box_slot_is r) (with (mailbox_is b) done)) tt
 
 pub address_is : (a : Address) → Is address (address_piece a)
-address_is (box b) = by address 0 (omega arith) (with (mailbox-is b) done) tt
-address_is (group p t l u) = by address 1 (omega arith) (with (phrase-is p) (take refl (with (boxes_is l) (take refl done)))) tt
+address_is (box b) = by address 0 (omega arith) (with (mailbox_is b) done) tt
+address_is (group p t l u) = by address 1 (omega arith) (with (phrase_is p) (take refl (with (boxes_is l) (take refl done)))) tt
 
 mutual
   slot_is : (r : Slot Address) → Is slot (slot_piece r)
   slot_is empty = by slot 0 (omega arith) done tt
-  slot_is (comma l t) = by slot 1 (omega arith) (with (list-is l) (take refl done)) tt
+  slot_is (comma l t) = by slot 1 (omega arith) (with (list_is l) (take refl done)) tt
 
-  list-is : (l : Listed Address) → Is list (list_piece l)
-  list-is (idle r) = by list 1 (omega arith) (with (slot_is r) done) tt
-  list-is (full r a) = by list 0 (omega arith) (with (slot_is r) (with (address_is a) done)) tt
+  list_is : (l : Listed Address) → Is list (list_piece l)
+  list_is (idle r) = by list 1 (omega arith) (with (slot_is r) done) tt
+  list_is (full r a) = by list 0 (omega arith) (with (slot_is r) (with (address_is a) done)) tt
 
 -- ---- every derivation is a tree
 
@@ -154,7 +154,7 @@ abbrev pub DerivedList : Forest Class Nonterminal → List Sym → Type 0
 DerivedList k xs = Derived rfc822 list k xs
 
 pub forest_derived : (l : Listed Address) {xs : List Sym} → yield (as_forest l) ≡ xs → DerivedList (as_forest l) xs
-forest_derived l e = record { fits = with (list-is l) done; yields = e }
+forest_derived l e = record { fits = with (list_is l) done; yields = e }
 
-pub tree-derived : {k : Forest Class Nonterminal} {xs : List Sym} → DerivedList k xs → (l : Listed Address) × (k ≡ as_forest l) × (yield (as_forest l) ≡ xs)
-tree-derived d = tree_of rfc822 Tree piece_of covered d
+pub tree_derived : {k : Forest Class Nonterminal} {xs : List Sym} → DerivedList k xs → (l : Listed Address) × (k ≡ as_forest l) × (yield (as_forest l) ≡ xs)
+tree_derived d = tree_of rfc822 Tree piece_of covered d

@@ -7,7 +7,7 @@ use Rattle.grammar.specs.Believed.Grammar.{symbol, nonterminal, Rule, Grammar}
 use Rattle.grammar.specs.Believed.Rfc733.{same_class, plain, flat, level, always}
 use Rattle.grammar.specs.Believed.Rfc733 as kinds
 
--- the nonterminals of the rules; `boxes` is a list of mailboxes, `addrSpec` local-part and domain, `hops` the domains of a route
+-- the nonterminals of the rules; `boxes` is a list of mailboxes, `addr_spec` local-part and domain, `hops` the domains of a route
 pub data Nonterminal : Type 0 where
   list slot address boxes box_slot mailbox route_addr addr_spec route hops empty_slots local_part domain sub_domain phrase word : Nonterminal
 

@@ -7,23 +7,23 @@ use Rattle.listing.proofs.put_address_body.Goals as goal
 pub put_addresses-requires : goal.put_addresses-requires
 put_addresses-requires c =
     let a = c.args in
-    let p = rw c.in-Accepted.is at (printed a.edition a.message.now a.start a.end c.address_table-table.result c.address_table-table.ensures c.read_addresses.ensures.outcome.answer-is c.read_addresses.ensures.outcome.bytes-are) in
+    let p = rw c.in-Accepted.is at (printed a.edition a.message.now a.start a.end c.address_table-table.result c.address_table-table.ensures c.read_addresses.ensures.outcome.answer_is c.read_addresses.ensures.outcome.bytes_are) in
     (p.0, omega arith)
 
 pub returns-in-Accepted : goal.returns-in-Accepted
 returns-in-Accepted c =
     let a = c.args in
-    let p = rw c.in-Accepted.is at (printed a.edition a.message.now a.start a.end c.address_table-table.result c.address_table-table.ensures c.read_addresses.ensures.outcome.answer-is c.read_addresses.ensures.outcome.bytes-are) in
+    let p = rw c.in-Accepted.is at (printed a.edition a.message.now a.start a.end c.address_table-table.result c.address_table-table.ensures c.read_addresses.ensures.outcome.answer_is c.read_addresses.ensures.outcome.bytes_are) in
     (wrote_as p.1 c.put_addresses.ensures.0, c.put_addresses.ensures.1)
 
 pub returns-in-Refused : goal.returns-in-Refused
 returns-in-Refused c =
     let a = c.args in
-    let p = rw c.in-Refused.is at (printed a.edition a.message.now a.start a.end c.address_table-table.result c.address_table-table.ensures c.read_addresses.ensures.outcome.answer-is c.read_addresses.ensures.outcome.bytes-are) in
+    let p = rw c.in-Refused.is at (printed a.edition a.message.now a.start a.end c.address_table-table.result c.address_table-table.ensures c.read_addresses.ensures.outcome.answer_is c.read_addresses.ensures.outcome.bytes_are) in
     (wrote_as p c.put_refused.ensures.0, omega (arith, c.put_refused.ensures.1))
 
 pub returns-in-NoRoom : goal.returns-in-NoRoom
 returns-in-NoRoom c =
     let a = c.args in
-    let p = rw c.in-NoRoom.is at (printed a.edition a.message.now a.start a.end c.address_table-table.result c.address_table-table.ensures c.read_addresses.ensures.outcome.answer-is c.read_addresses.ensures.outcome.bytes-are) in
+    let p = rw c.in-NoRoom.is at (printed a.edition a.message.now a.start a.end c.address_table-table.result c.address_table-table.ensures c.read_addresses.ensures.outcome.answer_is c.read_addresses.ensures.outcome.bytes_are) in
     (wrote_as p c.put_refused-in-NoRoom.ensures.0, omega (arith, c.put_refused-in-NoRoom.ensures.1))

@@ -7,7 +7,7 @@ use lib.Signed.{lt_z}
 use mir.Syntax.{w64}
 use mir.Facts.{to_z-of_z, to_z_pos}
 use Rattle.octets.specs.Believed.Octets.{minus_byte}
-use Rattle.octets.proofs.Writes.{wrote-both}
+use Rattle.octets.proofs.Writes.{wrote_both}
 use Rattle.listing.specs.Believed.Lines.{signed}
 use Rattle.listing.proofs.SignLaws.{below, at_least}
 use Rattle.listing.proofs.put_signed.Goals as goal
@@ -35,7 +35,7 @@ unfolding signed
 returns-then-x-lt0 c =
     let f = c.ranges.x in
     let b = below c.args.x f (ap (λ z. lt_z z (pos 0)) (sym (to_z-of_z f)) ∙ c.if-x-lt0.true) in
-    (rw b.shape (wrote-both {f = λ rest. minus_byte ∷ rest} c.put-m.ensures.0 (rw (to_z-of_z f, b.is, to_z_pos w64 b.small) at c.put_decimal.ensures.0)), omega (arith, c.put-m.ensures.1, c.put_decimal.ensures.1))
+    (rw b.shape (wrote_both {f = λ rest. minus_byte ∷ rest} c.put-m.ensures.0 (rw (to_z-of_z f, b.is, to_z_pos w64 b.small) at c.put_decimal.ensures.0)), omega (arith, c.put-m.ensures.1, c.put_decimal.ensures.1))
 
 pub overflow_cast-x-2 : goal.overflow_cast-x-2
 overflow_cast-x-2 c =

@@ -38,5 +38,5 @@ told r = telling (number_of r) (position_of r) (count_of r)
 -- an answer `r`, and the lent bytes afterwards, are as a definition gives them: the same is told, every byte is the same, and the enum's case is the same
 pub record Answered (answer : Answer) (bytes : List ℕ) (r : Answer) (after : List ℕ) : Type 0 where
   pub told_is : told r ≡ told answer
-  pub bytes-are : after ≡ bytes
-  pub answer-is : r ≡ answer
+  pub bytes_are : after ≡ bytes
+  pub answer_is : r ≡ answer

@@ -1,12 +1,12 @@
 use mathlib.Core.Path.{refl, sym, ap, ◌∙◌}
 use native.Mathlib.Omega.{arith}
-use Rattle.octets.proofs.Writes.{left-all, left_after, left-none}
+use Rattle.octets.proofs.Writes.{left_all, left_after, left_none}
 use Rattle.scanner.proofs.Meanings.{datum_is}
 use Rattle.plain.specs.Believed.PlainText.{data_text}
 use Rattle.plain.proofs.put_data.Goals as goal
 
 pub loop-b-init : goal.loop-b-init
-loop-b-init c = (omega arith, omega arith, omega arith, refl, left-all _ _ _)
+loop-b-init c = (omega arith, omega arith, omega arith, refl, left_all _ _ _)
 
 pub put_datum-m-requires : goal.put_datum-m-requires
 put_datum-m-requires c = let x = (let a = c.args in let d = datum_is a.classes.now a.text.now c.loop-b.p in rw (sym c.next_datum.ensures, c.in-Byte.is) at d) in omega (arith, x.passed, x.within)
@@ -40,4 +40,4 @@ returns-in-Over c =
     let a = c.args in
     let l = c.loop-b in
     let e = rw (sym c.next_datum.ensures, c.in-Over.is) at (datum_is a.classes.now a.text.now l.p) in
-    (left-none l.invariant.4 (λ rest. ap (λ t. data_text t rest) e), omega arith)
+    (left_none l.invariant.4 (λ rest. ap (λ t. data_text t rest) e), omega arith)

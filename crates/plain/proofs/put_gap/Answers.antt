@@ -1,6 +1,6 @@
 -- `plain::put_gap` meets its contract. Assumes nothing.
 use native.Mathlib.Omega.{arith}
-use Rattle.octets.proofs.Writes.{wrote_nothing, wrote-both}
+use Rattle.octets.proofs.Writes.{wrote_nothing, wrote_both}
 use Rattle.plain.proofs.put_gap.Goals as goal
 
 pub returns-in-Nothing : goal.returns-in-Nothing
@@ -12,4 +12,4 @@ returns-in-Space c =
 
 pub returns-in-CommaSpace : goal.returns-in-CommaSpace
 returns-in-CommaSpace c =
-    (rw c.in-CommaSpace.is (wrote-both c.put-m.ensures.0 c.put-in-CommaSpace.ensures.0), omega (arith, c.put-m.ensures.1, c.put-in-CommaSpace.ensures.1))
+    (rw c.in-CommaSpace.is (wrote_both c.put-m.ensures.0 c.put-in-CommaSpace.ensures.0), omega (arith, c.put-m.ensures.1, c.put-in-CommaSpace.ensures.1))

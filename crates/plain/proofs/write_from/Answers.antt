@@ -4,7 +4,7 @@ use lib.ListN.{get_or}
 use Rattle.scanner.specs.Ties.Steps.{outside_at}
 use Rattle.scanner.proofs.CursorLaws.{leads_on}
 use Rattle.addresses.proofs.CursorSteps.{found_in}
-use Rattle.plain.proofs.WalkSteps.{behind-less, coming_first, comes, coming_next, coming_none, none_ahead, colon_in}
+use Rattle.plain.proofs.WalkSteps.{behind_less, coming_first, comes, coming_next, coming_none, none_ahead, colon_in}
 use borrow.Enum.Refused.{opened}
 use Rattle.plain.proofs.write_from.Goals as goal
 
@@ -28,7 +28,7 @@ loop-ahead-smaller c =
     let l = c.loop-ahead in
     let a = c.args in
     let y = leads_on l.cursor l.invariant.2 (outside_at a.classes.now a.text.now (get_or l.cursor 2 0)) c.step.ensures in
-    behind-less (comes l.invariant.0 ((found_in _ (sym c.loop-ahead.invariant.1 ∙ c.in-Symbol.is)))) ((found_in _ (sym c.loop-ahead.invariant.1 ∙ c.in-Symbol.is))) y.ahead
+    behind_less (comes l.invariant.0 ((found_in _ (sym c.loop-ahead.invariant.1 ∙ c.in-Symbol.is)))) ((found_in _ (sym c.loop-ahead.invariant.1 ∙ c.in-Symbol.is))) y.ahead
 
 pub loop-ahead-preserved : goal.loop-ahead-preserved
 loop-ahead-preserved c =

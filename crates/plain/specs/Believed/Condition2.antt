@@ -18,7 +18,7 @@ pub record Condition2 (message : List ℕ) (start end : ℕ) (lent : List ℕ) (
   -- and that text, if it is within the message limit, reads back the same and writes back the same bytes
   pub round_trip : (k : Derivation) → AcceptedBody message start end k → length (plain_text k) ≤ message_limit → RoundTrip k
   -- a body that scans without fault and is no list is refused with 8, 9 or 10, as condition 3 has it, and the lent text is unchanged
-  pub no-list : body_scanned message start end ≡ Accepted 0 → ((k : Derivation) → AcceptedBody message start end k → ⊥)
+  pub no_list : body_scanned message start end ≡ Accepted 0 → ((k : Derivation) → AcceptedBody message start end k → ⊥)
       → RightlyRefused edition733 (body_symbols message start end) end r × (after ≡ lent)
   -- any other is refused with the number and position of the check or of the fault
   pub unread : (number position : ℕ) → body_scanned message start end ≡ Refused number position → (told r ≡ telling number position 0) × (after ≡ lent)

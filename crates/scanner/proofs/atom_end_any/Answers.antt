@@ -1,6 +1,6 @@
 use mathlib.Core.Path.{refl, ◌∙◌}
 use native.Mathlib.Omega.{arith}
-use Rattle.scanner.proofs.MoveLaws.{atom-on, atom-ends, atom-last}
+use Rattle.scanner.proofs.MoveLaws.{atom_on, atom_ends, atom_last}
 use borrow.Enum.Refused.{opened}
 use Rattle.scanner.proofs.atom_end_any.Goals as goal
 
@@ -12,7 +12,7 @@ returns-in_default c =
     let a = c.args in
     let l = c.loop-kind in
     record {
-      same = l.invariant.2 ∙ atom-last a.classes.now a.text.now a.start l.p _ (rw c.in_default.is at c.character.ensures);
+      same = l.invariant.2 ∙ atom_last a.classes.now a.text.now a.start l.p _ (rw c.in_default.is at c.character.ensures);
       from = l.invariant.1;
       within = l.invariant.0;
     }
@@ -26,14 +26,14 @@ loop-kind-preserved c =
     let l = c.loop-kind in (
       x.within,
       omega (arith, x.from, x.behind),
-      l.invariant.2 ∙ atom-on c.args.start (omega arith) (rw c.in-Plain.is at x),
+      l.invariant.2 ∙ atom_on c.args.start (omega arith) (rw c.in-Plain.is at x),
     )
 
 pub returns-in_default-kind : goal.returns-in_default-kind
 returns-in_default-kind c =
     let l = c.loop-kind in
     record {
-      same = l.invariant.2 ∙ atom-ends c.args.start _ ((rw c.in-Byte.is at c.character.ensures)) (opened c.in_default-kind.in_default-kind-own.keys2);
+      same = l.invariant.2 ∙ atom_ends c.args.start _ ((rw c.in-Byte.is at c.character.ensures)) (opened c.in_default-kind.in_default-kind-own.keys2);
       from = l.invariant.1;
       within = l.invariant.0;
     }

@@ -1,7 +1,7 @@
 use mathlib.Core.Path.{refl, sym, ◌∙◌}
 use native.Mathlib.Omega.{arith}
-use Rattle.scanner.proofs.Unfolding.{found, found_end, found_fault, faultless-on}
-use Rattle.scanner.proofs.BodyChecks.{no-fault}
+use Rattle.scanner.proofs.Unfolding.{found, found_end, found_fault, faultless_on}
+use Rattle.scanner.proofs.BodyChecks.{no_fault}
 use Rattle.scanner.proofs.CategoryLaws.{category_over, category_before, category_in, category_behind}
 use Rattle.scanner.proofs.category_by.Goals as goal
 
@@ -29,7 +29,7 @@ loop-symbol-preserved c =
     let i = c.loop-symbol.invariant in
     let x = (let a = c.args in
     found a.classes.now a.text.now c.loop-symbol.p (rw c.in-Found.is at c.next_by.ensures)) in
-    (omega arith, faultless-on _ _ i.1 x, i.2 ∙ category_behind x _ (omega arith))
+    (omega arith, faultless_on _ _ i.1 x, i.2 ∙ category_behind x _ (omega arith))
 
 pub returns-in-Ended : goal.returns-in-Ended
 returns-in-Ended c =
@@ -41,4 +41,4 @@ pub returns-in-Fault : goal.returns-in-Fault
 returns-in-Fault c =
     let a = c.args in
     let l = c.loop-symbol in
-    absurd (no-fault _ l.invariant.1.none (found_fault a.classes.now a.text.now l.p (rw c.in-Fault.is at c.next_by.ensures)))
+    absurd (no_fault _ l.invariant.1.none (found_fault a.classes.now a.text.now l.p (rw c.in-Fault.is at c.next_by.ensures)))

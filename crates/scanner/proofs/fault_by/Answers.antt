@@ -1,7 +1,7 @@
 use mathlib.Core.Path.{refl, sym, ap, ◌∙◌}
 use native.Mathlib.Omega.{arith}
 use Rattle.scanner.specs.Believed.Answers.{unless_fault, fault_of}
-use Rattle.scanner.proofs.Unfolding.{found, found_end, found_fault, fault-on}
+use Rattle.scanner.proofs.Unfolding.{found, found_end, found_fault, fault_on}
 use Rattle.scanner.proofs.fault_by.Goals as goal
 
 pub loop-symbol-init : goal.loop-symbol-init
@@ -12,7 +12,7 @@ loop-symbol-smaller c = let x = (let a = c.args in
     found a.classes.now a.text.now c.past_harmless-p.result (rw c.in-Found.is at c.next_by.ensures)) in omega (arith, c.past_harmless-p.ensures.from, x.from, x.starts, x.within)
 
 pub loop-symbol-preserved : goal.loop-symbol-preserved
-loop-symbol-preserved c = c.loop-symbol.invariant ∙ c.past_harmless-p.ensures.same ∙ fault-on _ _ ((let a = c.args in
+loop-symbol-preserved c = c.loop-symbol.invariant ∙ c.past_harmless-p.ensures.same ∙ fault_on _ _ ((let a = c.args in
     found a.classes.now a.text.now c.past_harmless-p.result (rw c.in-Found.is at c.next_by.ensures)))
 
 pub returns-in-Ended : goal.returns-in-Ended

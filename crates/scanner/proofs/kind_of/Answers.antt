@@ -1,8 +1,8 @@
--- `scanner::kind_of` meets its contract: each arm of the match is one row of `kindOfClass`. Assumes nothing.
+-- `scanner::kind_of` meets its contract: each arm of the match is one row of `kind_of_class`. Assumes nothing.
 use borrow.Author.Tests.{ne_eqb}
 use mathlib.Core.Path.{sym}
 use Prim.Native.Nat.{ℕ}
-use Rattle.scanner.proofs.KindLaws.{return_kind, class-kind}
+use Rattle.scanner.proofs.KindLaws.{return_kind, class_kind}
 use Rattle.scanner.proofs.kind_of.Goals as goal
 
 pub returns-then-b-eq13 : goal.returns-then-b-eq13
@@ -10,73 +10,73 @@ returns-then-b-eq13 c = sym (return_kind c.args.classes.now c.args.b c.if-b-eq13
 
 pub returns-in-5 : goal.returns-in-5
 returns-in-5 c =
-    class-kind c.args.classes.now c.args.b c.if-b-eq13.false c.class_in-class.ensures (rw c.in-5.is)
+    class_kind c.args.classes.now c.args.b c.if-b-eq13.false c.class_in-class.ensures (rw c.in-5.is)
 
 pub returns-in-0 : goal.returns-in-0
 returns-in-0 c =
-    class-kind c.args.classes.now c.args.b c.if-b-eq13.false c.class_in-class.ensures (rw c.in-0.is)
+    class_kind c.args.classes.now c.args.b c.if-b-eq13.false c.class_in-class.ensures (rw c.in-0.is)
 
 pub returns-in-1 : goal.returns-in-1
 returns-in-1 c =
-    class-kind c.args.classes.now c.args.b c.if-b-eq13.false c.class_in-class.ensures (rw c.in-1.is)
+    class_kind c.args.classes.now c.args.b c.if-b-eq13.false c.class_in-class.ensures (rw c.in-1.is)
 
 pub returns-in-6 : goal.returns-in-6
 returns-in-6 c =
-    class-kind c.args.classes.now c.args.b c.if-b-eq13.false c.class_in-class.ensures (rw c.in-6.is)
+    class_kind c.args.classes.now c.args.b c.if-b-eq13.false c.class_in-class.ensures (rw c.in-6.is)
 
 pub returns-in-8 : goal.returns-in-8
 returns-in-8 c =
-    class-kind c.args.classes.now c.args.b c.if-b-eq13.false c.class_in-class.ensures (rw c.in-8.is)
+    class_kind c.args.classes.now c.args.b c.if-b-eq13.false c.class_in-class.ensures (rw c.in-8.is)
 
 pub returns-in-9 : goal.returns-in-9
 returns-in-9 c =
-    class-kind c.args.classes.now c.args.b c.if-b-eq13.false c.class_in-class.ensures (rw c.in-9.is)
+    class_kind c.args.classes.now c.args.b c.if-b-eq13.false c.class_in-class.ensures (rw c.in-9.is)
 
 pub returns-in-10 : goal.returns-in-10
 returns-in-10 c =
-    class-kind c.args.classes.now c.args.b c.if-b-eq13.false c.class_in-class.ensures (rw c.in-10.is)
+    class_kind c.args.classes.now c.args.b c.if-b-eq13.false c.class_in-class.ensures (rw c.in-10.is)
 
 pub returns-in-11 : goal.returns-in-11
 returns-in-11 c =
-    class-kind c.args.classes.now c.args.b c.if-b-eq13.false c.class_in-class.ensures (rw c.in-11.is)
+    class_kind c.args.classes.now c.args.b c.if-b-eq13.false c.class_in-class.ensures (rw c.in-11.is)
 
 pub returns-in-12 : goal.returns-in-12
 returns-in-12 c =
-    class-kind c.args.classes.now c.args.b c.if-b-eq13.false c.class_in-class.ensures (rw c.in-12.is)
+    class_kind c.args.classes.now c.args.b c.if-b-eq13.false c.class_in-class.ensures (rw c.in-12.is)
 
 pub returns-in-13 : goal.returns-in-13
 returns-in-13 c =
-    class-kind c.args.classes.now c.args.b c.if-b-eq13.false c.class_in-class.ensures (rw c.in-13.is)
+    class_kind c.args.classes.now c.args.b c.if-b-eq13.false c.class_in-class.ensures (rw c.in-13.is)
 
 pub returns-in-15 : goal.returns-in-15
 returns-in-15 c =
-    class-kind c.args.classes.now c.args.b c.if-b-eq13.false c.class_in-class.ensures (rw c.in-15.is)
+    class_kind c.args.classes.now c.args.b c.if-b-eq13.false c.class_in-class.ensures (rw c.in-15.is)
 
 pub returns-in-2 : goal.returns-in-2
 returns-in-2 c =
-    class-kind c.args.classes.now c.args.b c.if-b-eq13.false c.class_in-class.ensures (rw c.in-2.is)
+    class_kind c.args.classes.now c.args.b c.if-b-eq13.false c.class_in-class.ensures (rw c.in-2.is)
 
 pub returns-in-4 : goal.returns-in-4
 returns-in-4 c =
-    class-kind c.args.classes.now c.args.b c.if-b-eq13.false c.class_in-class.ensures (rw c.in-4.is)
+    class_kind c.args.classes.now c.args.b c.if-b-eq13.false c.class_in-class.ensures (rw c.in-4.is)
 
 pub returns-in-14 : goal.returns-in-14
 returns-in-14 c =
-    class-kind c.args.classes.now c.args.b c.if-b-eq13.false c.class_in-class.ensures (rw c.in-14.is)
+    class_kind c.args.classes.now c.args.b c.if-b-eq13.false c.class_in-class.ensures (rw c.in-14.is)
 
 pub returns-in-3 : goal.returns-in-3
 returns-in-3 c =
-    class-kind c.args.classes.now c.args.b c.if-b-eq13.false c.class_in-class.ensures (rw c.in-3.is)
+    class_kind c.args.classes.now c.args.b c.if-b-eq13.false c.class_in-class.ensures (rw c.in-3.is)
 
 pub returns-in-7 : goal.returns-in-7
 returns-in-7 c =
-    class-kind c.args.classes.now c.args.b c.if-b-eq13.false c.class_in-class.ensures (rw c.in-7.is)
+    class_kind c.args.classes.now c.args.b c.if-b-eq13.false c.class_in-class.ensures (rw c.in-7.is)
 
 pub returns-in_default : goal.returns-in_default
 returns-in_default c =
     let x : ℕ = c.class_in-class.result in
     let r = c.in_default.in_default-own.rest in
-    class-kind c.args.classes.now c.args.b c.if-b-eq13.false c.class_in-class.ensures
+    class_kind c.args.classes.now c.args.b c.if-b-eq13.false c.class_in-class.ensures
     (simp (
       ne_eqb x 5 r.0.0.0.0.0.0.0.0.0.0.0.0.0.0.0.1,
       ne_eqb x 0 r.0.0.0.0.0.0.0.0.0.0.0.0.0.0.1,

@@ -13,7 +13,7 @@ use Rattle.scanner.specs.Ties.Steps.{outside_at, FirstCharacter, CommentEnds}
 use Rattle.scanner.specs.declared.Next.{Next}
 use Rattle.scanner.specs.declared.ByteKind.{ByteKind}
 use Rattle.scanner.specs.declared.ByteKind.TheVariants.{White}
-use Rattle.scanner.proofs.MoveLaws.{tag, at-end, moves, atom-begins, mark-next, stray-next, control-next}
+use Rattle.scanner.proofs.MoveLaws.{tag, at_end_lem, moves, atom_begins, mark_next, stray_next, control_next}
 use Rattle.scanner.proofs.next_by.Goals as goal
 
 -- a symbol that starts there stands apart as the position told
@@ -37,7 +37,7 @@ unfolding parted
 returns-in_default c =
     let a = c.args in
     let l = c.loop-kind in
-    sym (ap (from-asked a.at) (l.invariant.0 ∙ at-end a.classes.now a.text.now l.p _ (rw c.in_default.is at c.character.ensures)))
+    sym (ap (from-asked a.at) (l.invariant.0 ∙ at_end_lem a.classes.now a.text.now l.p _ (rw c.in_default.is at c.character.ensures)))
 
 pub loop-kind-smaller-in-White : goal.loop-kind-smaller-in-White
 loop-kind-smaller-in-White c = let x = (rw c.in-Byte.is at c.character.ensures) in omega (arith, x.from, x.behind, x.within)
@@ -89,25 +89,25 @@ returns-in-Plain c =
     let a = c.args in
     let l = c.loop-kind in
     let x = rw c.in-Plain.is at ((rw c.in-Byte.is at c.character.ensures)) in
-    c.atom_from.ensures a.at (starts a.at l.invariant.2 x (λ k. omega (arith, ap tag k))) ∙ sym (ap (from-asked a.at) (l.invariant.0 ∙ atom-begins x))
+    c.atom_from.ensures a.at (starts a.at l.invariant.2 x (λ k. omega (arith, ap tag k))) ∙ sym (ap (from-asked a.at) (l.invariant.0 ∙ atom_begins x))
 
 pub returns-in-Mark : goal.returns-in-Mark
 unfolding parted
 returns-in-Mark c =
     let l = c.loop-kind in
     let x = rw c.in-Mark.is at ((rw c.in-Byte.is at c.character.ensures)) in
-    c.one_byte.ensures ∙ rw (starts c.args.at l.invariant.2 x (λ k. omega (arith, ap tag k))) (sym (ap (from-asked c.args.at) (l.invariant.0 ∙ mark-next x)))
+    c.one_byte.ensures ∙ rw (starts c.args.at l.invariant.2 x (λ k. omega (arith, ap tag k))) (sym (ap (from-asked c.args.at) (l.invariant.0 ∙ mark_next x)))
 
 pub returns-in-Close : goal.returns-in-Close
 unfolding parted
 returns-in-Close c =
     let l = c.loop-kind in
     let x = (rw c.in-Byte.is at c.character.ensures) in
-    c.one_byte-in-Close.ensures ∙ rw (starts c.args.at l.invariant.2 x (λ k. miss (5 ∷ 7 ∷ 11 ∷ []) 0 tt (rw k at c.in-Close.in-Close-own.keys6))) (sym (ap (from-asked c.args.at) (l.invariant.0 ∙ stray-next x c.in-Close.in-Close-own.keys6)))
+    c.one_byte-in-Close.ensures ∙ rw (starts c.args.at l.invariant.2 x (λ k. miss (5 ∷ 7 ∷ 11 ∷ []) 0 tt (rw k at c.in-Close.in-Close-own.keys6))) (sym (ap (from-asked c.args.at) (l.invariant.0 ∙ stray_next x c.in-Close.in-Close-own.keys6)))
 
 pub returns-in-Control : goal.returns-in-Control
 unfolding parted
-returns-in-Control c = sym (ap (from-asked c.args.at) (c.loop-kind.invariant.0 ∙ control-next ((rw c.in-Byte.is at c.character.ensures)) c.in-Control.in-Control-own.keys7))
+returns-in-Control c = sym (ap (from-asked c.args.at) (c.loop-kind.invariant.0 ∙ control_next ((rw c.in-Byte.is at c.character.ensures)) c.in-Control.in-Control-own.keys7))
 
 pub returns-in-Above : goal.returns-in-Above
 unfolding parted

@@ -4,7 +4,7 @@ use native.Mathlib.Omega.{arith}
 use Rattle.octets.specs.Believed.Numbers.{byte_above_127, stray_control}
 use Rattle.scanner.specs.Believed.Scanning.{Scanned, taking_in_quoted, go, halt, parted}
 use Rattle.scanner.specs.Believed.Answers.{next_of}
-use Rattle.scanner.proofs.MoveLaws.{at-end, quoted_moves, quoted_taking, counting_on, counting_taken}
+use Rattle.scanner.proofs.MoveLaws.{at_end_lem, quoted_moves, quoted_taking, counting_on, counting_taken}
 use borrow.Enum.Refused.{opened}
 use Rattle.scanner.proofs.quoted_end.Goals as goal
 
@@ -16,7 +16,7 @@ unfolding parted
 returns-in_default c =
     let a = c.args in
     let l = c.loop-kind in
-    λ from e. sym (ap (λ (s : Scanned). next_of (parted from s)) (l.invariant.1.quoting.same ∙ at-end a.classes.now a.text.now l.p _ (rw c.in_default.is at c.character.ensures)))
+    λ from e. sym (ap (λ (s : Scanned). next_of (parted from s)) (l.invariant.1.quoting.same ∙ at_end_lem a.classes.now a.text.now l.p _ (rw c.in_default.is at c.character.ensures)))
 
 pub returns-in-Quote : goal.returns-in-Quote
 unfolding parted
@@ -44,7 +44,7 @@ returns-in_default-character c =
     λ from e. sym
     (ap (λ (s : Scanned). next_of (parted from s))
     (quoted_moves l.invariant.1.quoting x (go [] (taking_in_quoted a.start l.invariant.1.quoting.meaning)) refl
-    ∙ at-end a.classes.now a.text.now c.in-Byte.q _ (rw c.in_default-character.is at c.character-in-Backslash.ensures)))
+    ∙ at_end_lem a.classes.now a.text.now c.in-Byte.q _ (rw c.in_default-character.is at c.character-in-Backslash.ensures)))
 
 pub returns-in-Above-taken : goal.returns-in-Above-taken
 unfolding parted

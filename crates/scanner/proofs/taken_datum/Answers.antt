@@ -3,7 +3,7 @@ use mathlib.Core.Path.{◌≡◌, sym, ap, ◌∙◌}
 use mathlib.Core.Bool.{true}
 use native.Mathlib.Omega.{arith}
 use Rattle.scanner.specs.Believed.Characters.{fold_at}
-use Rattle.scanner.proofs.CharacterLaws.{no-character, plain_at, fold_within, fold_at_lem}
+use Rattle.scanner.proofs.CharacterLaws.{no_character, plain_at, fold_within, fold_at_lem}
 use Rattle.scanner.specs.declared.Datum.TheVariants.{LineEnd}
 use borrow.Author.Rules.{rules}
 use lib.ListN.{get_or}
@@ -11,7 +11,7 @@ use Prim.Native.Nat.{◌+◌}
 use Rattle.scanner.proofs.taken_datum.Goals as goal
 
 pub returns-then-text-at : goal.returns-then-text-at
-returns-then-text-at c = let a = c.args in rw (no-character a.text.now a.at c.if-text-at.true)
+returns-then-text-at c = let a = c.args in rw (no_character a.text.now a.at c.if-text-at.true)
 
 pub bounds-text-at : goal.bounds-text-at
 bounds-text-at c =

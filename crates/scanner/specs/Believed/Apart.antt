@@ -19,7 +19,7 @@ WhiteOrComment category.Nothing = ⊥
 
 -- the first symbol from a position on: where it stands apart, the byte right before it lies there and is white space or part of a comment; else it starts at the position
 pub record ApartIs (classes text : List ℕ) (at : ℕ) (x : Lexeme) : Type 0 where
-  pub stands-apart : x.apart ≡ true → (at < x.start) × WhiteOrComment (between classes (x.start - 1) (characters_at text at) outside)
+  pub stands_apart : x.apart ≡ true → (at < x.start) × WhiteOrComment (between classes (x.start - 1) (characters_at text at) outside)
   pub adjoins : x.apart ≡ false → x.start ≡ at
 
 -- of every text and position: the first symbol from there on, and that all others are those which scanning from its end gives

@@ -29,7 +29,7 @@ FirstIs apart start s r = (from : ℕ) → apart ≡ ltb from start → r ≡ ne
 pub record FirstCharacter (classes text : List ℕ) (at : ℕ) (kind : ByteKind) (p q : ℕ) : Type 0 where
   pub folded : Bool
   pub characters : characters_at text at ≡ character (get_or text p 0) p folded ∷ characters_at text q
-  pub kind-is : kind ≡ character_kind classes (get_or text p 0) folded
+  pub kind_is : kind ≡ character_kind classes (get_or text p 0) folded
   pub from : at ≤ p
   pub distance : p ≡ pick folded (at + 2) at
   pub behind : q ≡ p + 1
@@ -57,7 +57,7 @@ plain_at classes text i = leb letter (get_or classes (get_or text i 0) 0)
 
 -- every atom that has run up to a position ends at `end`
 pub record PlainEnds (classes text : List ℕ) (at end : ℕ) : Type 0 where
-  pub atom-from : (start : ℕ) → start ≤ at → AtomEnds classes text start at end
+  pub atom_from : (start : ℕ) → start ≤ at → AtomEnds classes text start at end
   pub from : at ≤ end
   pub within : end ≤ length text
 

@@ -1,18 +1,18 @@
 -- `touch::touch_list` meets its contract. Assumes nothing.
 use native.Mathlib.Omega.{arith}
 use Rattle.grammar.specs.Believed.Records.{records}
-use Rattle.touch.proofs.TouchLaws.{parts, before-body, after-body, byte_told}
+use Rattle.touch.proofs.TouchLaws.{parts, before_body, after_body, byte_told}
 use Rattle.touch.proofs.touch_list.Goals as goal
 
 pub returns-then-place-start : goal.returns-then-place-start
 returns-then-place-start c =
     let a = c.args in
-    λ k h. parts (before-body a.message.now a.start a.end a.place a.path.now h (omega arith))
+    λ k h. parts (before_body a.message.now a.start a.end a.place a.path.now h (omega arith))
 
 pub returns-then-end-place : goal.returns-then-end-place
 returns-then-end-place c =
     let a = c.args in
-    λ k h. parts (after-body a.message.now a.start a.end a.place a.path.now h (omega arith) (omega arith))
+    λ k h. parts (after_body a.message.now a.start a.end a.place a.path.now h (omega arith) (omega arith))
 
 pub climb-count-requires : goal.climb-count-requires
 climb-count-requires c =

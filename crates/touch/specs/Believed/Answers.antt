@@ -79,7 +79,7 @@ pub record Outcome : Type 0 where
 pub record AnsweredBy (o : Outcome) (r : Touched) (after : List ℕ) : Type 0 where
   pub told_is : told r ≡ told o.answer
   pub path_is : after ≡ o.path
-  pub answer-is : r ≡ o.answer
+  pub answer_is : r ≡ o.answer
 
 -- any answer but that of a byte leaves the path as it was
 abbrev pub unchanged : List ℕ → Touched → Outcome

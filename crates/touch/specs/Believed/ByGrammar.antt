@@ -31,7 +31,7 @@ pub record Settled (message : List ℕ) (start end place : ℕ) (path : List ℕ
   -- a list: the byte, its records and its path, from its one derivation
   pub list : (k : Derivation) → IsList symbols k → (told r ≡ told (of_list message start end place path k).answer) × (after ≡ (of_list message start end place path k).path)
   -- no list: what could have stood at the refused place
-  pub no-list : ((k : Derivation) → IsList symbols k → ⊥) → NamedThere symbols end r × (after ≡ path)
+  pub no_list : ((k : Derivation) → IsList symbols k → ⊥) → NamedThere symbols end r × (after ≡ path)
 
 -- of a body that scans without fault, with its positions in order, in a message within the limit
 abbrev pub ByGrammar : List ℕ → ℕ → ℕ → ℕ → List ℕ → Touched → List ℕ → Type 0

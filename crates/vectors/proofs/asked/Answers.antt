@@ -1,7 +1,7 @@
 -- `vectors::asked` meets its contract. Assumes nothing.
 use native.Mathlib.Omega.{arith}
 use mathlib.Core.Path.{◌∙◌}
-use Rattle.vectors.proofs.ReadLaws.{tail_part, asked-behind, not_asked}
+use Rattle.vectors.proofs.ReadLaws.{tail_part, asked_behind, not_asked}
 use Rattle.vectors.proofs.asked.Goals as goal
 
 pub slice_bounds-digits-count : goal.slice_bounds-digits-count
@@ -13,7 +13,7 @@ slice_bounds-digits-start c = omega (arith, c.cut-seam.ensures.3)
 pub returns-then-seam-head : goal.returns-then-seam-head
 returns-then-seam-head c =
     let args = c.args in
-    (rw (tail_part c.cut-seam.result.past args.head.now) at c.digits.ensures) ∙ asked-behind args.mark args.otherwise args.head.now c.cut-seam.ensures (omega arith)
+    (rw (tail_part c.cut-seam.result.past args.head.now) at c.digits.ensures) ∙ asked_behind args.mark args.otherwise args.head.now c.cut-seam.ensures (omega arith)
 
 pub returns : goal.returns
 returns c =

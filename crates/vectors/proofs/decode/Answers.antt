@@ -4,7 +4,7 @@ use native.Mathlib.Omega.{arith}
 use lib.ListN.{get_or, drop}
 use Rattle.vectors.specs.Believed.Putting.{putting}
 use Rattle.vectors.specs.Believed.Reading.{stays, decoded}
-use Rattle.vectors.proofs.ReadLaws.{tail_part, decoded-next, decoded-end, decode_done}
+use Rattle.vectors.proofs.ReadLaws.{tail_part, decoded_next, decoded_end, decode_done}
 use Rattle.vectors.proofs.decode.Goals as goal
 
 pub loop-i-init : goal.loop-i-init
@@ -23,7 +23,7 @@ pub loop-i-preserved : goal.loop-i-preserved
 loop-i-preserved c =
     let loop = c.loop-i in
     let args = c.args in
-    (omega arith, c.put_piece-n.auto.out ∙ loop.invariant.1, loop.invariant.2 ∙ ap (putting loop.out loop.n) (decoded-next loop.inside args.text.now loop.i (omega arith)) ∙ (rw (tail_part (loop.i + 1) args.text.now) at (c.put_piece-n.ensures.same (decoded (stays loop.inside (get_or args.text.now loop.i 0)) (drop (loop.i + 1) args.text.now)))) ∙ rw c.is_inside-inside.ensures)
+    (omega arith, c.put_piece-n.auto.out ∙ loop.invariant.1, loop.invariant.2 ∙ ap (putting loop.out loop.n) (decoded_next loop.inside args.text.now loop.i (omega arith)) ∙ (rw (tail_part (loop.i + 1) args.text.now) at (c.put_piece-n.ensures.same (decoded (stays loop.inside (get_or args.text.now loop.i 0)) (drop (loop.i + 1) args.text.now)))) ∙ rw c.is_inside-inside.ensures)
 
 pub shape_of-out : goal.shape_of-out
 shape_of-out c = c.loop-i.invariant.1
@@ -32,4 +32,4 @@ pub returns : goal.returns
 returns c =
     let args = c.args in
     let loop = c.loop-i in
-    decode_done args.text.now args.out.now loop.out loop.n (loop.invariant.2 ∙ ap (putting loop.out loop.n) (decoded-end loop.inside args.text.now loop.i (omega arith)))
+    decode_done args.text.now args.out.now loop.out loop.n (loop.invariant.2 ∙ ap (putting loop.out loop.n) (decoded_end loop.inside args.text.now loop.i (omega arith)))

@@ -1,7 +1,7 @@
 use mathlib.Core.Path.{refl, sym, ◌∙◌}
 use native.Mathlib.Omega.{arith}
 use lib.ListN.{get_or}
-use Rattle.vectors.proofs.ReadLaws.{digit-next, no_digit, digits_end, digit_range}
+use Rattle.vectors.proofs.ReadLaws.{digit_next, no_digit, digits_end, digit_range}
 use Rattle.vectors.proofs.digits.Goals as goal
 
 pub loop-i-init : goal.loop-i-init
@@ -32,7 +32,7 @@ loop-i-preserved c =
     let args = c.args in
     let loop = c.loop-i in
     let if1 = c.if-not-is_digit in
-    let d = digit_range (get_or args.text.now loop.i 0) (sym c.is_digit.ensures ∙ if1.false) in (omega (arith, d.0, d.1), loop.invariant.1 ∙ digit-next loop.n args.text.now loop.i (omega arith) (sym c.is_digit.ensures ∙ if1.false))
+    let d = digit_range (get_or args.text.now loop.i 0) (sym c.is_digit.ensures ∙ if1.false) in (omega (arith, d.0, d.1), loop.invariant.1 ∙ digit_next loop.n args.text.now loop.i (omega arith) (sym c.is_digit.ensures ∙ if1.false))
 
 pub returns : goal.returns
 returns c =

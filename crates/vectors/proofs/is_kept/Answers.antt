@@ -1,6 +1,6 @@
 use mathlib.Core.Path.{refl, sym, ◌∙◌}
 use native.Mathlib.Omega.{arith}
-use Rattle.vectors.proofs.AnswerLaws.{kept_next, not_kept, kept-end}
+use Rattle.vectors.proofs.AnswerLaws.{kept_next, not_kept, kept_end}
 use Rattle.vectors.proofs.is_kept.Goals as goal
 
 pub loop-i-init : goal.loop-i-init
@@ -22,4 +22,4 @@ loop-i-preserved c =
 pub returns : goal.returns
 returns c =
     let loop = c.loop-i in
-    sym (loop.invariant ∙ kept-end c.args.table.now loop.i (omega arith))
+    sym (loop.invariant ∙ kept_end c.args.table.now loop.i (omega arith))

@@ -1,11 +1,11 @@
 use mathlib.Core.Path.{refl, ◌∙◌}
 use native.Mathlib.Omega.{arith}
-use Rattle.vectors.proofs.PutLaws.{left-all, left_after, left-none}
-use Rattle.vectors.proofs.ReadLaws.{copied_next, copied-end}
+use Rattle.vectors.proofs.PutLaws.{left_all, left_after, left_none}
+use Rattle.vectors.proofs.ReadLaws.{copied_next, copied_end}
 use Rattle.vectors.proofs.put_copied.Goals as goal
 
 pub loop-i-init : goal.loop-i-init
-loop-i-init c = (omega arith, refl, left-all _ _ _)
+loop-i-init c = (omega arith, refl, left_all _ _ _)
 
 pub bounds-text-i : goal.bounds-text-i
 bounds-text-i c = omega arith
@@ -23,4 +23,4 @@ pub returns : goal.returns
 returns c =
     let loop = c.loop-i in
     let args = c.args in
-    left-none loop.invariant.2 (λ rest. copied-end args.coded args.text.now loop.i rest (omega arith))
+    left_none loop.invariant.2 (λ rest. copied_end args.coded args.text.now loop.i rest (omega arith))

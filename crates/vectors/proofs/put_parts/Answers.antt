@@ -2,7 +2,7 @@
 use mathlib.Core.Path.{sym, ◌∙◌}
 use native.Mathlib.Omega.{arith}
 use lib.Seq.{length-take-le}
-use Rattle.vectors.proofs.VectorLaws.{message-is, parts-text}
+use Rattle.vectors.proofs.VectorLaws.{message_is, parts_text_lem}
 use Rattle.vectors.proofs.ReadLaws.{tail_part}
 use native.Mathlib.Omega.{arith}
 use lib.Seq.{length-take-le}
@@ -29,4 +29,4 @@ slice_bounds-put_with_room-end-2 c =
 pub returns : goal.returns
 returns c =
     let args = c.args in
-    parts-text args.letter args.head.now args.tail.now args.store.now (message-is c.large_buffer-first.result c.large_buffer-first.ensures c.cut-seam.ensures.0 c.decode-size.ensures.2) (message-is c.large_buffer-second.result c.large_buffer-second.ensures (tail_part c.cut-seam.result.past args.tail.now ∙ c.cut-seam.ensures.1) c.decode-more.ensures.2) c.put_with_room.ensures
+    parts_text_lem args.letter args.head.now args.tail.now args.store.now (message_is c.large_buffer-first.result c.large_buffer-first.ensures c.cut-seam.ensures.0 c.decode-size.ensures.2) (message_is c.large_buffer-second.result c.large_buffer-second.ensures (tail_part c.cut-seam.result.past args.tail.now ∙ c.cut-seam.ensures.1) c.decode-more.ensures.2) c.put_with_room.ensures

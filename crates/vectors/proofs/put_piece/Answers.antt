@@ -2,7 +2,7 @@
 use mathlib.Core.Path.{sym}
 use lib.Seq.{length-take-le}
 use Rattle.vectors.proofs.PutLaws.{puts_nothing, puts_as}
-use Rattle.vectors.proofs.ReadLaws.{piece_inside, piece-braced, piece_byte}
+use Rattle.vectors.proofs.ReadLaws.{piece_inside, piece_braced, piece_byte}
 use Rattle.vectors.proofs.put_piece.Goals as goal
 
 pub returns-then-inside : goal.returns-then-inside
@@ -17,7 +17,7 @@ slice_bounds-put_braced-end c =
 pub returns-then-b-eq123 : goal.returns-then-b-eq123
 returns-then-b-eq123 c =
     let args = c.args in
-    puts_as (λ rest. piece-braced args.inside args.b args.text.now rest c.if-inside.false c.if-b-eq123.true) (rw c.cut-seam.ensures.0 at c.put_braced.ensures)
+    puts_as (λ rest. piece_braced args.inside args.b args.text.now rest c.if-inside.false c.if-b-eq123.true) (rw c.cut-seam.ensures.0 at c.put_braced.ensures)
 
 pub returns : goal.returns
 returns c =

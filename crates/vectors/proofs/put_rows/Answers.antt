@@ -1,13 +1,13 @@
 use mathlib.Core.Path.{refl, ◌∙◌}
 use native.Mathlib.Omega.{arith}
-use Rattle.vectors.proofs.PutLaws.{left-all, left_as, left_after, left-none}
+use Rattle.vectors.proofs.PutLaws.{left_all, left_as, left_after, left_none}
 use Rattle.vectors.proofs.AnswerLaws.{rows_all, rows_next, rows_none}
 use Rattle.vectors.proofs.put_rows.Goals as goal
 
 pub loop-i-init : goal.loop-i-init
 loop-i-init c =
     let args = c.args in
-    (omega arith, refl, left_as (left-all _ _ _) (λ rest. rows_all args.size args.table.now args.many args.from 0 rest))
+    (omega arith, refl, left_as (left_all _ _ _) (λ rest. rows_all args.size args.table.now args.many args.from 0 rest))
 
 pub overflow_add-from : goal.overflow_add-from
 overflow_add-from c = omega arith
@@ -28,4 +28,4 @@ pub returns : goal.returns
 returns c =
     let loop = c.loop-i in
     let args = c.args in
-    left-none loop.invariant.2 (λ rest. rows_none args.size args.table.now args.many args.from loop.i rest (omega arith))
+    left_none loop.invariant.2 (λ rest. rows_none args.size args.table.now args.many args.from loop.i rest (omega arith))

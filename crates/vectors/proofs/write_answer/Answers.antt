@@ -1,6 +1,6 @@
 -- `vectors::write_answer` meets its contract. Assumes nothing.
 use mathlib.Core.Path.{sym, ◌∙◌}
-use Rattle.vectors.proofs.VectorLaws.{all-put}
+use Rattle.vectors.proofs.VectorLaws.{all_put}
 use Rattle.vectors.proofs.ReadLaws.{tail_part}
 use native.Mathlib.Omega.{arith}
 use lib.Seq.{length-take-le}
@@ -19,4 +19,4 @@ slice_bounds-put_parts-start c = omega (arith, c.cut-seam.ensures.3)
 pub returns : goal.returns
 returns c =
     let args = c.args in
-    all-put args.line.now args.store.now c.cut-seam.ensures.0 (tail_part c.cut-seam.result.past args.line.now ∙ c.cut-seam.ensures.1) c.load_byte.ensures c.put_bytes-n.ensures c.put-m.ensures c.put_parts.ensures
+    all_put args.line.now args.store.now c.cut-seam.ensures.0 (tail_part c.cut-seam.result.past args.line.now ∙ c.cut-seam.ensures.1) c.load_byte.ensures c.put_bytes-n.ensures c.put-m.ensures c.put_parts.ensures

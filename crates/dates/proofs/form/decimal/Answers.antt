@@ -3,7 +3,7 @@ use native.Mathlib.Omega.{arith}
 use Prim.Native.Nat.{◌+◌, ◌-◌, ◌*◌}
 use Rattle.octets.specs.Believed.Text.{part}
 use Rattle.dates.specs.Believed.Grammar.{decimal, decimal_from}
-use Rattle.dates.proofs.FormLaws.{decimal_step, decimal-end, grows, bounded}
+use Rattle.dates.proofs.FormLaws.{decimal_step, decimal_end, grows, bounded}
 use Rattle.dates.proofs.form.decimal.Goals as goal
 
 pub loop-p-init : goal.loop-p-init
@@ -50,6 +50,6 @@ returns c =
     let a = c.args in
     let p = c.requires in
     let l = c.loop-p in (
-      sym (l.invariant.2 ∙ decimal-end a.text.now l.v l.p a.stop c.loop-p-test.false),
+      sym (l.invariant.2 ∙ decimal_end a.text.now l.v l.p a.stop c.loop-p-test.false),
       bounded l.v (l.p - a.start) 6 l.invariant.3 (omega (arith, l.invariant.0, l.invariant.1, p.1)),
     )

@@ -4,7 +4,7 @@ use borrow.Author.Tests.{lt-ltb, le-ltb}
 use Rattle.dates.specs.Believed.Names.{month_names}
 use Rattle.dates.specs.Executable.Form.{named, month_after}
 use Rattle.dates.specs.Ties.Steps.{rows, ascend}
-use Rattle.dates.proofs.PartLaws.{held-is, holding, mark-ahead, dash_passed, past_name}
+use Rattle.dates.proofs.PartLaws.{held_is, holding, mark_ahead, dash_passed, past_name}
 use Rattle.dates.proofs.form.month_after.Goals as goal
 
 pub read_name-place-requires : goal.read_name-place-requires
@@ -30,5 +30,5 @@ unfolding rows month_after
 returns c =
     let n = c.read_name-place.ensures in
     let e : named month_names _ ≡ c.read_name-place.result = n.place_is in
-    let y = dash_passed (mark-ahead (past_name n c.if-place-ge12.false) c.past.ensures) in
-    rw (e, lt-ltb _ 12 c.if-place-ge12.false) (rw (held-is y) at c.year_after.ensures)
+    let y = dash_passed (mark_ahead (past_name n c.if-place-ge12.false) c.past.ensures) in
+    rw (e, lt-ltb _ 12 c.if-place-ge12.false) (rw (held_is y) at c.year_after.ensures)

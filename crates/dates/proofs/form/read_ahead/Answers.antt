@@ -4,7 +4,7 @@ use borrow.Author.Tests.{lt-ltb, le-ltb}
 use Rattle.dates.specs.Believed.Names.{day_names}
 use Rattle.dates.specs.Executable.Form.{named, reading_of}
 use Rattle.dates.specs.Ties.Steps.{rows, ascend}
-use Rattle.dates.proofs.PartLaws.{held-is, holding, mark-ahead, passed, not_passed, past_name, no_name}
+use Rattle.dates.proofs.PartLaws.{held_is, holding, mark_ahead, passed, not_passed, past_name, no_name}
 use Rattle.dates.proofs.form.read_ahead.Goals as goal
 
 pub read_name-place-requires : goal.read_name-place-requires
@@ -20,7 +20,7 @@ unfolding rows reading_of
 returns-then-place-ge7 c =
     let n = c.read_name-place.ensures in
     let e : named day_names _ ≡ c.read_name-place.result = n.place_is in
-    rw (e, le-ltb _ 7 c.if-place-ge7.true) (rw (held-is (no_name n c.if-place-ge7.true)) at c.day_after.ensures)
+    rw (e, le-ltb _ 7 c.if-place-ge7.true) (rw (held_is (no_name n c.if-place-ge7.true)) at c.day_after.ensures)
 
 pub past-requires : goal.past-requires
 unfolding rows
@@ -31,7 +31,7 @@ unfolding rows reading_of
 returns-then-not-past c =
     let n = c.read_name-place.ensures in
     let e : named day_names _ ≡ c.read_name-place.result = n.place_is in
-    let y = not_passed (mark-ahead (past_name n c.if-place-ge7.false) c.past.ensures) (c.if-not-past.true) in
+    let y = not_passed (mark_ahead (past_name n c.if-place-ge7.false) c.past.ensures) (c.if-not-past.true) in
     rw (e, lt-ltb _ 7 c.if-place-ge7.false, y.0)
 
 pub day_after-requires-2 : goal.day_after-requires-2
@@ -43,5 +43,5 @@ unfolding rows reading_of
 returns c =
     let n = c.read_name-place.ensures in
     let e : named day_names _ ≡ c.read_name-place.result = n.place_is in
-    let y = passed (mark-ahead (past_name n c.if-place-ge7.false) c.past.ensures) (c.if-not-past.false) in
-    rw (e, lt-ltb _ 7 c.if-place-ge7.false, y.0) (rw (held-is y.1) at c.day_after-2.ensures)
+    let y = passed (mark_ahead (past_name n c.if-place-ge7.false) c.past.ensures) (c.if-not-past.false) in
+    rw (e, lt-ltb _ 7 c.if-place-ge7.false, y.0) (rw (held_is y.1) at c.day_after-2.ensures)

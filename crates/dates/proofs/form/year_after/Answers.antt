@@ -2,7 +2,7 @@
 use native.Mathlib.Omega.{arith}
 use borrow.Author.Tests.{ne_eqb}
 use Rattle.dates.specs.Executable.Form.{year_after}
-use Rattle.dates.proofs.PartLaws.{held-is, holding}
+use Rattle.dates.proofs.PartLaws.{held_is, holding}
 use Rattle.dates.proofs.form.year_after.Goals as goal
 
 pub hour_after-requires : goal.hour_after-requires
@@ -13,7 +13,7 @@ unfolding year_after
 returns-then-n-eq2 c =
     let n = c.read_digits-n.ensures in
     let z = n.next (omega (arith, c.if-n-eq2.true)) (omega (arith, c.if-n-eq2.true)) in
-    rw (n.count-is, c.if-n-eq2.true, n.value_is) (rw (held-is z) at c.hour_after.ensures)
+    rw (n.count_is, c.if-n-eq2.true, n.value_is) (rw (held_is z) at c.hour_after.ensures)
 
 pub hour_after-requires-then-n-eq4 : goal.hour_after-requires-then-n-eq4
 hour_after-requires-then-n-eq4 c = holding (c.read_digits-n.ensures.next (omega (arith, c.if-n-eq4.true)) (omega (arith, c.if-n-eq4.true)))
@@ -23,10 +23,10 @@ unfolding year_after
 returns-then-n-eq4 c =
     let n = c.read_digits-n.ensures in
     let z = n.next (omega (arith, c.if-n-eq4.true)) (omega (arith, c.if-n-eq4.true)) in
-    rw (n.count-is, c.if-n-eq4.true, n.value_is) (rw (held-is z) at c.hour_after-then-n-eq4.ensures)
+    rw (n.count_is, c.if-n-eq4.true, n.value_is) (rw (held_is z) at c.hour_after-then-n-eq4.ensures)
 
 pub returns : goal.returns
 unfolding year_after
 returns c =
     let n = c.read_digits-n.ensures in
-    rw (n.count-is, ne_eqb _ _ c.if-n-eq2.false, ne_eqb _ _ c.if-n-eq4.false)
+    rw (n.count_is, ne_eqb _ _ c.if-n-eq2.false, ne_eqb _ _ c.if-n-eq4.false)

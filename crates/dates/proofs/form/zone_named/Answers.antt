@@ -6,7 +6,7 @@ use Rattle.dates.specs.Believed.Names.{zone_names}
 use Rattle.dates.specs.Executable.Form.{named, zone_named}
 use Rattle.dates.specs.Ties.Steps.{rows, ascend}
 use Rattle.dates.proofs.FormLaws.{minutes_fit}
-use Rattle.dates.proofs.PartLaws.{held-is, holding, past_name}
+use Rattle.dates.proofs.PartLaws.{held_is, holding, past_name}
 use Rattle.dates.proofs.form.zone_named.Goals as goal
 
 pub read_name-place-requires : goal.read_name-place-requires
@@ -24,4 +24,4 @@ returns c =
     let place = c.read_name-place.result in
     let e : named zone_names _ ≡ place = n.place_is in
     let y = past_name n c.if-place-ge43.false in
-    record { is = rw (e, lt-ltb _ 43 c.if-place-ge43.false, to_z-of_z (minutes_fit place c.if-place-ge43.false), held-is y); holds = holding y }
+    record { is = rw (e, lt-ltb _ 43 c.if-place-ge43.false, to_z-of_z (minutes_fit place c.if-place-ge43.false), held_is y); holds = holding y }

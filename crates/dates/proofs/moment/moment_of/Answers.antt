@@ -18,7 +18,7 @@ unfolding moment_of
 returns-then-not-time_exists c = rw ((sym c.day_exists.ensures ∙ c.if-not-day_exists.false), ← c.time_exists.ensures, c.if-not-time_exists.true)
 
 pub day_number-days-requires : goal.day_number-days-requires
-day_number-days-requires c = let d = in_calendar _ _ _ ((sym c.day_exists.ensures ∙ c.if-not-day_exists.false)) in (d.from, omega (arith, d.to), d.month-is, d.first, omega (arith, d.last))
+day_number-days-requires c = let d = in_calendar _ _ _ ((sym c.day_exists.ensures ∙ c.if-not-day_exists.false)) in (d.from, omega (arith, d.to), d.month_is, d.first, omega (arith, d.last))
 
 pub returns-then-not-name_true : goal.returns-then-not-name_true
 unfolding moment_of
@@ -26,7 +26,7 @@ returns-then-not-name_true c =
     rw ((sym c.day_exists.ensures ∙ c.if-not-day_exists.false), (sym c.time_exists.ensures ∙ c.if-not-time_exists.false), ← c.day_number-days.ensures.0, ← c.name_true.ensures, c.if-not-name_true.true)
 
 pub local_seconds-local-requires : goal.local_seconds-local-requires
-local_seconds-local-requires c = let t = in_day _ _ _ ((sym c.time_exists.ensures ∙ c.if-not-time_exists.false)) in (c.day_number-days.ensures.1, t.hours, t.minutes, t.seconds-are)
+local_seconds-local-requires c = let t = in_day _ _ _ ((sym c.time_exists.ensures ∙ c.if-not-time_exists.false)) in (c.day_number-days.ensures.1, t.hours, t.minutes, t.seconds_are)
 
 pub returns-in-Minutes : goal.returns-in-Minutes
 unfolding moment_of

@@ -2,7 +2,7 @@ use mathlib.Core.Path.{sym, ◌∙◌}
 use native.Mathlib.Omega.{arith}
 use lib.ListN.{length}
 use native.Mathlib.Nat.{zero-add}
-use Rattle.dates.proofs.NameLaws.{row, row_found, row_other, rows-over}
+use Rattle.dates.proofs.NameLaws.{row, row_found, row_other, rows_over}
 use Rattle.dates.proofs.names.find.Goals as goal
 
 pub loop-i-init : goal.loop-i-init
@@ -53,4 +53,4 @@ pub returns : goal.returns
 returns c =
     let a = c.args in
     let l = c.loop-i in
-    sym (l.invariant.2 ∙ rows-over a.text.now l.start a.ends.now a.name.now l.i c.loop-i-test.false)
+    sym (l.invariant.2 ∙ rows_over a.text.now l.start a.ends.now a.name.now l.i c.loop-i-test.false)

@@ -2,7 +2,7 @@ use native.Mathlib.Omega.{arith}
 use mathlib.Core.Path.{refl, sym, ap, ◌∙◌}
 use Rattle.header.specs.Believed.Fields.{in_body}
 use Rattle.header.specs.Ties.Steps.{first_of}
-use Rattle.header.proofs.HeaderLaws.{ends, body-fault, body-ends, body-goes}
+use Rattle.header.proofs.HeaderLaws.{ends, body_fault, body_ends, body_goes}
 use Rattle.header.proofs.fields.body_rest.Goals as goal
 
 pub loop-at-init : goal.loop-at-init
@@ -27,7 +27,7 @@ returns-then-message-at-gt127 c =
     let l = c.loop-at in
     let p = c.past_plain-at in
     let here = l.invariant.1 ∙ p.ensures.same a.name_start a.name_end a.body_start in
-    sym (ap first_of (here ∙ body-fault a.message.now p.result (omega arith) a.name_start a.name_end a.body_start (omega arith)))
+    sym (ap first_of (here ∙ body_fault a.message.now p.result (omega arith) a.name_start a.name_end a.body_start (omega arith)))
 
 pub returns-then-ends_body : goal.returns-then-ends_body
 unfolding first_of
@@ -36,7 +36,7 @@ returns-then-ends_body c =
     let l = c.loop-at in
     let p = c.past_plain-at in
     let here = l.invariant.1 ∙ p.ensures.same a.name_start a.name_end a.body_start in
-    sym (ap first_of (here ∙ body-ends a.message.now p.result (omega arith) a.name_start a.name_end a.body_start (omega arith) (sym c.ends_body.ensures ∙ c.if-ends_body.true)))
+    sym (ap first_of (here ∙ body_ends a.message.now p.result (omega arith) a.name_start a.name_end a.body_start (omega arith) (sym c.ends_body.ensures ∙ c.if-ends_body.true)))
 
 pub loop-at-smaller : goal.loop-at-smaller
 loop-at-smaller c = let p = c.past_plain-at in omega (arith, p.ensures.from)
@@ -47,7 +47,7 @@ loop-at-preserved c =
     let l = c.loop-at in
     let p = c.past_plain-at in
     let here = l.invariant.1 ∙ p.ensures.same a.name_start a.name_end a.body_start in
-    (omega arith, here ∙ body-goes a.message.now p.result (omega arith) a.name_start a.name_end a.body_start (omega arith) (sym c.ends_body.ensures ∙ c.if-ends_body.false))
+    (omega arith, here ∙ body_goes a.message.now p.result (omega arith) a.name_start a.name_end a.body_start (omega arith) (sym c.ends_body.ensures ∙ c.if-ends_body.false))
 
 pub bounds-message-at : goal.bounds-message-at
 bounds-message-at c = omega arith

@@ -2,7 +2,7 @@ use native.Mathlib.Omega.{arith}
 use mathlib.Core.Path.{refl, sym, ap, ◌∙◌}
 use Rattle.header.specs.Believed.Fields.{in_name}
 use Rattle.header.specs.Ties.Steps.{first_of}
-use Rattle.header.proofs.HeaderLaws.{ends, name-ends, name-fault, name-white, name-other}
+use Rattle.header.proofs.HeaderLaws.{ends, name_ends, name_fault_lem, name_white, name_other}
 use Rattle.header.proofs.fields.name_rest.Goals as goal
 
 pub loop-at-init : goal.loop-at-init
@@ -13,7 +13,7 @@ returns-then-b-eq58 c =
     let l = c.loop-at in
     let a = c.args in
     c.body_rest.ensures
-    ∙ sym (ap first_of (l.invariant.1 ∙ name-ends a.message.now l.at (omega arith) a.start l.end c.if-b-eq58.true))
+    ∙ sym (ap first_of (l.invariant.1 ∙ name_ends a.message.now l.at (omega arith) a.start l.end c.if-b-eq58.true))
 
 pub returns-then-not-name_holds : goal.returns-then-not-name_holds
 unfolding first_of
@@ -23,7 +23,7 @@ returns-then-not-name_holds c =
     sym
     (ap first_of
     (l.invariant.1
-    ∙ name-fault a.message.now l.at (omega arith) a.start l.end c.if-b-eq58.false
+    ∙ name_fault_lem a.message.now l.at (omega arith) a.start l.end c.if-b-eq58.false
     (sym c.name_holds.ensures ∙ c.if-not-name_holds.true)))
 
 pub loop-at-preserved-then-not-is_white : goal.loop-at-preserved-then-not-is_white
@@ -32,7 +32,7 @@ loop-at-preserved-then-not-is_white c =
     let a = c.args in (
       omega arith,
       l.invariant.1
-          ∙ name-other a.message.now l.at (omega arith) a.start l.end c.if-b-eq58.false
+          ∙ name_other a.message.now l.at (omega arith) a.start l.end c.if-b-eq58.false
           (sym c.name_holds.ensures ∙ c.if-not-name_holds.false)
           (sym c.is_white.ensures ∙ c.if-not-is_white.true),
     )
@@ -43,7 +43,7 @@ loop-at-preserved c =
     let a = c.args in (
       omega arith,
       l.invariant.1
-          ∙ name-white a.message.now l.at (omega arith) a.start l.end c.if-b-eq58.false
+          ∙ name_white a.message.now l.at (omega arith) a.start l.end c.if-b-eq58.false
           (sym c.name_holds.ensures ∙ c.if-not-name_holds.false)
           (sym c.is_white.ensures ∙ c.if-not-is_white.false),
     )

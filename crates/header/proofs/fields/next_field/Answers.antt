@@ -3,7 +3,7 @@ use native.Mathlib.Omega.{arith}
 use mathlib.Core.Path.{sym, ap, ◌∙◌}
 use Rattle.header.specs.Believed.Fields.{line_start}
 use Rattle.header.specs.Ties.Steps.{first_of}
-use Rattle.header.proofs.HeaderLaws.{ends, empty-line, name-starts, no_name}
+use Rattle.header.proofs.HeaderLaws.{ends, empty_line, name_starts, no_name}
 use Rattle.header.proofs.ByteLaws.{two_bytes}
 use Rattle.header.proofs.fields.next_field.Goals as goal
 
@@ -17,7 +17,7 @@ pub returns-then-is_crlf : goal.returns-then-is_crlf
 unfolding first_of
 returns-then-is_crlf c =
     let a = c.args in
-    sym (ap first_of (empty-line a.message.now a.at (omega arith) (two_bytes a.message.now a.at ∙ sym c.is_crlf.ensures ∙ c.if-is_crlf.true)))
+    sym (ap first_of (empty_line a.message.now a.at (omega arith) (two_bytes a.message.now a.at ∙ sym c.is_crlf.ensures ∙ c.if-is_crlf.true)))
 
 pub returns-then-name_starts_with : goal.returns-then-name_starts_with
 returns-then-name_starts_with c =
@@ -25,7 +25,7 @@ returns-then-name_starts_with c =
     c.name_rest.ensures
     ∙ sym
     (ap first_of
-    (name-starts a.message.now a.at (omega arith)
+    (name_starts a.message.now a.at (omega arith)
     (two_bytes a.message.now a.at ∙ sym c.is_crlf.ensures ∙ c.if-is_crlf.false)
     (sym c.name_starts_with.ensures ∙ c.if-name_starts_with.true)))
 

@@ -1,6 +1,6 @@
 use mathlib.Core.Path.{refl}
 use native.Mathlib.Omega.{arith}
-use Rattle.header.proofs.StepLaws.{goes_nowhere, goes-both}
+use Rattle.header.proofs.StepLaws.{goes_nowhere, goes_both}
 use Rattle.header.proofs.fields.past_plain_singly.Goals as goal
 
 pub loop-p-init : goal.loop-p-init
@@ -19,7 +19,7 @@ pub loop-p-smaller : goal.loop-p-smaller
 loop-p-smaller c = omega arith
 
 pub loop-p-preserved : goal.loop-p-preserved
-loop-p-preserved c = goes-both c.loop-p.invariant (c.may_stop.ensures c.if-may_stop.false) refl
+loop-p-preserved c = goes_both c.loop-p.invariant (c.may_stop.ensures c.if-may_stop.false) refl
 
 pub returns : goal.returns
 returns c = c.loop-p.invariant

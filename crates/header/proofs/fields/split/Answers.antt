@@ -1,7 +1,7 @@
 -- `header::fields::split` meets its contract: the first run answers and stores beside the table; few records are copied from there, and many are stored by a second run. Assumes nothing.
 use native.Mathlib.Omega.{arith}
 use mathlib.Core.Path.{sym, ◌∙◌}
-use Rattle.header.proofs.SplitLaws.{too_long, refused, no_room, stored-again, copied}
+use Rattle.header.proofs.SplitLaws.{too_long, refused, no_room, stored_again, copied}
 use Rattle.header.proofs.fields.split.Goals as goal
 
 pub returns-then-message-gt-MESSAGE_LIMIT : goal.returns-then-message-gt-MESSAGE_LIMIT
@@ -21,7 +21,7 @@ pub returns-else-many-le-STAGED_FIELDS : goal.returns-else-many-le-STAGED_FIELDS
 returns-else-many-le-STAGED_FIELDS c =
     let a = c.args in
     record {
-      outcome = stored-again a.message.now a.table.now (omega arith) (sym c.in-Accepted.is ∙ c.store_fields.ensures.0)
+      outcome = stored_again a.message.now a.table.now (omega arith) (sym c.in-Accepted.is ∙ c.store_fields.ensures.0)
           c.store_fields-in-Accepted.ensures.1;
     }
 

@@ -6,12 +6,12 @@ use Rattle.header.specs.Believed.Names.{known_names}
 use Rattle.header.specs.Ties.Rows.{in_row}
 use Rattle.header.specs.declared.names.Entry.{Entry}
 use Rattle.header.proofs.NameLaws.{past_first}
-use Rattle.header.proofs.RowLaws.{Left, known-left, none_left, left_agrees, left_differs, has-letter, in_width}
+use Rattle.header.proofs.RowLaws.{Left, known_left, none_left, left_agrees, left_differs, has_letter, in_width}
 use Rattle.header.proofs.KnownNameLoop.{agrees, all-agree, differs, six}
 use Rattle.header.proofs.names.known_name.Goals as goal
 
 pub names-init : goal.names-init
-names-init c = subst (λ i. Left known_names c.args.name.now i 0) (sym c.row_left-i.ensures) (known-left _)
+names-init c = subst (λ i. Left known_names c.args.name.now i 0) (sym c.row_left-i.ensures) (known_left _)
 
 pub returns-then-i-eq-COUNT : goal.returns-then-i-eq-COUNT
 returns-then-i-eq-COUNT c =
@@ -29,7 +29,7 @@ loop-j-init c =
     let n = c.names in
     let k : n.i < length known_names = omega (arith, six, n.invariant.within, c.if-i-eq-COUNT.false) in
     let (s, e) = past_first _ _ (n.invariant.fits k).1 in
-    (refl, record { is_known = k; sized = s; within = omega (arith, s, has-letter n.i k); letters = e })
+    (refl, record { is_known = k; sized = s; within = omega (arith, s, has_letter n.i k); letters = e })
 
 pub bounds-text-j : goal.bounds-text-j
 bounds-text-j c =

@@ -1,6 +1,6 @@
 use mathlib.Core.Path.{refl, sym, ◌∙◌}
 use native.Mathlib.Omega.{arith}
-use Rattle.octets.proofs.LetterLaws.{lengths_differ, byte-same, byte_differs, both_end}
+use Rattle.octets.proofs.LetterLaws.{lengths_differ, byte_same, byte_differs, both_end}
 use Rattle.octets.proofs.letters.same_bytes.Goals as goal
 
 pub returns-then-x-y : goal.returns-then-x-y
@@ -29,7 +29,7 @@ loop-i-smaller c = omega arith
 pub loop-i-preserved : goal.loop-i-preserved
 loop-i-preserved c =
     let l = c.loop-i in
-    (omega arith, l.invariant.1 ∙ byte-same (λ b. b) _ _ l.i (omega arith) (omega arith) c.if-x-i.false)
+    (omega arith, l.invariant.1 ∙ byte_same (λ b. b) _ _ l.i (omega arith) (omega arith) c.if-x-i.false)
 
 pub returns : goal.returns
 returns c =

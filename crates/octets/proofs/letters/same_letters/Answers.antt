@@ -1,7 +1,7 @@
 use mathlib.Core.Path.{refl, sym, ◌∙◌}
 use native.Mathlib.Omega.{arith}
 use Rattle.octets.specs.Believed.Letters.{lower}
-use Rattle.octets.proofs.LetterLaws.{lengths_differ, byte-same, byte_differs, both_end}
+use Rattle.octets.proofs.LetterLaws.{lengths_differ, byte_same, byte_differs, both_end}
 use Rattle.octets.proofs.letters.same_letters.Goals as goal
 
 pub returns-then-x-y : goal.returns-then-x-y
@@ -35,7 +35,7 @@ loop-i-preserved c =
     let l = c.loop-i in (
       omega arith,
       l.invariant.1
-          ∙ byte-same lower _ _ l.i (omega arith) (omega arith)
+          ∙ byte_same lower _ _ l.i (omega arith) (omega arith)
           (sym c.lower.ensures ∙ c.if-lower.false ∙ c.lower-in-loop-i.ensures),
     )
 

@@ -4,7 +4,7 @@ use Prim.Native.Nat.{ℕ, suc, ◌+◌}
 use native.Mathlib.Omega.{arith}
 use lib.ListN.{drop, set, get_or, length-set, drop_of_length-le}
 use lib.Seq.{sets}
-use Rattle.octets.proofs.Parts.{from-here, sets_out}
+use Rattle.octets.proofs.Parts.{from_here, sets_out}
 use Rattle.octets.proofs.writing.store_bytes.Goals as goal
 
 pub returns-then-out-at : goal.returns-then-out-at
@@ -34,7 +34,7 @@ loop-i-preserved c =
     let l = c.loop-i in
     let n : suc (a.at + l.i) ≡ a.at + (l.i + 1) = omega arith in
     let b = get_or a.text.now l.i 0 in
-    let d = from-here a.text.now l.i 0 (omega arith) in (
+    let d = from_here a.text.now l.i 0 (omega arith) in (
       omega arith,
       l.invariant.1,
       length-set l.out (a.at + l.i) b ∙ l.invariant.2,

@@ -5,14 +5,14 @@ use Prim.Native.Nat.{ℕ, ◌-◌}
 use native.Mathlib.Omega.{arith}
 use lib.ListN.{length, take, drop, length-drop}
 use lib.Seq.{sets, take_all}
-use Rattle.octets.proofs.Writes.{text-within, text_across, text-before}
+use Rattle.octets.proofs.Writes.{text_within, text_across, text_before}
 use Rattle.octets.proofs.writing.store_bytes_in.Goals as goal
 
 pub returns-then-from-n : goal.returns-then-from-n
-returns-then-from-n c = let a = c.args in c.store_bytes.ensures ∙ sym (text-within a.from a.out.now a.n a.text.now c.if-from-n.true)
+returns-then-from-n c = let a = c.args in c.store_bytes.ensures ∙ sym (text_within a.from a.out.now a.n a.text.now c.if-from-n.true)
 
 pub returns-then-text-from : goal.returns-then-text-from
-returns-then-text-from c = let a = c.args in sym (text-before a.from a.out.now a.n a.text.now (omega arith) (omega arith))
+returns-then-text-from c = let a = c.args in sym (text_before a.from a.out.now a.n a.text.now (omega arith) (omega arith))
 
 pub returns : goal.returns
 returns c =
