@@ -2,8 +2,9 @@
 """Each must-fail edit changes code or definitions, and was refused because a fact fails, and not because a proof file no longer
 fits the edited code. Reads what `rt ci` said of each edit, in the log that .ci/run keeps: the first error that is no more than a
 name that is gone from a proof file. Where that is only that something is not proved, a proof file that does not fit may be behind
-it: then the edit is made in a copy, over the libraries that `rt ci` left, and all is read that the check says of the function. A
-goal is named by the conditions that lead to it; where the edit only gives goals other names, the copy's proof file gets those too.
+it: then the edit is made in a copy, over the libraries that `rt ci` left, and all is read that the check says of the function, or of
+the crate where a law is refused with the block that it stands in. A goal is named by the conditions that lead to it; where the edit
+only gives goals other names, the copy's proof file gets those too.
 usage: tests/must_fail_logs.py [LOG]     LOG is what `rt ci` or `rt must-fail` printed, target/ci.log if not given"""
 import concurrent.futures
 import difflib
@@ -26,6 +27,8 @@ UNFIT = re.compile(rf"error\[|: error: .*({NAMES}|{PARTS}|write the clause `)|: 
 LINE = re.compile(r"rt: must-fail (\w+)/(\S+\.edit): (.*)")
 PLACE = re.compile(r"note: (src/\S+\.rt):(\d+):\d+: it is not proved .*\(`([^`]+)`\)")
 ERROR = re.compile(r"\S+:\d+:\d+: error: ")
+# a law that is refused with the block of laws that it stands in
+BLOCK = re.compile(r"\S+:\d+:\d+: error: `[^`]*` is not admitted: rejected$")
 GONE = re.compile(r"(\S+)/\w+\.antt:\d+:\d+: error: .*\.Goals` has no `([a-z][^`]*)` that can be named from here")
 REFUSED = "refused, as it must be"
 BY_A_NAME, BY_A_LIMIT = f"{REFUSED} (only because a proof file names", f"{REFUSED} (only by a limit of the prover"
@@ -46,6 +49,8 @@ def judged(said):
     if said.startswith(BY_A_NAME) or not said.startswith(f"{REFUSED}: "):
         return UNFITTING
     said = said.removeprefix(f"{REFUSED}: ")
+    if BLOCK.match(said):
+        return LOOK
     if UNFIT.search(said):
         return UNFITTING
     return FITS if shows_a_fact(said) else LOOK
@@ -73,8 +78,8 @@ def function_at(path, text, number):
 
 
 def checked(crate, folder, name):
-    """The exit status of the check of one function of a crate's copy, and its lines."""
-    words = [root / "tools/over-libraries", crate, "check", "--jobs", "1", "--only", name]
+    """The exit status of the check of one function of a crate's copy, or of the whole of it, and its lines."""
+    words = [root / "tools/over-libraries", crate, "check", "--jobs", "1", *(["--only", name] if name else [])]
     environment = {**os.environ, "FOLDER": folder}
     ran = subprocess.run(words, env=environment, stdout=subprocess.PIPE, stderr=subprocess.STDOUT, text=True, errors="replace")
     return ran.returncode, ran.stdout.splitlines()
@@ -110,7 +115,8 @@ def fitted(folder, lines):
 def looked_at(crate, edit, said):
     """What is wrong with an edit of whose refusal a look at the function that is not proved shows no failing fact, or nothing."""
     texts, place = edited(edit), PLACE.match(said.removeprefix(f"{REFUSED}: ") + "(`cut off`)")
-    if not place:
+    block = BLOCK.match(said.removeprefix(f"{REFUSED}: "))
+    if not place and not block:
         return f"no place in the code is told: {said}"
     with tempfile.TemporaryDirectory() as folder:
         for part in ("src", "specs", "proofs"):
@@ -118,8 +124,8 @@ def looked_at(crate, edit, said):
                 shutil.copytree(root / "crates" / crate / part, f"{folder}/{part}")
         for path, text in texts.items():
             pathlib.Path(folder, path).write_text(text)
-        name = function_at(place[1], pathlib.Path(folder, place[1]).read_text(), int(place[2]))
-        if not name:
+        name = None if block else function_at(place[1], pathlib.Path(folder, place[1]).read_text(), int(place[2]))
+        if not name and not block:
             return f"no function stands at {place[1]}:{place[2]}"
         for _ in range(3):
             status, lines = checked(crate, folder, name)
@@ -132,7 +138,7 @@ def looked_at(crate, edit, said):
                 break
     if sign:
         return f"{UNFITTING}, which shows nothing of the contract: {sign}"
-    return f"a check of {name} alone ends with status {status} and shows no failing fact: {' | '.join(lines[-3:])}"
+    return f"a check of {name or crate} ends with status {status} and shows no failing fact: {' | '.join(lines[-3:])}"
 
 
 # what a proof file says by names that follow from the code: a goal or the answer to it, and a path into what is known
@@ -164,7 +170,9 @@ refused, as it must be: ./proofs/a/Answers.antt:1:2: error: `returns`: computed 
 refused, as it must be: ./proofs/a/Answers.antt:1:2: error: `returns`: `omega`: the goal does not follow from what it read. All of that holds
 refused, as it must be: ./proofs/a/Answers.antt:1:2: error: `returns`: expected type `⊥`, but this has type `Unit {?ℓ0}`
 refused, as it must be: note: src/names.rt:119:1: it is not proved that what the function ensures holds when it returns (`returns-in-Cc`); the facts known there al""",
-    LOOK: "refused, as it must be: note: src/lib.rt:9:1: it is not proved that what the function ensures holds when it returns (`returns-then-x-lt5`)",
+    LOOK: """\
+refused, as it must be: note: src/lib.rt:9:1: it is not proved that what the function ensures holds when it returns (`returns-then-x-lt5`)
+refused, as it must be: ./proofs/Laws.antt:33:7: error: `list_is` is not admitted: rejected""",
     LIMIT: "refused, as it must be (only by a limit of the prover, which gave no verdict, so this says less of the contract: choose a change)",
     UNFITTING: """\
 refused, as it must be (only because a proof file names what the edit took away, so this says little of the contract): ./proofs/a/Answers.antt:1:2
