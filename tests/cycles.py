@@ -13,6 +13,8 @@ UNREAD = re.compile(r"""//[^\n]*|b?"(?:\\.|[^"\\])*"|b?'(?:\\.|[^'\\])'|\bghost 
 CLAUSE = re.compile(r"\b(?:requires|ensures)\b[^{]*\{")
 IMPORT = re.compile(r"\buse\s+([^;]*);")
 NAMES = re.compile(r"((?:\w+::)*)(?:(\w+(?:\s+as\s+\w+)?)|\{([^{}*]*)\})")
+VARIANTS = re.compile(r"(?:\w+::)*[A-Z]\w*::\*")  # an import of all variants of an enum: no function
+PRIMITIVES = {"u8", "u16", "u32", "u64", "usize", "i16", "i32", "i64", "isize", "bool"}  # their functions are the library's
 CALL = re.compile(r"(\.)?\b((?:\w+::)*)([a-z_]\w*)\s*\(")
 KEYWORDS = {"if", "else", "match", "while", "for", "in", "return", "let", "as"}
 
@@ -34,6 +36,8 @@ def imported(module, code):
     """What each imported word stands for."""
     found = {}
     for text in IMPORT.findall(code):
+        if VARIANTS.fullmatch(text.strip()):
+            continue
         names = NAMES.fullmatch(text.strip())
         if not names:
             faults.append(f"{module}: an import in a form not read here: {text}")
@@ -56,8 +60,9 @@ def read(path):
     for head in re.finditer(r"\bfn (\w+)(?:<[^>]*>)?\(([^,)]*\bself\b)?", code):
         opened = code.index("{", head.end())
         full = f"{module}::{head[1]}"
-        faults.extend([f"{full}: two functions of one name"] if full in functions else [])
-        functions[full] = module, imports, bool(head[2]), code[opened : behind(code, opened)]
+        # methods of one name, of two types, are taken as one function that does what each does
+        earlier = functions.get(full, (module, imports, False, ""))
+        functions[full] = module, imports, earlier[2] or bool(head[2]), earlier[3] + code[opened : behind(code, opened)]
     codes[module] = code
 
 
@@ -69,6 +74,8 @@ def calls(caller):
             yield from (full for full, function in functions.items() if function[2] and full.endswith(f"::{name}"))
         elif path or name not in KEYWORDS:
             first, *rest = f"{path}{name}".split("::")
+            if first in PRIMITIVES:
+                continue
             full = "::".join(part for part in imports.get(first, first).split("::") + rest if not part[0].isupper())
             places = [f"{module}::{full}", f"{module.split('::')[0]}::{full.removeprefix('crate::')}", full]
             found = [place for place in places if place in functions]

@@ -71,8 +71,11 @@ def edited(edit):
 
 
 def function_at(path, text, number):
-    """The function of a file that a line lies in, by its path below the crate, or nothing."""
-    heads = [head[1] for line in text.split("\n")[:number] for head in re.finditer(r"\bfn (\w+)", line.partition("//")[0])]
+    """The function of a file that a line lies in, by its path below the crate, or nothing. A line of attributes is the next one's."""
+    lines = text.split("\n")
+    while lines[number - 1].lstrip().startswith("#["):
+        number += 1
+    heads = [head[1] for line in lines[:number] for head in re.finditer(r"\bfn (\w+)", line.partition("//")[0])]
     module = [part for part in pathlib.PurePath(path).with_suffix("").parts[1:] if part not in ("lib", "main", "mod")]
     return "::".join(module + heads[-1:]) if heads else None
 

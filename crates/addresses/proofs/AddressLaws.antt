@@ -35,12 +35,12 @@ module _ (classes text : List ℕ) where
   -- ---- a mailbox
 
   pub mailbox_read : {xs : List Sym} {p : Phrase} {a b size last : ℕ} {apart : Bool} {span : Span} {frame : Frame} (table after : List ℕ) (ahead : Next) → Named classes text xs span p (found_at At a b size apart) → NodesEnd classes text a b apart ahead last
-      → Opened classes text a b span frame → after ≡ sets table (frame.number * address_record_size) (record_bytes (record_by 1 (level_limit - frame.levels) frame.parent span.start last span.start span.end))
+      → Opened classes text a b span frame → after ≡ sets table (frame.number * address_record_size) (record_bytes (record_by 1 (level_limit - frame.level.left) frame.level.parent span.start last span.start span.end))
       → AddressRead classes text xs frame span.start table after ahead last (frame.number + 1)
   mailbox_read {xs} {p} {a} {b} {last} {span} {frame} table after ahead n m o e =
       record {
         tree = mailbox p m.nodes;
-        reads = λ h c. ap (run (levels_here h + frame.levels) (begin h)) (n.yields ∙ ap (phrase_then p) m.yields) ∙ run_mailbox (levels_here h + frame.levels) h p m.nodes (symbols_ahead classes text ahead);
+        reads = λ h c. ap (run (levels_here h + frame.level.left) (begin h)) (n.yields ∙ ap (phrase_then p) m.yields) ∙ run_mailbox (levels_here h + frame.level.left) h p m.nodes (symbols_ahead classes text ahead);
         ends = m.ends;
         ahead_ok = m.ahead_ok;
         last_is = sym m.end_is;
@@ -60,19 +60,19 @@ module _ (classes text : List ℕ) where
         rest = s.rest;
         number_is = s.number_is;
         place_is = s.place_is;
-        stops = λ h c. ap judge (ap (run (levels_here h + frame.levels) (begin h)) n.yields ∙ run_phrase (levels_here h + frame.levels) h p _) ∙ s.stops record { limit = levels_here h + frame.levels; here = h; phrase = p };
+        stops = λ h c. ap judge (ap (run (levels_here h + frame.level.left) (begin h)) n.yields ∙ run_phrase (levels_here h + frame.level.left) h p _) ∙ s.stops record { limit = levels_here h + frame.level.left; here = h; phrase = p };
       }
 
   -- ---- one quoted-string alone
 
   pub lone_read : {xs : List Sym} (p : Phrase) {span : Span} {frame : Frame} (table after : List ℕ) (ahead : Next) → Named classes text xs span p ahead → lone_quoted p ≡ true → ends_address_next ahead ≡ true → Lone classes text ahead span frame
-      → after ≡ sets table (frame.number * address_record_size) (record_bytes (record_by 4 (level_limit - frame.levels) frame.parent span.start span.end span.start span.end))
+      → after ≡ sets table (frame.number * address_record_size) (record_bytes (record_by 4 (level_limit - frame.level.left) frame.level.parent span.start span.end span.start span.end))
       → AddressRead classes text xs frame span.start table after ahead span.end (frame.number + 1)
   lone_read (one (atom_word t)) table after ahead n q z o e = absurd (true≢false (sym q))
   lone_read {xs} (one (quoted_word t)) {span} {frame} table after ahead n q z o e =
       record {
         tree = quoted t;
-        reads = λ h c. ap (run (levels_here h + frame.levels) (begin h)) n.yields ∙ run_phrase (levels_here h + frame.levels) h (one (quoted_word t)) (symbols_ahead classes text ahead);
+        reads = λ h c. ap (run (levels_here h + frame.level.left) (begin h)) n.yields ∙ run_phrase (levels_here h + frame.level.left) h (one (quoted_word t)) (symbols_ahead classes text ahead);
         ends = ends_next classes text span.end ahead o.ahead_ok z;
         ahead_ok = o.ahead_ok;
         last_is = sym n.end_is;
@@ -112,7 +112,7 @@ module _ (classes text : List ℕ) where
         rest = [];
         number_is = refl;
         place_is = refl;
-        stops = λ h c. ap judge (ap (run (levels_here h + frame.levels) (begin h)) y ∙ run_phrase (levels_here h + frame.levels) h p []) ∙ end_phrase (levels_here h + frame.levels) h p e;
+        stops = λ h c. ap judge (ap (run (levels_here h + frame.level.left) (begin h)) y ∙ run_phrase (levels_here h + frame.level.left) h p []) ∙ end_phrase (levels_here h + frame.level.left) h p e;
       }
 
   pub lone_stops : {xs : List Sym} (p : Phrase) {span : Span} (frame : Frame) (start : ℕ) (table after : List ℕ) (ahead : Next) → Named classes text xs span p ahead → NoMark classes text ahead
@@ -123,8 +123,8 @@ module _ (classes text : List ℕ) where
         rest = symbols_ahead classes text (Found x);
         number_is = refl;
         place_is = refl;
-        stops = λ h c. ap judge (ap (run (levels_here h + frame.levels) (begin h)) n.yields ∙ run_phrase (levels_here h + frame.levels) h p _)
-            ∙ behind_phrase (levels_here h + frame.levels) h p x.class (lexeme_at classes text x.class x.start x.end x.apart) (symbols_from classes text x.end) f o;
+        stops = λ h c. ap judge (ap (run (levels_here h + frame.level.left) (begin h)) n.yields ∙ run_phrase (levels_here h + frame.level.left) h p _)
+            ∙ behind_phrase (levels_here h + frame.level.left) h p x.class (lexeme_at classes text x.class x.start x.end x.apart) (symbols_from classes text x.end) f o;
       }
   lone_stops p frame start table after Ended n f (inr e) = absurd (true≢false e)
   lone_stops p frame start table after Ended n f (inl e) = lone_ends p frame n.yields e
@@ -145,5 +145,5 @@ module _ (classes text : List ℕ) where
         rest = symbols_on classes text class a b apart;
         number_is = refl;
         place_is = refl;
-        stops = λ h c. begins_none_lem (levels_here h + frame.levels) h class (lexeme_at classes text class a b apart) (symbols_from classes text b) o;
+        stops = λ h c. begins_none_lem (levels_here h + frame.level.left) h class (lexeme_at classes text class a b apart) (symbols_from classes text b) o;
       }

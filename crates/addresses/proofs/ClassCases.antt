@@ -8,13 +8,9 @@ use mir.Val.{has_key}
 use types.Run.{OneOf, miss}
 use denote.Enum.Declared.{tag_of}
 use Rattle.octets.proofs.Tables.{at}
-use Rattle.octets.specs.Believed.Choice.{either}
 use Rattle.octets.specs.Believed.Tests.{every}
 use Rattle.scanner.specs.contracts.Class as class-declared
 use Rattle.scanner.specs.contracts.Next as next-declared
-use Rattle.scanner.specs.contracts.cursor.Ahead as ahead-declared
-use Rattle.scanner.specs.declared.cursor.Ahead.{Ahead}
-use Rattle.scanner.specs.declared.cursor.Ahead.TheVariants.{Symbol, End, Faulty}
 use Rattle.scanner.specs.declared.Next.{Next}
 use Rattle.scanner.specs.declared.Next.TheVariants.{Found, Ended, Fault}
 use Rattle.grammar.proofs.Rfc733.Readers.{ends_address}
@@ -67,21 +63,34 @@ no_symbol f a e g (Found symbol) o = absurd (miss (1 ∷ 2 ∷ []) 0 tt o)
 no_symbol f a e g Ended o = e
 no_symbol f a e g (Fault number p) o = g number p
 
--- .. of what stands ahead
-pub no_symbol_ahead : {A : Type 0} (f : Ahead → A) (a : A) → f End ≡ a → f Faulty ≡ a → (r : Ahead) → OneOf (1 ∷ 2 ∷ []) (tag_of ahead-declared.the_type r) → f r ≡ a
-no_symbol_ahead f a e g (Symbol class) o = absurd (miss (1 ∷ 2 ∷ []) 0 tt o)
-no_symbol_ahead f a e g End o = e
-no_symbol_ahead f a e g Faulty o = g
-
 -- a class that begins no address and does not end one: "at", or what fits no rule
 abbrev pub begins_none : Class → Bool
 begins_none c = one_of (At ∷ Stray ∷ Dot ∷ Literal ∷ []) c
 
-pub at_or_stray : (class : Class) → OneOf (2 ∷ 4 ∷ 5 ∷ 6 ∷ 8 ∷ 9 ∷ 10 ∷ []) (tag class) → ends_address class ≡ false → begins_none class ≡ true
-at_or_stray class o e = rw e at (by_class (2 ∷ 4 ∷ 5 ∷ 6 ∷ 8 ∷ 9 ∷ 10 ∷ []) (λ c. either (ends_address c) (begins_none c)) tt class o)
+-- what neither ends an address nor begins one
+pub begins_none_lem : (class : Class) → ends_address class ≡ false → (class ≡ Atom → ⊥) → (class ≡ Quoted → ⊥) → (class ≡ LessThan → ⊥) → (class ≡ Colon → ⊥) → begins_none class ≡ true
+begins_none_lem Atom e a q l c = absurd (a refl)
+begins_none_lem Quoted e a q l c = absurd (q refl)
+begins_none_lem At e a q l c = refl
+begins_none_lem LessThan e a q l c = absurd (l refl)
+begins_none_lem GreaterThan e a q l c = absurd (true≢false e)
+begins_none_lem Comma e a q l c = absurd (true≢false e)
+begins_none_lem Semicolon e a q l c = absurd (true≢false e)
+begins_none_lem Colon e a q l c = absurd (c refl)
+begins_none_lem Stray e a q l c = refl
+begins_none_lem Dot e a q l c = refl
+begins_none_lem Literal e a q l c = refl
 
--- a class that does not end an address, and is not "at", does not follow a node
-pub not_follows : (class : Class) → OneOf (0 ∷ 1 ∷ 3 ∷ 4 ∷ 5 ∷ 6 ∷ 7 ∷ 8 ∷ 9 ∷ 10 ∷ []) (tag class) → ends_address class ≡ false → one_of (At ∷ GreaterThan ∷ Comma ∷ Semicolon ∷ []) class ≡ false
-not_follows class o e =
-    let b = by_class (0 ∷ 1 ∷ 3 ∷ 4 ∷ 5 ∷ 6 ∷ 7 ∷ 8 ∷ 9 ∷ 10 ∷ []) (λ c. either (ends_address c) (not (one_of (At ∷ GreaterThan ∷ Comma ∷ Semicolon ∷ []) c))) tt class o in
-    rw e (is_false _ (rw e at b))
+-- what does not end an address
+pub ends_not : (class : Class) → (class ≡ Comma → ⊥) → (class ≡ GreaterThan → ⊥) → (class ≡ Semicolon → ⊥) → ends_address class ≡ false
+ends_not Atom c g s = refl
+ends_not Quoted c g s = refl
+ends_not At c g s = refl
+ends_not LessThan c g s = refl
+ends_not GreaterThan c g s = absurd (g refl)
+ends_not Comma c g s = absurd (c refl)
+ends_not Semicolon c g s = absurd (s refl)
+ends_not Colon c g s = refl
+ends_not Stray c g s = refl
+ends_not Dot c g s = refl
+ends_not Literal c g s = refl

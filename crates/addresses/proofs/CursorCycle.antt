@@ -1,41 +1,38 @@
--- What a cursor tells in the functions that call each other. Assumes nothing.
-use mathlib.Core.Path.{◌≡◌, refl, sym, ap, ◌∙◌}
+-- What a walk tells in the functions that call each other. Assumes nothing.
+use mathlib.Core.Path.{◌≡◌, refl, ap, ◌∙◌}
 use mathlib.Core.Bool.{Bool, true, false, true≢false}
-use mathlib.Core.List.{List, [], ◌∷◌}
+use mathlib.Core.List.{List}
 use mathlib.Core.Option.{none}
-use types.Run.{OneOf, miss}
-use denote.Enum.Declared.{tag_of}
-use Rattle.scanner.specs.contracts.cursor.Ahead as ahead-declared
 use Prim.Native.Nat.{ℕ, suc, ◌+◌, ◌*◌, ◌-◌, ◌≤◌, ◌<◌}
 use native.Mathlib.Omega.{arith}
-use lib.ListN.{length, set, get_or}
+use lib.ListN.{length}
 use lib.Seq.{sets}
-use Rattle.octets.specs.Believed.Numbers.{too_many_levels, level_limit}
-use Rattle.octets.specs.Believed.Classes.{colon}
+use Rattle.std.specs.Prelude.{Result, Ok, Err}
+use Rattle.octets.specs.Believed.Numbers.{level_limit}
 use Rattle.octets.specs.Believed.Text.{part}
 use Rattle.octets.specs.declared.answers.Answer.{Answer}
+use Rattle.addresses.specs.declared.Refusal.{Refusal}
+use Rattle.addresses.specs.declared.Refusal.TheVariants.{TooDeep}
 use Rattle.records.specs.Believed.AddressRecords.{record_by, record_bytes, address_record_size}
 use Rattle.records.specs.declared.Span.{Span}
 use Rattle.scanner.specs.Believed.Answers.{found_at}
-use Rattle.scanner.specs.Ties.Cursors.{cursor_size, fault_number, placed, ahead_of, next_from, apart_in, next_in}
+use Rattle.scanner.specs.Ties.Cursors.{next_from, apart_in, next_in}
 use Rattle.scanner.specs.declared.Next.{Next}
 use Rattle.scanner.specs.declared.Next.TheVariants.{Found, Ended, Fault}
 use Rattle.scanner.specs.declared.cursor.Ahead.{Ahead}
 use Rattle.scanner.specs.declared.cursor.Ahead.TheVariants.{Symbol, End, Faulty}
-use Rattle.scanner.proofs.CursorLaws.{each_cursor, Keeps, keeps_sixth}
-use Rattle.grammar.specs.Believed.Rfc733.{same_class, kind_number, typed_kind}
-use Rattle.grammar.proofs.Symbols.{same_class_lem}
-use Rattle.grammar.specs.Executable.Trees733.{Class, At, Comma, Colon}
+use Rattle.grammar.specs.Believed.Rfc733.{kind_number, typed_kind}
+use Rattle.grammar.specs.Executable.Trees733.{Class, Quoted, At, LessThan, Comma, Colon}
 use Rattle.grammar.proofs.Rfc733.Readers.{ListEnds, ends_address}
-use Rattle.addresses.specs.declared.TypedAtom.{TypedAtom}
-use Rattle.addresses.specs.declared.TypedAtom.TheVariants.{Typed, Nameless}
 use Rattle.addresses.specs.declared.Enclosure.{Enclosure}
 use Rattle.addresses.specs.declared.Enclosure.TheVariants.{Angle, Group}
-use Rattle.addresses.specs.Ties.Steps.{is_quoted, ends_ahead, refused_next, opening, enclosure_of, free_in, last_in, frame_at, reading, symbols_on, symbols_ahead, fault_from, fault_ahead, GoesOn, Onward, Comes, PhraseIs, NoMark, LoneAhead, LoneIs, Ready, MarkAhead, MailboxIs, EnclosedIs, CloseIs, inner, AddressIs, AddressAhead, NamedFirst, ColonFirst, TypedFirst, TypedAhead, TypedIs, TypedOn, NamelessOn, TypedAtomIs, ListReads, ListIs, Entered, BeginsAddress}
+use Rattle.addresses.specs.declared.Level.{Level as Left}
+use Rattle.addresses.specs.declared.Walk.{Walk}
+use Rattle.addresses.specs.Ties.Steps.{coming, told, is_ahead, ends_ahead, refused_next, opening, frame_at, reading, symbols_on, symbols_ahead, fault_from, fault_ahead, Onward, Comes, PhraseIs, NoMark, LoneAhead, LoneIs, Ready, MarkAhead, MailboxIs, EnclosedIs, CloseIs, inner, AddressIs, AddressAhead, NamedFirst, ColonFirst, TypedFirst, TypedAhead, TypedIs, TypedOn, NamelessOn, ListIs, Entered, BeginsAddress}
 use Rattle.addresses.proofs.NextLaws.{NextIs}
-use Rattle.addresses.proofs.ClassCases.{tag, by_class, begins_none}
-use Rattle.addresses.proofs.CursorSteps.{found_in, ends_in, refusal_at, refused_symbol, Stepped, met}
-use Rattle.addresses.proofs.CursorReads.{refused_onward}
+use Rattle.addresses.proofs.ClassCases.{begins_none}
+use Rattle.addresses.proofs.CursorSteps.{with_cursor, with_free, found_in, ends_in, Stepped, met}
+use Rattle.addresses.proofs.CursorReads.{as_told}
 use Rattle.addresses.proofs.NamedLaws.{no_mark_found, named_is, named_lone, named_opening, named_before}
 use Rattle.addresses.proofs.AddressLaws.{none_begins}
 use Rattle.addresses.proofs.EnclosedLaws.{deep_stops, inside_stops, typed_deep, typed_wanted, typed_stops, typed_read}
@@ -43,219 +40,151 @@ use Rattle.addresses.proofs.ListLaws.{ListSoFar, list_start, list_comma, list_ad
 
 module _ (classes text : List ℕ) where
   -- what goes on from one fault goes on from an equal one
-  pub onward_from : {fault other : Answer} → fault ≡ other → (r : Bool) (cursor : List ℕ) → Onward classes text other r cursor → Onward classes text fault r cursor
-  onward_from e true cursor o = record { same = e ∙ o.same; sized = o.sized }
-  onward_from e false cursor o = tt
+  pub onward_from : {first other : Answer} → first ≡ other → (r : Result Unit Refusal) (walk : Walk) → Onward classes text other r walk → Onward classes text first r walk
+  onward_from e (Ok u) walk o = e ∙ o
+  onward_from e (Err why) walk o = tt
 
   -- ---- an address
 
   -- no address begins with what stands ahead
-  pub none_ahead : (before : List ℕ) (levels parent : ℕ) {class : Class} → ahead_of (get_or before 0 0) ≡ Symbol class → begins_none class ≡ true → (table : List ℕ) (r : Bool) (after : List ℕ) → reading r after ≡ refused_next (length text) (next_in before)
-      → AddressAhead classes text before levels parent table table r after
-  none_ahead before levels parent {class} e b table r after q = (
-    rw (q ∙ refused_symbol (length text) before e, found_in before e) (none_begins classes text class (get_or before 1 0) (get_or before 2 0) (apart_in before) (frame_at levels parent before) b),
-    refused_onward classes text (fault_from classes text (get_or before 2 0)) (length text) (next_in before) r after q,
+  pub none_ahead : (before : Walk) (level : Left) {class : Class} → before.cursor.ahead ≡ Symbol class → begins_none class ≡ true → (table : List ℕ) (why : Refusal) (after : Walk) → told (length text) why after ≡ refused_next (length text) (coming before)
+      → AddressAhead classes text before level table table (Err why) after
+  none_ahead before level {class} e b table why after q = (
+    as_told classes text (symbols_ahead classes text (coming before)) (frame_at level before) before.cursor.start table table q (rw (found_in before.cursor e) (none_begins classes text class before.cursor.start before.cursor.end (apart_in before.cursor) (frame_at level before) b)),
+    tt,
   )
 
-  -- the mark of an enclosed list opens what it says
-  pub opens : (class : Class) → OneOf (3 ∷ 7 ∷ []) (tag class) → Symbol class ≡ Symbol (opening (enclosure_of (Symbol class)))
-  opens class o = ap Symbol (sym (same_class_lem (opening (enclosure_of (Symbol class))) class (by_class (3 ∷ 7 ∷ []) (λ c. same_class (opening (enclosure_of (Symbol c))) c) tt class o)))
-
-  pub enclosed_as : (before : List ℕ) (levels parent : ℕ) {a : Ahead} (name : Span) (table after : List ℕ) (r : Bool) (cursor : List ℕ) → ahead_of (get_or before 0 0) ≡ a
-      → EnclosedIs classes text before levels parent (enclosure_of (ahead_of (get_or before 0 0))) name table after r cursor → EnclosedIs classes text before levels parent (enclosure_of a) name table after r cursor
-  enclosed_as before levels parent name table after r cursor e x = rw e at x
-
   -- an angle list without a name
-  pub angle_ahead : (before : List ℕ) (levels parent : ℕ) → ahead_of (get_or before 0 0) ≡ Symbol (opening Angle) → (table after : List ℕ) (r : Bool) (cursor : List ℕ)
-      → EnclosedIs classes text before levels parent Angle record { start = get_or before 1 0; end = get_or before 1 0 } table after r cursor → AddressAhead classes text before levels parent table after r cursor
-  angle_ahead before levels parent e table after r cursor x = (rw (found_in before e) (x.0 _ record { name = none; apart = apart_in before; yields = refl; start_is = refl; end_is = refl; house = tt }), x.1)
+  pub angle_ahead : (before : Walk) (level : Left) → before.cursor.ahead ≡ Symbol (opening Angle) → (table after : List ℕ) (r : Result Unit Refusal) (walk : Walk)
+      → EnclosedIs classes text before level Angle record { start = before.cursor.start; end = before.cursor.start } table after r walk → AddressAhead classes text before level table after r walk
+  angle_ahead before level e table after r walk x = (rw (found_in before.cursor e) (x.0 _ record { name = none; apart = apart_in before.cursor; yields = refl; start_is = refl; end_is = refl; house = tt }), x.1)
 
   -- no symbol stands ahead: none that follows a phrase, and none after a list
-  end_from : (a : Ahead) → OneOf (1 ∷ 2 ∷ []) (tag_of ahead-declared.the_type a) → (s e n : ℕ) (b : Bool) → NoMark classes text (next_from a s e n b) × ListEnds (symbols_ahead classes text (next_from a s e n b))
-  end_from (Symbol class) o = absurd (miss (1 ∷ 2 ∷ []) 0 tt o)
+  end_from : (a : Ahead) → ((class : Class) → a ≡ Symbol class → ⊥) → (s e n : ℕ) (b : Bool) → NoMark classes text (next_from a s e n b) × ListEnds (symbols_ahead classes text (next_from a s e n b))
+  end_from (Symbol class) o = absurd (o class refl)
   end_from End o = λ s e n b. (tt, tt)
-  end_from Faulty o = λ s e n b. (tt, tt)
+  end_from (Faulty f) o = λ s e n b. (tt, tt)
 
-  pub end_ahead : (cursor : List ℕ) {a : Ahead} → a ≡ ahead_of (get_or cursor 0 0) → OneOf (1 ∷ 2 ∷ []) (tag_of ahead-declared.the_type a) → NoMark classes text (next_in cursor) × ListEnds (symbols_ahead classes text (next_in cursor))
+  pub end_ahead : (walk : Walk) → ((class : Class) → walk.cursor.ahead ≡ Symbol class → ⊥) → NoMark classes text (coming walk) × ListEnds (symbols_ahead classes text (coming walk))
   unfolding next_in
-  end_ahead cursor {a} e o = rw (← e) (end_from a o (get_or cursor 1 0) (get_or cursor 2 0) (get_or cursor 3 0) (apart_in cursor))
+  end_ahead walk o = let c = walk.cursor in end_from c.ahead o c.start c.end c.length (apart_in c)
 
   -- ---- an address that begins with a word
 
-  module _ (before now : List ℕ) {levels parent : ℕ} {quoted lone : Bool} (p : NamedFirst classes text before levels parent) (q : quoted ≡ is_quoted p.class) (w : PhraseIs classes text before quoted lone now) where
+  module _ (before now : Walk) {level : Left} {quoted lone : Bool} (p : NamedFirst classes text before level) (q : quoted ≡ is_ahead Quoted before.cursor.ahead) (w : PhraseIs classes text before quoted lone now) where
     abbrev the_name : Span
-    the_name = record { start = get_or before 1 0; end = last_in now }
+    the_name = record { start = before.cursor.start; end = now.last }
 
-    ready_still : Ready classes text (frame_at levels parent now) (get_or before 1 0)
+    ready_still : Ready classes text (frame_at level now) before.cursor.start
     ready_still = record { short = p.ready.short; levels_low = p.ready.levels_low; number_low = omega (arith, w.free_kept, p.ready.number_low) }
 
-    pub lone_ahead : NoMark classes text (next_in now) → LoneAhead classes text now levels parent the_name
+    pub lone_ahead : NoMark classes text (coming now) → LoneAhead classes text now level the_name
     lone_ahead n =
         record {
           lone = record { no_mark = n; ahead_ok = w.words.ahead_ok; not_empty = omega (arith, p.first.stands.starts, w.words.from); within = w.words.within; ready = ready_still };
           last_is = refl;
-          sized = w.goes_on.sized;
         }
 
-    pub mark_ahead : {mark : Class} → ahead_of (get_or now 0 0) ≡ Symbol mark → MarkAhead classes text now levels parent the_name
-    mark_ahead {mark} e =
-        let x : Comes classes text (last_in now) (found_at mark (get_or now 1 0) (get_or now 2 0) (get_or now 3 0) (apart_in now)) = rw (found_in now e) at w.words.ahead_ok in
-        record { opened = record { stands = x.1; behind = omega (arith, p.first.stands.starts, w.words.from, x.0); ready = ready_still }; sized = w.goes_on.sized }
+    comes_mark : {mark : Class} → now.cursor.ahead ≡ Symbol mark → Comes classes text now.last (found_at mark now.cursor.start now.cursor.end now.cursor.length (apart_in now.cursor))
+    comes_mark e = rw (found_in now.cursor e) at w.words.ahead_ok
+
+    pub mark_ahead : {mark : Class} → now.cursor.ahead ≡ Symbol mark → MarkAhead classes text now level the_name
+    mark_ahead e =
+        let x = comes_mark e in
+        record { stands = x.1; behind = omega (arith, p.first.stands.starts, w.words.from, x.0); ready = ready_still }
 
     -- what follows stands after the first word
-    pub mark_later : {mark : Class} → ahead_of (get_or now 0 0) ≡ Symbol mark → get_or before 2 0 < get_or now 2 0
-    mark_later {mark} e =
-        let x : Comes classes text (last_in now) (found_at mark (get_or now 1 0) (get_or now 2 0) (get_or now 3 0) (apart_in now)) = rw (found_in now e) at w.words.ahead_ok in
-        omega (arith, w.words.from, x.0, x.1.starts)
+    pub mark_later : {mark : Class} → now.cursor.ahead ≡ Symbol mark → before.cursor.end < now.cursor.end
+    mark_later e = let x = comes_mark e in omega (arith, w.words.from, x.0, x.1.starts)
 
     -- a symbol that is no mark
-    pub no_mark_ahead : {mark : Class} → ahead_of (get_or now 0 0) ≡ Symbol mark → OneOf (0 ∷ 1 ∷ 4 ∷ 5 ∷ 6 ∷ 8 ∷ 9 ∷ 10 ∷ []) (tag mark) → NoMark classes text (next_in now)
-    no_mark_ahead {mark} e o = rw (found_in now e) (no_mark_found classes text mark o (rw (found_in now e) at w.words.no_word))
+    pub no_mark_ahead : {mark : Class} → now.cursor.ahead ≡ Symbol mark → (mark ≡ At → ⊥) → (mark ≡ LessThan → ⊥) → (mark ≡ Colon → ⊥) → NoMark classes text (coming now)
+    no_mark_ahead {mark} e a l c = rw (found_in now.cursor e) (no_mark_found classes text mark a l c (rw (found_in now.cursor e) at w.words.no_word))
 
-    pub from_lone : (table after : List ℕ) (r : Bool) (cursor : List ℕ) → LoneIs classes text now levels parent lone the_name table after r cursor → AddressAhead classes text before levels parent table after r cursor
-    from_lone table after r cursor x = (
-      rw (found_in before p.ahead_is, ← w.free_kept)
-          (x.0 _ _ (named_is classes text p.class (apart_in before) p.first w.words) (named_lone classes text p.class (get_or before 1 0) (get_or before 2 0) (apart_in before) q w.words)),
-      onward_from w.goes_on.same r cursor x.1,
+    pub from_lone : (table after : List ℕ) (r : Result Unit Refusal) (walk : Walk) → LoneIs classes text now level lone the_name table after r walk → AddressAhead classes text before level table after r walk
+    from_lone table after r walk x = (
+      rw (found_in before.cursor p.ahead_is, ← w.free_kept)
+          (x.0 _ _ (named_is classes text p.class (apart_in before.cursor) p.first w.words) (named_lone classes text p.class before.cursor.start before.cursor.end (apart_in before.cursor) (q ∙ ap (is_ahead Quoted) p.ahead_is) w.words)),
+      onward_from w.goes_on r walk x.1,
     )
 
-    pub from_mailbox : ahead_of (get_or now 0 0) ≡ Symbol At → (table after : List ℕ) (r : Bool) (cursor : List ℕ) → MailboxIs classes text now levels parent the_name table after r cursor → AddressAhead classes text before levels parent table after r cursor
-    from_mailbox e table after r cursor x = (
-      rw (found_in before p.ahead_is, ← w.free_kept) (x.0 _ _ (named_before classes text (named_is classes text p.class (apart_in before) p.first w.words) (found_in now e))),
-      onward_from (w.goes_on.same ∙ ap (fault_ahead classes text) (found_in now e)) r cursor x.1,
+    pub from_mailbox : now.cursor.ahead ≡ Symbol At → (table after : List ℕ) (r : Result Unit Refusal) (walk : Walk) → MailboxIs classes text now level the_name table after r walk → AddressAhead classes text before level table after r walk
+    from_mailbox e table after r walk x = (
+      rw (found_in before.cursor p.ahead_is, ← w.free_kept) (x.0 _ _ (named_before classes text (named_is classes text p.class (apart_in before.cursor) p.first w.words) (found_in now.cursor e))),
+      onward_from (w.goes_on ∙ ap (fault_ahead classes text) (found_in now.cursor e)) r walk x.1,
     )
 
-    pub from_enclosed : (enclosure : Enclosure) → ahead_of (get_or now 0 0) ≡ Symbol (opening enclosure) → (table after : List ℕ) (r : Bool) (cursor : List ℕ) → EnclosedIs classes text now levels parent enclosure the_name table after r cursor
-        → AddressAhead classes text before levels parent table after r cursor
-    from_enclosed enclosure e table after r cursor x = (
-      rw (found_in before p.ahead_is, ← w.free_kept) (x.0 _ (named_opening classes text enclosure (named_before classes text (named_is classes text p.class (apart_in before) p.first w.words) (found_in now e)))),
-      onward_from (w.goes_on.same ∙ ap (fault_ahead classes text) (found_in now e)) r cursor x.1,
+    pub from_enclosed : (enclosure : Enclosure) → now.cursor.ahead ≡ Symbol (opening enclosure) → (table after : List ℕ) (r : Result Unit Refusal) (walk : Walk) → EnclosedIs classes text now level enclosure the_name table after r walk
+        → AddressAhead classes text before level table after r walk
+    from_enclosed enclosure e table after r walk x = (
+      rw (found_in before.cursor p.ahead_is, ← w.free_kept) (x.0 _ (named_opening classes text enclosure (named_before classes text (named_is classes text p.class (apart_in before.cursor) p.first w.words) (found_in now.cursor e)))),
+      onward_from (w.goes_on ∙ ap (fault_ahead classes text) (found_in now.cursor e)) r walk x.1,
     )
 
   -- ---- an enclosed list
 
-  module _ (before : List ℕ) (levels parent : ℕ) (enclosure : Enclosure) (name : Span) (p : MarkAhead classes text before levels parent name) where
-    pub enclosed_deep : levels ≡ 0 → (table after : List ℕ) → after ≡ placed fault_number (get_or before 1 0) too_many_levels 0 before → EnclosedIs classes text before levels parent enclosure name table table false after
-    enclosed_deep z table after e =
-        let x = refusal_at before p.sized too_many_levels (get_or before 1 0) e in
-        (λ xs o. rw (x.0, x.1) (deep_stops classes text enclosure (frame_at levels parent before) o z), tt)
+  -- the level of what lies in an address whose record is the next free one
+  abbrev pub inside : Left → Walk → Left
+  inside level walk = record { left = level.left - 1; parent = walk.free + 1 }
 
-    kept : Keeps before (set before 5 (free_in before + 1)) (free_in before + 1) (last_in before)
-    kept = keeps_sixth before p.sized (free_in before + 1)
+  -- its number is taken
+  abbrev pub entering : Walk → Walk
+  entering walk = with_free walk (walk.free + 1)
 
-    pub list_from : get_or (set before 5 (free_in before + 1)) 2 0 ≡ get_or before 2 0
-    list_from = kept.end
+  module _ (before : Walk) (level : Left) (enclosure : Enclosure) (name : Span) (p : MarkAhead classes text before level name) where
+    pub enclosed_deep : level.left ≡ 0 → (table : List ℕ) → EnclosedIs classes text before level enclosure name table table (Err TooDeep) before
+    enclosed_deep z table = (λ xs o. deep_stops classes text enclosure (frame_at level before) o z, tt)
 
-    pub entered_in : (levels ≡ 0 → ⊥) → Entered classes text (set before 5 (free_in before + 1)) (levels - 1) (free_in before + 1)
+    pub entered_in : (level.left ≡ 0 → ⊥) → Entered classes text (entering before) (inside level before)
     entered_in n =
         record {
-          inside = omega (arith, kept.end, p.opened.stands.within);
-          ready = record { short = p.opened.ready.short; levels_low = omega (arith, p.opened.ready.levels_low); number_low = omega (arith, kept.sixth, kept.end, p.opened.ready.number_low, p.opened.behind, p.opened.stands.starts) };
-          sized = kept.sized;
+          inside = p.stands.within;
+          ready = record { short = p.ready.short; levels_low = omega (arith, p.ready.levels_low); number_low = omega (arith, p.ready.number_low, p.behind, p.stands.starts) };
         }
 
-    -- the list in it, told of the cursor before its number was taken
-    list_in : (table after : List ℕ) (r : Bool) (cursor : List ℕ) → ListReads classes text (get_or (set before 5 (free_in before + 1)) 2 0) (frame_at (levels - 1) (free_in before + 1) (set before 5 (free_in before + 1))) table after r cursor
-        → ListReads classes text (get_or before 2 0) (inner classes text (frame_at levels parent before)) table after r cursor
-    list_in table after r cursor x = rw (kept.end, kept.sixth) at x
+    pub enclosed_inside : (level.left ≡ 0 → ⊥) → (table after : List ℕ) (why : Refusal) (walk : Walk) → ListIs classes text (entering before) (inside level before) table after (Err why) walk → EnclosedIs classes text before level enclosure name table after (Err why) walk
+    enclosed_inside n table after why walk x = (λ xs o. inside_stops classes text enclosure (frame_at level before) o n x.0, tt)
 
-    pub enclosed_inside : (levels ≡ 0 → ⊥) → (table after : List ℕ) (cursor : List ℕ) → ListIs classes text (set before 5 (free_in before + 1)) (levels - 1) (free_in before + 1) table after false cursor → EnclosedIs classes text before levels parent enclosure name table after false cursor
-    enclosed_inside n table after cursor x = (
-      λ xs o. inside_stops classes text enclosure (frame_at levels parent before) o n (list_in table after false cursor x.0),
-      tt,
+    pub enclosed_done : (level.left ≡ 0 → ⊥) → (table between after : List ℕ) (now : Walk) (r : Result Unit Refusal) (walk : Walk) → ListIs classes text (entering before) (inside level before) table between (Ok tt) now
+        → CloseIs classes text now (frame_at level before) enclosure name between after r walk → EnclosedIs classes text before level enclosure name table after r walk
+    enclosed_done n table between after now r walk l x = (
+      λ xs o. x.0 xs before.cursor.start before.cursor.end l.0.last table o p n l.0.read,
+      onward_from l.1 r walk x.1,
     )
-
-    pub enclosed_done : (levels ≡ 0 → ⊥) → (table between after : List ℕ) (now : List ℕ) (r : Bool) (cursor : List ℕ) → ListIs classes text (set before 5 (free_in before + 1)) (levels - 1) (free_in before + 1) table between true now
-        → CloseIs classes text now (frame_at levels parent before) enclosure name between after r cursor → EnclosedIs classes text before levels parent enclosure name table after r cursor
-    enclosed_done n table between after now r cursor l x =
-        let d = list_in table between true now l.0 in (
-          λ xs o. x.0 xs (get_or before 1 0) (get_or before 2 0) d.last table o p.opened n d.read,
-          onward_from (ap (fault_from classes text) (sym kept.end) ∙ l.1.same) r cursor x.1,
-        )
 
   -- ---- ":"
 
-  module _ (before now : List ℕ) {levels parent : ℕ} (p : ColonFirst classes text before levels parent) where
-    module _ {first last : ℕ} (w : TypedOn classes text before first last now) where
-      abbrev the_atom : Span
-      the_atom = record { start = first; end = last }
-
-      typed_first : TypedFirst classes text (get_or before 1 0) (get_or before 2 0) the_atom (get_or now 2 0) (frame_at levels parent now)
+  module _ (before now : Walk) {level : Left} (p : ColonFirst classes text before level) where
+    module _ {atom : Span} (w : TypedOn classes text before atom now) where
+      typed_first : TypedFirst classes text before.cursor.start before.cursor.end atom now.cursor.end (frame_at level now)
       typed_first = record { stands = p.stands; ready = record { short = p.ready.short; levels_low = p.ready.levels_low; number_low = omega (arith, w.free_kept, p.ready.number_low) }; follows = w.follows }
 
-      pub typed_ahead : TypedAhead classes text now levels parent (get_or before 1 0) the_atom
-      typed_ahead = record { end = get_or before 2 0; first = typed_first; sized = w.sized }
+      pub typed_ahead : TypedAhead classes text now level before.cursor.start atom
+      typed_ahead = record { end = before.cursor.end; first = typed_first }
 
-      pub from_typed : (table after : List ℕ) (r : Bool) (cursor : List ℕ) → TypedIs classes text now levels parent (get_or before 1 0) the_atom table after r cursor → AddressAhead classes text before levels parent table after r cursor
-      from_typed table after r cursor x = (
-        rw (found_in before p.ahead_is, ← w.free_kept) (x.0 (get_or before 2 0) (apart_in before) typed_first),
-        onward_from w.faults r cursor x.1,
+      pub from_typed : (table after : List ℕ) (r : Result Unit Refusal) (walk : Walk) → TypedIs classes text now level before.cursor.start atom table after r walk → AddressAhead classes text before level table after r walk
+      from_typed table after r walk x = (
+        rw (found_in before.cursor p.ahead_is, ← w.free_kept) (x.0 before.cursor.end (apart_in before.cursor) typed_first),
+        onward_from w.faults r walk x.1,
       )
 
+    -- the ":" is ahead again
     module _ (w : NamelessOn classes text before now) where
-      abbrev put_back : List ℕ → List ℕ
-      put_back cursor = set (placed colon (get_or before 1 0) (get_or before 2 0) 1 cursor) 4 (get_or before 4 0)
+      abbrev pub back : Walk
+      back = with_cursor now before.cursor
 
-      abbrev back : List ℕ
-      back = put_back now
+      abbrev pub no_name : Span
+      no_name = record { start = before.cursor.start; end = before.cursor.start }
 
-      -- the ":" is ahead again
-      pub record Back : Type 0 where
-        pub start : get_or back 1 0 ≡ get_or before 1 0
-        pub end : get_or back 2 0 ≡ get_or before 2 0
-        pub free : free_in back ≡ free_in before
-        pub sized : length back ≡ cursor_size
-        pub class : get_or back 0 0 ≡ colon
-        pub apart : apart_in back ≡ apart_in before
-
-      put_back_lem : Back
-      put_back_lem =
-          let x = each_cursor (λ l. (get_or (put_back l) 1 0 ≡ get_or before 1 0) × (get_or (put_back l) 2 0 ≡ get_or before 2 0) × (free_in (put_back l) ≡ free_in l) × (length (put_back l) ≡ cursor_size) × (get_or (put_back l) 0 0 ≡ colon) × (apart_in (put_back l) ≡ apart_in before))
-          (λ a b c d e f g. (refl, refl, refl, refl, refl, refl)) now w.sized in
-          record { start = x.0; end = x.1; free = x.2 ∙ w.free_kept; sized = x.3; class = x.4; apart = x.5 }
-
-      abbrev no_name : Span
-      no_name = record { start = get_or before 1 0; end = get_or before 1 0 }
-
-      nameless_ahead : MarkAhead classes text back levels parent no_name
+      pub nameless_ahead : MarkAhead classes text back level no_name
       nameless_ahead =
-          record {
-            opened =
-                record {
-                  stands = record { starts = omega (arith, put_back_lem.start, put_back_lem.end, p.stands.starts); within = omega (arith, put_back_lem.end, p.stands.within) };
-                  behind = omega (arith, put_back_lem.start);
-                  ready = record { short = p.ready.short; levels_low = p.ready.levels_low; number_low = omega (arith, put_back_lem.free, p.ready.number_low) };
-                };
-            sized = put_back_lem.sized;
-          }
+          record { stands = p.stands; behind = omega arith; ready = record { short = p.ready.short; levels_low = p.ready.levels_low; number_low = omega (arith, w.free_kept, p.ready.number_low) } }
 
-      from_nameless : (table after : List ℕ) (r : Bool) (cursor : List ℕ) → EnclosedIs classes text back levels parent Group no_name table after r cursor → AddressAhead classes text before levels parent table after r cursor
-      from_nameless table after r cursor x = (
-        rw (found_in before p.ahead_is, ← put_back_lem.free) (x.0 _ record { name = none; apart = apart_in before; yields = rw (put_back_lem.start, put_back_lem.end); start_is = sym put_back_lem.start; end_is = sym put_back_lem.start; house = rw put_back_lem.end w.no_atom }),
-        onward_from (ap (fault_from classes text) (sym put_back_lem.end)) r cursor x.1,
+      pub from_nameless : (table after : List ℕ) (r : Result Unit Refusal) (walk : Walk) → EnclosedIs classes text back level Group no_name table after r walk → AddressAhead classes text before level table after r walk
+      from_nameless table after r walk x = (
+        rw (found_in before.cursor p.ahead_is, ← w.free_kept) (x.0 _ record { name = none; apart = apart_in before.cursor; yields = refl; start_is = refl; end_is = refl; house = w.no_atom }),
+        x.1,
       )
-
-    -- .. told of a cursor that was put back
-    module _ (w : NamelessOn classes text before now) (then : List ℕ) (e : then ≡ set (placed colon (get_or before 1 0) (get_or before 2 0) 1 now) 4 (get_or before 4 0)) where
-      pub nameless_end_at : get_or then 2 0 ≡ get_or before 2 0
-      nameless_end_at = rw e (put_back_lem w).end
-
-      nameless_group : ahead_of (get_or then 0 0) ≡ Symbol Colon
-      unfolding ahead_of
-      nameless_group = rw (e, (put_back_lem w).class) refl
-
-      pub nameless_ahead_at : MarkAhead classes text then levels parent record { start = get_or before 1 0; end = get_or before 1 0 }
-      nameless_ahead_at = rw e (nameless_ahead w)
-
-      pub from_nameless_at : (table after : List ℕ) (r : Bool) (cursor : List ℕ) → EnclosedIs classes text then levels parent (enclosure_of (ahead_of (get_or then 0 0))) record { start = get_or before 1 0; end = get_or before 1 0 } table after r cursor → AddressAhead classes text before levels parent table after r cursor
-      from_nameless_at table after r cursor x = from_nameless w table after r cursor (rw e at (enclosed_as then levels parent record { start = get_or before 1 0; end = get_or before 1 0 } table after r cursor nameless_group x))
-
-  -- what was found after the ":"
-  pub typed_on : (before now : List ℕ) {r : TypedAtom} {first last : ℕ} → r ≡ Typed first last → TypedAtomIs classes text before r now → TypedOn classes text before first last now
-  typed_on before now e x = rw e at x
-
-  pub nameless_on : (before now : List ℕ) {r : TypedAtom} → r ≡ Nameless → TypedAtomIs classes text before r now → NamelessOn classes text before now
-  nameless_on before now e x = rw e at x
 
   -- ---- a typed address
 
@@ -263,64 +192,55 @@ module _ (classes text : List ℕ) where
   begins_from : (a : Ahead) → ends_ahead a ≡ false → (class : Class) × (a ≡ Symbol class)
   begins_from (Symbol class) e = (class, refl)
   begins_from End e = absurd (true≢false e)
-  begins_from Faulty e = absurd (true≢false e)
+  begins_from (Faulty f) e = absurd (true≢false e)
 
-  module _ (before : List ℕ) (levels parent start : ℕ) (atom : Span) (p : TypedAhead classes text before levels parent start atom) where
-    pub typed_too_deep : levels ≡ 0 → (table after : List ℕ) → after ≡ placed fault_number start too_many_levels 0 before → TypedIs classes text before levels parent start atom table table false after
-    typed_too_deep z table after e =
-        let x = refusal_at before p.sized too_many_levels start e in
-        (λ end apart t. rw (x.0, x.1) (typed_deep classes text apart t z), tt)
+  module _ (before : Walk) (level : Left) (start : ℕ) (atom : Span) (p : TypedAhead classes text before level start atom) where
+    pub typed_too_deep : level.left ≡ 0 → (table : List ℕ) (after : Walk) → after.cursor.start ≡ start → TypedIs classes text before level start atom table table (Err TooDeep) after
+    typed_too_deep z table after e = (λ end apart t. rw e (typed_deep classes text apart t z), tt)
 
-    module _ (n : levels ≡ 0 → ⊥) (now : List ℕ) (x : Stepped classes text before now) where
-      pub typed_refused : ends_ahead (ahead_of (get_or now 0 0)) ≡ true → (table : List ℕ) (r : Bool) (after : List ℕ) → reading r after ≡ refused_next (length text) (next_in now) → TypedIs classes text before levels parent start atom table table r after
-      typed_refused e table r after q = (
-        λ end apart t. rw q (typed_wanted classes text apart t n (next_in now) x.next start table table (ends_in now e)),
-        refused_onward classes text (fault_from classes text (get_or before 2 0)) (length text) (next_in now) r after q,
-      )
+    module _ (n : level.left ≡ 0 → ⊥) (now : Walk) (x : Stepped classes text before now) where
+      pub typed_refused : ends_ahead now.cursor.ahead ≡ true → (table : List ℕ) (why : Refusal) (after : Walk) → told (length text) why after ≡ refused_next (length text) (coming now) → TypedIs classes text before level start atom table table (Err why) after
+      typed_refused e table why after q = (λ end apart t. as_told classes text (symbols_on classes text Colon start end apart) (frame_at level before) start table table q (typed_wanted classes text apart t n (coming now) x.next start table table (ends_in now.cursor e)), tt)
 
-      abbrev taken : List ℕ
-      taken = set now 5 (free_in now + 1)
+      module _ (e : ends_ahead now.cursor.ahead ≡ false) where
+        abbrev the_class : Class
+        the_class = (begins_from now.cursor.ahead e).0
 
-      kept_now : Keeps now taken (free_in now + 1) (last_in now)
-      kept_now = keeps_sixth now x.sized (free_in now + 1)
+        first : NextIs classes text before.cursor.end (found_at the_class now.cursor.start now.cursor.end now.cursor.length (apart_in now.cursor))
+        first = met classes text x (begins_from now.cursor.ahead e).1
 
-      module _ (e : ends_ahead (ahead_of (get_or now 0 0)) ≡ false) where
-        first : NextIs classes text (get_or before 2 0) (found_at (begins_from (ahead_of (get_or now 0 0)) e).0 (get_or now 1 0) (get_or now 2 0) (get_or now 3 0) (apart_in now))
-        first = met classes text x (begins_from (ahead_of (get_or now 0 0)) e).1
-
-        pub child_begins : BeginsAddress classes text taken (levels - 1) (free_in now + 1)
+        pub child_begins : BeginsAddress classes text (entering now) (inside level now)
         child_begins =
             let t = p.first in
             record {
-              begins = rw kept_now.class e;
-              stands = rw (kept_now.start, kept_now.end) first.ok.1;
+              begins = e;
+              stands = first.ok.1;
               ready =
                   record {
                     short = t.ready.short;
                     levels_low = omega (arith, t.ready.levels_low);
-                    number_low = omega (arith, kept_now.sixth, kept_now.start, x.free_kept, t.ready.number_low, t.stands.starts, t.follows.from, t.follows.atom_starts, t.follows.end_before, first.ok.0);
+                    number_low = omega (arith, x.free_kept, t.ready.number_low, t.stands.starts, t.follows.from, t.follows.atom_starts, t.follows.end_before, first.ok.0);
                   };
-              sized = kept_now.sized;
             }
 
         -- it stands further on
-        pub child_later : get_or before 2 0 ≤ get_or taken 1 0
-        child_later = omega (arith, kept_now.start, first.ok.0)
+        pub child_later : before.cursor.end ≤ now.cursor.start
+        child_later = first.ok.0
 
         -- the address in it, told of the symbol that was met
-        child_is : (table between : List ℕ) (r : Bool) (cursor : List ℕ) → AddressAhead classes text taken (levels - 1) (free_in now + 1) table between r cursor
-            → AddressIs classes text (symbols_ahead classes text (found_at (begins_from (ahead_of (get_or now 0 0)) e).0 (get_or now 1 0) (get_or now 2 0) (get_or now 3 0) (apart_in now))) (inner classes text (frame_at levels parent before)) (get_or now 1 0) table between (reading r cursor)
-        child_is table between r cursor a = rw (kept_now.ahead, found_in now (begins_from (ahead_of (get_or now 0 0)) e).1, kept_now.sixth, kept_now.start, x.free_kept) at a.0
+        child_is : (table between : List ℕ) (r : Result Unit Refusal) (walk : Walk) → AddressAhead classes text (entering now) (inside level now) table between r walk
+            → AddressIs classes text (symbols_ahead classes text (found_at the_class now.cursor.start now.cursor.end now.cursor.length (apart_in now.cursor))) (inner classes text (frame_at level before)) now.cursor.start table between (reading (length text) r walk)
+        child_is table between r walk a = rw (found_in now.cursor (begins_from now.cursor.ahead e).1, x.free_kept) at a.0
 
-        pub typed_inside : (table between : List ℕ) (cursor : List ℕ) → AddressAhead classes text taken (levels - 1) (free_in now + 1) table between false cursor → TypedIs classes text before levels parent start atom table between false cursor
-        typed_inside table between cursor a = (λ end apart t. typed_stops classes text apart t n first (child_is table between false cursor a), tt)
+        pub typed_inside : (table between : List ℕ) (why : Refusal) (walk : Walk) → AddressAhead classes text (entering now) (inside level now) table between (Err why) walk → TypedIs classes text before level start atom table between (Err why) walk
+        typed_inside table between why walk a = (λ end apart t. typed_stops classes text apart t n first (child_is table between (Err why) walk a), tt)
 
-        pub typed_done : (table between after : List ℕ) (cursor : List ℕ) → AddressAhead classes text taken (levels - 1) (free_in now + 1) table between true cursor
-            → after ≡ sets between (free_in now * address_record_size) (record_bytes (record_by (kind_number (typed_kind (part text atom.start atom.end))) (level_limit - levels) parent start (last_in cursor) atom.start atom.end))
-            → TypedIs classes text before levels parent start atom table after true cursor
-        typed_done table between after cursor a w = (
-          λ end apart t. typed_read classes text apart t n first table between after (child_is table between true cursor a) (rw x.free_kept at w),
-          record { same = first.faults ∙ ap (fault_from classes text) (sym kept_now.end) ∙ a.1.same; sized = a.1.sized },
+        pub typed_done : (table between after : List ℕ) (walk : Walk) → AddressAhead classes text (entering now) (inside level now) table between (Ok tt) walk
+            → after ≡ sets between (now.free * address_record_size) (record_bytes (record_by (kind_number (typed_kind (part text atom.start atom.end))) (level_limit - level.left) level.parent start walk.last atom.start atom.end))
+            → TypedIs classes text before level start atom table after (Ok tt) walk
+        typed_done table between after walk a w = (
+          λ end apart t. typed_read classes text apart t n first table between after (child_is table between (Ok tt) walk a) (rw x.free_kept at w),
+          first.faults ∙ a.1,
         )
 
   -- ---- a list
@@ -337,62 +257,61 @@ module _ (classes text : List ℕ) where
   left_falls (Fault number p) h k c = omega arith
 
   -- the list so far, up to some last symbol
-  pub record ListGoes (before : List ℕ) (levels parent : ℕ) (table after cursor : List ℕ) : Type 0 where
+  pub record ListGoes (before : Walk) (level : Left) (table after : List ℕ) (walk : Walk) : Type 0 where
     pub last : ℕ
-    pub so_far : ListSoFar classes text (get_or before 2 0) (frame_at levels parent before) table after (next_in cursor) last (free_in cursor)
-    pub goes_on : GoesOn classes text (fault_from classes text (get_or before 2 0)) cursor
+    pub so_far : ListSoFar classes text before.cursor.end (frame_at level before) table after (coming walk) last walk.free
+    pub goes_on : fault_from classes text before.cursor.end ≡ fault_ahead classes text (coming walk)
 
-  module _ {before : List ℕ} {levels parent : ℕ} where
-    pub goes_start : Entered classes text before levels parent → (table : List ℕ) {now : List ℕ} → Stepped classes text before now → ListGoes before levels parent table table now
+  module _ {before : Walk} {level : Left} where
+    pub goes_start : Entered classes text before level → (table : List ℕ) {now : Walk} → Stepped classes text before now → ListGoes before level table table now
     goes_start p table {now} x =
-        record { last = get_or before 2 0; so_far = rw x.free_kept (list_start classes text table (next_in now) p.inside p.ready.number_low x.next); goes_on = record { same = x.next.faults; sized = x.sized } }
+        record { last = before.cursor.end; so_far = rw x.free_kept (list_start classes text table (coming now) p.inside p.ready.number_low x.next); goes_on = x.next.faults }
 
-    module _ {table between cursor : List ℕ} (w : ListGoes before levels parent table between cursor) where
+    module _ {table between : List ℕ} {walk : Walk} (w : ListGoes before level table between walk) where
       -- the symbol ahead
-      at_symbol : {class : Class} → ahead_of (get_or cursor 0 0) ≡ Symbol class → ListSoFar classes text (get_or before 2 0) (frame_at levels parent before) table between (found_at class (get_or cursor 1 0) (get_or cursor 2 0) (get_or cursor 3 0) (apart_in cursor)) w.last (free_in cursor)
-      at_symbol e = rw (found_in cursor e) at w.so_far
+      at_symbol : {class : Class} → walk.cursor.ahead ≡ Symbol class → ListSoFar classes text before.cursor.end (frame_at level before) table between (found_at class walk.cursor.start walk.cursor.end walk.cursor.length (apart_in walk.cursor)) w.last walk.free
+      at_symbol e = rw (found_in walk.cursor e) at w.so_far
 
-      at_fault : {class : Class} → ahead_of (get_or cursor 0 0) ≡ Symbol class → fault_from classes text (get_or before 2 0) ≡ fault_from classes text (get_or cursor 2 0)
-      at_fault e = w.goes_on.same ∙ ap (fault_ahead classes text) (found_in cursor e)
+      at_fault : {class : Class} → walk.cursor.ahead ≡ Symbol class → fault_from classes text before.cursor.end ≡ fault_from classes text walk.cursor.end
+      at_fault e = w.goes_on ∙ ap (fault_ahead classes text) (found_in walk.cursor e)
 
-      pub goes_comma : ahead_of (get_or cursor 0 0) ≡ Symbol Comma → {now : List ℕ} → Stepped classes text cursor now → ListGoes before levels parent table between now
+      pub goes_comma : walk.cursor.ahead ≡ Symbol Comma → {now : Walk} → Stepped classes text walk now → ListGoes before level table between now
       goes_comma e {now} x =
-          record { last = get_or cursor 2 0; so_far = rw x.free_kept (list_comma classes text (next_in now) (at_symbol e) x.next); goes_on = record { same = at_fault e ∙ x.next.faults; sized = x.sized } }
+          record { last = walk.cursor.end; so_far = rw x.free_kept (list_comma classes text (coming now) (at_symbol e) x.next); goes_on = at_fault e ∙ x.next.faults }
 
-      pub comma_less : ahead_of (get_or cursor 0 0) ≡ Symbol Comma → {now : List ℕ} → Stepped classes text cursor now → left_of (next_in now) < left_of (next_in cursor)
+      pub comma_less : walk.cursor.ahead ≡ Symbol Comma → {now : Walk} → Stepped classes text walk now → left_of (coming now) < left_of (coming walk)
       comma_less e {now} x =
           let y = (at_symbol e).ahead_ok.1 in
-          rw (found_in cursor e) (left_falls (next_in now) y.starts y.within x.next.ok)
+          rw (found_in walk.cursor e) (left_falls (coming now) y.starts y.within x.next.ok)
 
-      module _ {class : Class} (e : ahead_of (get_or cursor 0 0) ≡ Symbol class) (f : ends_address class ≡ false) where
-        pub address_begins : Entered classes text before levels parent → BeginsAddress classes text cursor levels parent
+      module _ {class : Class} (e : walk.cursor.ahead ≡ Symbol class) (f : ends_address class ≡ false) where
+        pub address_begins : Entered classes text before level → BeginsAddress classes text walk level
         address_begins p =
             let y = at_symbol e in
             record {
               begins = ap ends_ahead e ∙ f;
               stands = y.ahead_ok.1;
               ready = record { short = p.ready.short; levels_low = p.ready.levels_low; number_low = omega (arith, y.free_low, y.ahead_ok.0) };
-              sized = w.goes_on.sized;
             }
 
-        pub address_later : get_or before 2 0 ≤ get_or cursor 1 0
+        pub address_later : before.cursor.end ≤ walk.cursor.start
         address_later = let y = at_symbol e in omega (arith, y.from, y.ahead_ok.0)
 
-        address_is : (after : List ℕ) (r : Bool) (now : List ℕ) → AddressAhead classes text cursor levels parent between after r now
-            → AddressIs classes text (symbols_on classes text class (get_or cursor 1 0) (get_or cursor 2 0) (apart_in cursor)) (frame_at levels parent cursor) (get_or cursor 1 0) between after (reading r now)
-        address_is after r now a = rw (found_in cursor e) at a.0
+        address_is : (after : List ℕ) (r : Result Unit Refusal) (now : Walk) → AddressAhead classes text walk level between after r now
+            → AddressIs classes text (symbols_on classes text class walk.cursor.start walk.cursor.end (apart_in walk.cursor)) (frame_at level walk) walk.cursor.start between after (reading (length text) r now)
+        address_is after r now a = rw (found_in walk.cursor e) at a.0
 
-        pub goes_stops : (after now : List ℕ) → AddressAhead classes text cursor levels parent between after false now → ListIs classes text before levels parent table after false now
-        goes_stops after now a = (list_stops classes text (at_symbol e) f (address_is after false now a), tt)
+        pub goes_stops : (after : List ℕ) (why : Refusal) (now : Walk) → AddressAhead classes text walk level between after (Err why) now → ListIs classes text before level table after (Err why) now
+        goes_stops after why now a = (list_stops classes text (at_symbol e) f (address_is after (Err why) now a), tt)
 
-        pub goes_address : (after now : List ℕ) → AddressAhead classes text cursor levels parent between after true now → ListGoes before levels parent table after now
+        pub goes_address : (after : List ℕ) (now : Walk) → AddressAhead classes text walk level between after (Ok tt) now → ListGoes before level table after now
         goes_address after now a =
-            record { last = last_in now; so_far = list_address classes text after (next_in now) (at_symbol e) f (address_is after true now a); goes_on = record { same = at_fault e ∙ a.1.same; sized = a.1.sized } }
+            record { last = now.last; so_far = list_address classes text after (coming now) (at_symbol e) f (address_is after (Ok tt) now a); goes_on = at_fault e ∙ a.1 }
 
-        pub address_less : (after now : List ℕ) → AddressAhead classes text cursor levels parent between after true now → left_of (next_in now) < left_of (next_in cursor)
+        pub address_less : (after : List ℕ) (now : Walk) → AddressAhead classes text walk level between after (Ok tt) now → left_of (coming now) < left_of (coming walk)
         address_less after now a =
-            let y = address_is after true now a in
-            rw (found_in cursor e) (left_falls (next_in now) y.from y.within y.ahead_ok)
+            let y = address_is after (Ok tt) now a in
+            rw (found_in walk.cursor e) (left_falls (coming now) y.from y.within y.ahead_ok)
 
-      pub goes_end : ListEnds (symbols_ahead classes text (next_in cursor)) → ListIs classes text before levels parent table between true cursor
-      goes_end z = (record { last = w.last; read = list_end classes text (next_in cursor) w.so_far z }, w.goes_on)
+      pub goes_end : ListEnds (symbols_ahead classes text (coming walk)) → ListIs classes text before level table between (Ok tt) walk
+      goes_end z = (record { last = w.last; read = list_end classes text (coming walk) w.so_far z }, w.goes_on)

@@ -1,31 +1,34 @@
--- What a cursor tells of what was read: phrases, nodes, typed atoms, and addresses without a list of their own. Assumes nothing.
-use mathlib.Core.Path.{◌≡◌, refl, sym, ap, ◌∙◌}
-use mathlib.Core.Bool.{Bool, true, false}
+-- What a walk tells of what was read: phrases, nodes, typed atoms, and addresses without a list of their own. Assumes nothing.
+use mathlib.Core.Path.{◌≡◌, refl, sym, ap, subst, ◌∙◌}
+use mathlib.Core.Bool.{Bool, true, false, true≢false}
 use mathlib.Core.Logic.{◌⊎◌, inl, inr}
 use mathlib.Core.List.{List}
 use Prim.Native.Nat.{ℕ, ◌+◌, ◌*◌, ◌-◌}
-use native.Mathlib.Omega.{arith}
-use lib.ListN.{length, set, get_or}
+use lib.ListN.{length}
 use lib.Seq.{sets}
+use Rattle.std.specs.Prelude.{Ok, Err}
 use Rattle.octets.specs.Believed.Numbers.{level_limit}
-use Rattle.octets.specs.declared.answers.Answer.{Answer}
+use Rattle.addresses.specs.declared.Refusal.{Refusal}
 use Rattle.records.specs.Believed.AddressRecords.{record_by, record_bytes, address_record_size}
 use Rattle.records.specs.declared.Span.{Span}
 use Rattle.scanner.specs.Believed.Answers.{found_at}
-use Rattle.scanner.specs.Ties.Cursors.{ahead_of, next_from, apart_in, next_in}
+use Rattle.scanner.specs.Ties.Cursors.{next_from, apart_in, next_in}
 use Rattle.scanner.specs.declared.Next.{Next}
 use Rattle.scanner.specs.declared.Next.TheVariants.{Found, Ended, Fault}
 use Rattle.scanner.specs.declared.cursor.Ahead.{Ahead}
 use Rattle.scanner.specs.declared.cursor.Ahead.TheVariants.{Symbol, End, Faulty}
-use Rattle.scanner.proofs.CursorLaws.{keeps_sixth, keeps_seventh}
+use Rattle.scanner.specs.declared.cursor.Cursor.{Cursor}
 use Rattle.grammar.specs.Believed.Rfc733.{same_class}
-use Rattle.grammar.specs.Executable.Trees733.{Class, Atom, Colon}
+use Rattle.grammar.specs.Executable.Trees733.{Class, Sym, Atom, Quoted, At, LessThan, GreaterThan, Comma, Semicolon, Colon, Stray, Dot, Literal}
+use Rattle.grammar.proofs.Rfc733.Readers.{ends_address}
 use Rattle.grammar.proofs.Rfc733.Trees.{atom_colon}
-use Rattle.addresses.specs.declared.Frame.{Frame}
 use Rattle.addresses.specs.declared.Enclosure.{Enclosure}
-use Rattle.addresses.specs.Ties.Steps.{Reading, Read, Refused, NodesRead, Stopped, is_word, word_ahead, ends_ahead, refused_next, free_in, last_in, frame_at, reading, symbols_from, fault_ahead, Onward, NodesIs, NodesAre, PhraseIs, TypedOn, NamelessOn, MarkAhead, MailboxIs, LoneAhead, LoneIs, closes_ahead, enclosure_kind, CloseIs}
+use Rattle.addresses.specs.declared.Frame.{Frame}
+use Rattle.addresses.specs.declared.Level.{Level as Left}
+use Rattle.addresses.specs.declared.Walk.{Walk}
+use Rattle.addresses.specs.Ties.Steps.{Reading, Read, Refused, NodesRead, Stopped, coming, told, is_word, is_ahead, word_ahead, ends_ahead, refused_next, frame_at, symbols_from, fault_ahead, AddressIs, NodesIs, NodesAre, PhraseIs, TypedOn, NamelessOn, MarkAhead, MailboxIs, LoneAhead, LoneIs, closes_ahead, enclosure_kind, CloseIs}
 use Rattle.addresses.proofs.NextLaws.{NextIs}
-use Rattle.addresses.proofs.CursorSteps.{by_ahead, found_in, ends_in, closes_in, closing_in, no_word_in, Stepped, met}
+use Rattle.addresses.proofs.CursorSteps.{with_last, with_free, by_ahead, found_in, ends_in, closes_in, closing_in, no_word_in, Stepped, met}
 use Rattle.addresses.proofs.PhraseLaws.{WordsSoFar, words_done}
 use Rattle.addresses.proofs.NodesLaws.{follows_node, NodesSoFar, NodeRead, nodes_end_lem, stops_no_node, stops_node_wanted, stops_behind_node}
 use Rattle.addresses.proofs.TypedLaws.{no_atom, nothing, no_colon, nothing_behind, typed_follows}
@@ -44,11 +47,6 @@ word_next Ended = false
 word_next (Fault number p) = false
 
 -- the symbol of a class
-abbrev pub is_ahead : Class → Ahead → Bool
-is_ahead wanted (Symbol class) = same_class wanted class
-is_ahead wanted End = false
-is_ahead wanted Faulty = false
-
 abbrev is_next : Class → Next → Bool
 is_next wanted (Found symbol) = same_class wanted symbol.class
 is_next wanted Ended = false
@@ -57,52 +55,62 @@ is_next wanted (Fault number p) = false
 is_from : (wanted : Class) (a : Ahead) (s e n : ℕ) (b : Bool) → is_next wanted (next_from a s e n b) ≡ is_ahead wanted a
 is_from wanted (Symbol class) s e n b = refl
 is_from wanted End s e n b = refl
-is_from wanted Faulty s e n b = refl
+is_from wanted (Faulty f) s e n b = refl
 
-is_in : (wanted : Class) (cursor : List ℕ) {b : Bool} → is_ahead wanted (ahead_of (get_or cursor 0 0)) ≡ b → is_next wanted (next_in cursor) ≡ b
+is_in : (wanted : Class) (cursor : Cursor) {b : Bool} → is_ahead wanted cursor.ahead ≡ b → is_next wanted (next_in cursor) ≡ b
 is_in wanted cursor e = by_ahead (is_next wanted) (is_ahead wanted) (is_from wanted) cursor ∙ e
 
 word_of : (a : Ahead) (s e n : ℕ) (b : Bool) → word_next (next_from a s e n b) ≡ word_ahead a
 word_of (Symbol class) s e n b = refl
 word_of End s e n b = refl
-word_of Faulty s e n b = refl
+word_of (Faulty f) s e n b = refl
 
-pub word_next_lem : (cursor : List ℕ) {b : Bool} → word_ahead (ahead_of (get_or cursor 0 0)) ≡ b → word_next (next_in cursor) ≡ b
+pub word_next_lem : (cursor : Cursor) {b : Bool} → word_ahead cursor.ahead ≡ b → word_next (next_in cursor) ≡ b
 word_next_lem cursor e = by_ahead word_next word_ahead word_of cursor ∙ e
 
--- what was read is no refusal
-never_read : (size : ℕ) (ahead : Next) (cursor : List ℕ) → reading true cursor ≡ refused_next size ahead → ⊥
-never_read size (Found symbol) cursor e = let z : ◌≡◌ {A = ℕ} 0 1 = cc in omega arith
-never_read size Ended cursor e = let z : ◌≡◌ {A = ℕ} 0 1 = cc in omega arith
-never_read size (Fault number p) cursor e = let z : ◌≡◌ {A = ℕ} 0 1 = cc in omega arith
+-- a symbol that does not end an address, and is not "at", does not follow a node
+follows_not : (class : Class) → ends_address class ≡ false → same_class At class ≡ false → follows_node class ≡ false
+follows_not Atom e n = refl
+follows_not Quoted e n = refl
+follows_not At e n = n
+follows_not LessThan e n = refl
+follows_not GreaterThan e n = e
+follows_not Comma e n = e
+follows_not Semicolon e n = e
+follows_not Colon e n = refl
+follows_not Stray e n = refl
+follows_not Dot e n = refl
+follows_not Literal e n = refl
 
--- after a refusal nothing goes on
-pub refused_onward : (classes text : List ℕ) (fault : Answer) (size : ℕ) (ahead : Next) (r : Bool) (cursor : List ℕ) → reading r cursor ≡ refused_next size ahead → Onward classes text fault r cursor
-refused_onward classes text fault size ahead true cursor e = absurd (never_read size ahead cursor e)
-refused_onward classes text fault size ahead false cursor e = tt
+behind_from : (a : Ahead) → ends_ahead a ≡ false → is_ahead At a ≡ false → (class : Class) × (a ≡ Symbol class) × (follows_node class ≡ false)
+behind_from (Symbol class) e n = (class, refl, follows_not class e n)
+behind_from End e n = absurd (true≢false e)
+behind_from (Faulty f) e n = absurd (true≢false e)
 
 module _ (classes text : List ℕ) where
+  -- what is told of a refusal is that of what comes next
+  pub as_told : (xs : List Sym) (frame : Frame) (start : ℕ) (table after : List ℕ) {r other : Reading} → r ≡ other → AddressIs classes text xs frame start table after other → AddressIs classes text xs frame start table after r
+  as_told xs frame start table after e x = subst (λ (z : Reading). AddressIs classes text xs frame start table after z) (sym e) x
+
   -- ---- a phrase
 
-  pub phrase_done : {before now after : List ℕ} {first lone : Bool} → WordsSoFar classes text (get_or before 2 0) first (get_or now 2 0) lone → free_in now ≡ free_in before → Stepped classes text now after → word_ahead (ahead_of (get_or after 0 0)) ≡ false
-      → PhraseIs classes text before first lone (set after 6 (get_or now 2 0))
+  pub phrase_done : {before now after : Walk} {first lone : Bool} → WordsSoFar classes text before.cursor.end first now.cursor.end lone → now.free ≡ before.free → Stepped classes text now after → word_ahead after.cursor.ahead ≡ false
+      → PhraseIs classes text before first lone (with_last after now.cursor.end)
   phrase_done {before} {now} {after} w f x n =
-      let k = keeps_seventh after x.sized (get_or now 2 0) in
       record {
-        words = rw (k.ahead, k.seventh) (words_done classes text (next_in after) w x.next (no_word_in classes text after n));
-        goes_on = record { same = w.faults ∙ x.next.faults ∙ ap (fault_ahead classes text) (sym k.ahead); sized = k.sized };
-        free_kept = k.sixth ∙ x.free_kept ∙ f;
+        words = words_done classes text (coming after) w x.next (no_word_in classes text after.cursor n);
+        goes_on = w.faults ∙ x.next.faults;
+        free_kept = x.free_kept ∙ f;
       }
 
   -- ---- nodes
 
-  pub nodes_done : (before now after : List ℕ) → NodeRead classes text (get_or before 1 0) (get_or before 2 0) (apart_in before) (get_or now 2 0) → free_in now ≡ free_in before → Stepped classes text now after → ends_ahead (ahead_of (get_or after 0 0)) ≡ true
-      → NodesAre classes text before true (set after 6 (get_or now 2 0))
-  nodes_done before now after w f x e =
-      let k = keeps_seventh after x.sized (get_or now 2 0) in (
-        rw (k.ahead, k.seventh) (nodes_end_lem classes text (next_in after) w x.next (ends_next classes text (get_or now 2 0) (next_in after) x.next.ok (ends_in after e))),
-        record { goes_on = record { same = w.faults ∙ x.next.faults ∙ ap (fault_ahead classes text) (sym k.ahead); sized = k.sized }; free_kept = k.sixth ∙ x.free_kept ∙ f },
-      )
+  pub nodes_done : (before now after : Walk) → NodeRead classes text before.cursor.start before.cursor.end (apart_in before.cursor) now.cursor.end → now.free ≡ before.free → Stepped classes text now after → ends_ahead after.cursor.ahead ≡ true
+      → NodesAre classes text before (Ok tt) (with_last after now.cursor.end)
+  nodes_done before now after w f x e = (
+    nodes_end_lem classes text (coming after) w x.next (ends_next classes text now.cursor.end (coming after) x.next.ok (ends_in after.cursor e)),
+    record { goes_on = w.faults ∙ x.next.faults; free_kept = x.free_kept ∙ f },
+  )
 
   -- a refusal where a node is wanted
   pub nodes_refused : {start at p : ℕ} {apart : Bool} (ahead : Next) → NodesSoFar classes text start at apart p → NextIs classes text p ahead → word_next ahead ≡ false → NodesIs classes text start at apart (stopped_by (refused_next (length text) ahead))
@@ -110,25 +118,25 @@ module _ (classes text : List ℕ) where
   nodes_refused Ended w x e = stops_node_wanted classes text w x.same
   nodes_refused (Fault number p) w x e = stops_node_wanted classes text w x.same
 
-  -- .. told by a cursor
-  pub nodes_told : (before : List ℕ) (r : Bool) (after : List ℕ) (ahead : Next) → NodesIs classes text (get_or before 1 0) (get_or before 2 0) (apart_in before) (stopped_by (refused_next (length text) ahead)) → reading r after ≡ refused_next (length text) ahead → NodesAre classes text before r after
-  nodes_told before true after ahead s e = absurd (never_read (length text) ahead after e)
-  nodes_told before false after ahead s e = (rw (← (ap stopped_by e)) at s, tt)
+  -- .. told by a walk
+  pub nodes_told : (before after : Walk) (why : Refusal) (ahead : Next) → NodesIs classes text before.cursor.start before.cursor.end (apart_in before.cursor) (stopped_by (refused_next (length text) ahead)) → told (length text) why after ≡ refused_next (length text) ahead → NodesAre classes text before (Err why) after
+  nodes_told before after why ahead s e = (rw (← (ap stopped_by e)) at s, tt)
 
   -- a refusal after a node
-  pub nodes_behind : (before : List ℕ) (r : Bool) (after now then : List ℕ) {class : Class} → NodeRead classes text (get_or before 1 0) (get_or before 2 0) (apart_in before) (get_or now 2 0) → Stepped classes text now then → ahead_of (get_or then 0 0) ≡ Symbol class → follows_node class ≡ false
-      → reading r after ≡ refused_next (length text) (next_in then) → NodesAre classes text before r after
-  nodes_behind before r after now then {class} w x e f q =
-      let y = met classes text x e in
-      nodes_told before r after (found_at class (get_or then 1 0) (get_or then 2 0) (get_or then 3 0) (apart_in then)) (stops_behind_node classes text w y f) (q ∙ ap (refused_next (length text)) (found_in then e))
+  pub nodes_behind : (before now then : Walk) (why : Refusal) → NodeRead classes text before.cursor.start before.cursor.end (apart_in before.cursor) now.cursor.end → Stepped classes text now then → ends_ahead then.cursor.ahead ≡ false → is_ahead At then.cursor.ahead ≡ false
+      → told (length text) why then ≡ refused_next (length text) (coming then) → NodesAre classes text before (Err why) then
+  nodes_behind before now then why w x e n q =
+      let s = behind_from then.cursor.ahead e n in
+      let y = met classes text x s.1 in
+      nodes_told before then why (found_at s.0 then.cursor.start then.cursor.end then.cursor.length (apart_in then.cursor)) (stops_behind_node classes text w y s.2) (q ∙ ap (refused_next (length text)) (found_in then.cursor s.1))
 
   -- ---- an atom and ":"
 
   -- the first symbol after the ":" is the atom, and the next the second ":"
-  pub typed_done : {before now after : List ℕ} → Stepped classes text before now → ahead_of (get_or now 0 0) ≡ Symbol Atom → Stepped classes text now after → ahead_of (get_or after 0 0) ≡ Symbol Colon
-      → TypedOn classes text before (get_or now 1 0) (get_or now 2 0) after
+  pub typed_done : {before now after : Walk} → Stepped classes text before now → now.cursor.ahead ≡ Symbol Atom → Stepped classes text now after → after.cursor.ahead ≡ Symbol Colon
+      → TypedOn classes text before record { start = now.cursor.start; end = now.cursor.end } after
   typed_done x e y f =
-      record { follows = typed_follows classes text (met classes text x e) (met classes text y f); faults = (met classes text x e).faults ∙ (met classes text y f).faults; free_kept = y.free_kept ∙ x.free_kept; sized = y.sized }
+      record { follows = typed_follows classes text (met classes text x e) (met classes text y f); faults = (met classes text x e).faults ∙ (met classes text y f).faults; free_kept = y.free_kept ∙ x.free_kept }
 
   no_atom_next : {at : ℕ} (ahead : Next) → NextIs classes text at ahead → is_next Atom ahead ≡ false → atom_colon (symbols_from classes text at) ≡ false
   no_atom_next (Found symbol) x e = no_atom classes text x e
@@ -141,72 +149,61 @@ module _ (classes text : List ℕ) where
   no_colon_next (Fault number p) x y e = nothing_behind classes text x y.same
 
   -- no atom follows
-  pub no_atom_done : {before after : List ℕ} → Stepped classes text before after → is_ahead Atom (ahead_of (get_or after 0 0)) ≡ false → NamelessOn classes text before after
-  no_atom_done {after = after} x e = record { no_atom = no_atom_next (next_in after) x.next (is_in Atom after e); free_kept = x.free_kept; sized = x.sized }
+  pub no_atom_done : {before after : Walk} → Stepped classes text before after → is_ahead Atom after.cursor.ahead ≡ false → NamelessOn classes text before after
+  no_atom_done {after = after} x e = record { no_atom = no_atom_next (coming after) x.next (is_in Atom after.cursor e); free_kept = x.free_kept }
 
   -- no ":" follows the atom
-  pub no_colon_done : {before now after : List ℕ} → Stepped classes text before now → ahead_of (get_or now 0 0) ≡ Symbol Atom → Stepped classes text now after → is_ahead Colon (ahead_of (get_or after 0 0)) ≡ false → NamelessOn classes text before after
+  pub no_colon_done : {before now after : Walk} → Stepped classes text before now → now.cursor.ahead ≡ Symbol Atom → Stepped classes text now after → is_ahead Colon after.cursor.ahead ≡ false → NamelessOn classes text before after
   no_colon_done {after = after} x e y f =
-      record { no_atom = no_colon_next (next_in after) (met classes text x e) y.next (is_in Colon after f); free_kept = y.free_kept ∙ x.free_kept; sized = y.sized }
+      record { no_atom = no_colon_next (coming after) (met classes text x e) y.next (is_in Colon after.cursor f); free_kept = y.free_kept ∙ x.free_kept }
 
   -- ---- a mailbox
 
-  module _ {before now : List ℕ} {levels parent : ℕ} {name : Span} where
-    pub mailbox_done : MarkAhead classes text before levels parent name → NodesAre classes text before true now → (table after : List ℕ)
-        → after ≡ sets table (free_in now * address_record_size) (record_bytes (record_by 1 (level_limit - levels) parent name.start (last_in now) name.start name.end))
-        → MailboxIs classes text before levels parent name table after true (set now 5 (free_in now + 1))
+  module _ {before now : Walk} {level : Left} {name : Span} where
+    pub mailbox_done : MarkAhead classes text before level name → NodesAre classes text before (Ok tt) now → (table after : List ℕ)
+        → after ≡ sets table (now.free * address_record_size) (record_bytes (record_by 1 (level_limit - level.left) level.parent name.start now.last name.start name.end))
+        → MailboxIs classes text before level name table after (Ok tt) (with_free now (now.free + 1))
     mailbox_done m n table after e =
-        let k = keeps_sixth now n.1.goes_on.sized (free_in now + 1) in
-        let f = n.1.free_kept in (
-          λ xs phrase p. rw (k.ahead, k.sixth, k.seventh, f) (mailbox_read classes text table after (next_in now) p n.0 m.opened (rw f at e)),
-          record { same = n.1.goes_on.same ∙ ap (fault_ahead classes text) (sym k.ahead); sized = k.sized },
-        )
+        let f = n.1.free_kept in
+        (λ xs phrase p. rw f (mailbox_read classes text table after (coming now) p n.0 m (rw f at e)), n.1.goes_on)
 
-  pub mailbox_refused : (before now : List ℕ) (levels parent : ℕ) (name : Span) → NodesAre classes text before false now → (table : List ℕ) → MailboxIs classes text before levels parent name table table false now
-  mailbox_refused before now levels parent name n table = (λ xs phrase p. mailbox_stops classes text (frame_at levels parent before) p n.0, tt)
+  pub mailbox_refused : (before now : Walk) (level : Left) (name : Span) (why : Refusal) → NodesAre classes text before (Err why) now → (table : List ℕ) → MailboxIs classes text before level name table table (Err why) now
+  mailbox_refused before now level name why n table = (λ xs phrase p. mailbox_stops classes text (frame_at level before) p n.0, tt)
 
   -- ---- one quoted-string alone
 
-  module _ {before : List ℕ} {levels parent : ℕ} {name : Span} (m : LoneAhead classes text before levels parent name) where
-    pub lone_done : {lone : Bool} → lone ≡ true → ends_ahead (ahead_of (get_or before 0 0)) ≡ true → (table after : List ℕ)
-        → after ≡ sets table (free_in before * address_record_size) (record_bytes (record_by 4 (level_limit - levels) parent name.start name.end name.start name.end))
-        → LoneIs classes text before levels parent lone name table after true (set before 5 (free_in before + 1))
-    lone_done l z table after e =
-        let k = keeps_sixth before m.sized (free_in before + 1) in (
-          λ xs phrase p q. rw (k.ahead, k.sixth, k.seventh, m.last_is) (lone_read classes text phrase table after (next_in before) p (sym q ∙ l) (ends_in before z) m.lone e),
-          record { same = ap (fault_ahead classes text) (sym k.ahead); sized = k.sized },
-        )
+  module _ {before : Walk} {level : Left} {name : Span} (m : LoneAhead classes text before level name) where
+    pub lone_done : {lone : Bool} → lone ≡ true → ends_ahead before.cursor.ahead ≡ true → (table after : List ℕ)
+        → after ≡ sets table (before.free * address_record_size) (record_bytes (record_by 4 (level_limit - level.left) level.parent name.start name.end name.start name.end))
+        → LoneIs classes text before level lone name table after (Ok tt) (with_free before (before.free + 1))
+    lone_done l z table after e = (λ xs phrase p q. rw m.last_is (lone_read classes text phrase table after (coming before) p (sym q ∙ l) (ends_in before.cursor z) m.lone e), refl)
 
-    pub lone_refused : {lone : Bool} → (lone ≡ false) ⊎ (ends_ahead (ahead_of (get_or before 0 0)) ≡ false) → (table : List ℕ) (r : Bool) (after : List ℕ) → reading r after ≡ refused_next (length text) (next_in before)
-        → LoneIs classes text before levels parent lone name table table r after
-    lone_refused o table r after e = (
-      λ xs phrase p q. rw e (lone_stops classes text phrase (frame_at levels parent before) name.start table table (next_in before) p m.lone.no_mark (elim o [ inl f ↦ inl (sym q ∙ f) | inr f ↦ inr (ends_in before f) ])),
-      refused_onward classes text (fault_ahead classes text (next_in before)) (length text) (next_in before) r after e,
+    pub lone_refused : {lone : Bool} → (lone ≡ false) ⊎ (ends_ahead before.cursor.ahead ≡ false) → (table : List ℕ) (why : Refusal) (after : Walk) → told (length text) why after ≡ refused_next (length text) (coming before)
+        → LoneIs classes text before level lone name table table (Err why) after
+    lone_refused o table why after e = (
+      λ xs phrase p q. as_told xs (frame_at level before) name.start table table e (lone_stops classes text phrase (frame_at level before) name.start table table (coming before) p m.lone.no_mark (elim o [ inl g ↦ inl (sym q ∙ g) | inr g ↦ inr (ends_in before.cursor g) ])),
+      tt,
     )
 
   -- ---- the end of an enclosed list
 
-  module _ (before : List ℕ) (frame : Frame) (e : Enclosure) (name : Span) where
+  module _ (before : Walk) (frame : Frame) (e : Enclosure) (name : Span) where
     -- it is not closed
-    pub close_refused : closes_ahead e (ahead_of (get_or before 0 0)) ≡ false → (between : List ℕ) (r : Bool) (after : List ℕ) → reading r after ≡ refused_next (length text) (next_in before) → CloseIs classes text before frame e name between between r after
-    close_refused f between r after q = (
-      λ xs a b low table o p n l. rw q (unclosed_stops classes text e frame o n (next_in before) l name.start between (closes_in e before f)),
-      refused_onward classes text (fault_ahead classes text (next_in before)) (length text) (next_in before) r after q,
-    )
+    pub close_refused : closes_ahead e before.cursor.ahead ≡ false → (between : List ℕ) (why : Refusal) (after : Walk) → told (length text) why after ≡ refused_next (length text) (coming before) → CloseIs classes text before frame e name between between (Err why) after
+    close_refused g between why after q = (λ xs a b low table o p n l. as_told xs frame name.start table between q (unclosed_stops classes text e frame o n (coming before) l name.start between (closes_in e before.cursor g)), tt)
 
-    module _ (now : List ℕ) (f : closes_ahead e (ahead_of (get_or before 0 0)) ≡ true) (x : Stepped classes text before now) where
+    module _ (now : Walk) (f : closes_ahead e before.cursor.ahead ≡ true) (x : Stepped classes text before now) where
       -- what follows it may not
-      pub behind_refused : ends_ahead (ahead_of (get_or now 0 0)) ≡ false → (between : List ℕ) (r : Bool) (after : List ℕ) → reading r after ≡ refused_next (length text) (next_in now) → CloseIs classes text before frame e name between between r after
-      behind_refused g between r after q = (
-        λ xs a b low table o p n l. rw q (behind_stops classes text e frame o n (rw (found_in before (closing_in e before f).ahead_is) at l) (closing_in e before f).passes (next_in now) x.next (ends_in now g) name.start between),
-        refused_onward classes text (fault_ahead classes text (next_in before)) (length text) (next_in now) r after q,
+      pub behind_refused : ends_ahead now.cursor.ahead ≡ false → (between : List ℕ) (why : Refusal) (after : Walk) → told (length text) why after ≡ refused_next (length text) (coming now) → CloseIs classes text before frame e name between between (Err why) after
+      behind_refused g between why after q = (
+        λ xs a b low table o p n l. as_told xs frame name.start table between q (behind_stops classes text e frame o n (rw (found_in before.cursor (closing_in e before.cursor f).ahead_is) at l) (closing_in e before.cursor f).passes (coming now) x.next (ends_in now.cursor g) name.start between),
+        tt,
       )
 
-      pub close_done : ends_ahead (ahead_of (get_or now 0 0)) ≡ true → (between after : List ℕ)
-          → after ≡ sets between (frame.number * address_record_size) (record_bytes (record_by (enclosure_kind e) (level_limit - frame.levels) frame.parent name.start (get_or before 2 0) name.start name.end))
-          → CloseIs classes text before frame e name between after true (set now 6 (get_or before 2 0))
-      close_done g between after w =
-          let k = keeps_seventh now x.sized (get_or before 2 0) in (
-            λ xs a b low table o p n l. rw (k.ahead, k.sixth, k.seventh, x.free_kept) (enclosed_read classes text e frame o n (rw (found_in before (closing_in e before f).ahead_is) at l) (closing_in e before f).passes (next_in now) after x.next (ends_in now g) p w),
-            record { same = ap (fault_ahead classes text) (found_in before (closing_in e before f).ahead_is) ∙ x.next.faults ∙ ap (fault_ahead classes text) (sym k.ahead); sized = k.sized },
-          )
+      pub close_done : ends_ahead now.cursor.ahead ≡ true → (between after : List ℕ)
+          → after ≡ sets between (frame.number * address_record_size) (record_bytes (record_by (enclosure_kind e) (level_limit - frame.level.left) frame.level.parent name.start before.cursor.end name.start name.end))
+          → CloseIs classes text before frame e name between after (Ok tt) (with_last now before.cursor.end)
+      close_done g between after w = (
+        λ xs a b low table o p n l. rw x.free_kept (enclosed_read classes text e frame o n (rw (found_in before.cursor (closing_in e before.cursor f).ahead_is) at l) (closing_in e before.cursor f).passes (coming now) after x.next (ends_in now.cursor g) p w),
+        ap (fault_ahead classes text) (found_in before.cursor (closing_in e before.cursor f).ahead_is) ∙ x.next.faults,
+      )

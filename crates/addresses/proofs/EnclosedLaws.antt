@@ -110,7 +110,7 @@ stored_in table between after i levels r rs n h e f =
 module _ (classes text : List ℕ) where
   -- ---- angle lists and groups
 
-  pub deep_stops : (e : Enclosure) {xs : List Sym} {a b : ℕ} {span : Span} (frame : Frame) → Opening classes text e xs a b span → frame.levels ≡ 0 → AddressStops classes text xs frame too_many_levels a
+  pub deep_stops : (e : Enclosure) {xs : List Sym} {a b : ℕ} {span : Span} (frame : Frame) → Opening classes text e xs a b span → frame.level.left ≡ 0 → AddressStops classes text xs frame too_many_levels a
   deep_stops e {xs} {a} {b} frame o z =
       record {
         why = too_deep;
@@ -120,15 +120,15 @@ module _ (classes text : List ℕ) where
         stops = λ h c. rw z (deep_enclosed e h o.name (lexeme_at classes text (opening e) a b o.apart) xs (symbols_from classes text b) o.yields c);
       }
 
-  module _ (e : Enclosure) {xs : List Sym} {a b : ℕ} {span : Span} (frame : Frame) (o : Opening classes text e xs a b span) (n : frame.levels ≡ 0 → ⊥) where
+  module _ (e : Enclosure) {xs : List Sym} {a b : ℕ} {span : Span} (frame : Frame) (o : Opening classes text e xs a b span) (n : frame.level.left ≡ 0 → ⊥) where
     abbrev mark : Lexeme
     mark = lexeme_at classes text (opening e) a b o.apart
 
     -- the machine comes to the list
-    comes_in : (h : Here) → Clear (fresh h) (atom_colon xs) → run (levels_here h + frame.levels) (begin h) xs ≡ run (levels_at (level_in e h o.name mark) + (inner classes text frame).levels) (list (level_in e h o.name mark) (idle empty)) (symbols_from classes text b)
+    comes_in : (h : Here) → Clear (fresh h) (atom_colon xs) → run (levels_here h + frame.level.left) (begin h) xs ≡ run (levels_at (level_in e h o.name mark) + (inner classes text frame).level.left) (list (level_in e h o.name mark) (idle empty)) (symbols_from classes text b)
     comes_in h c =
-        let q : levels_at (level_in e h o.name mark) + (frame.levels - 1) ≡ levels_here h + frame.levels = omega (arith, levels_in e h o.name mark) in
-        rw q (run_enclosed e (levels_here h + frame.levels) h o.name mark xs (symbols_from classes text b) o.yields (omega arith) c)
+        let q : levels_at (level_in e h o.name mark) + (frame.level.left - 1) ≡ levels_here h + frame.level.left = omega (arith, levels_in e h o.name mark) in
+        rw q (run_enclosed e (levels_here h + frame.level.left) h o.name mark xs (symbols_from classes text b) o.yields (omega arith) c)
 
     clear_in : (h : Here) → Clear (nameless (level_in e h o.name mark)) (atom_colon (symbols_from classes text b))
     clear_in h = clear_inside e h o.name mark (symbols_from classes text b) o.house
@@ -140,13 +140,13 @@ module _ (classes text : List ℕ) where
 
     module _ {table between : List ℕ} {ahead : Next} {low free : ℕ} (l : ListRead classes text b (inner classes text frame) table between ahead low free) where
       -- .. and through it
-      comes_through : (h : Here) → Clear (fresh h) (atom_colon xs) → run (levels_here h + frame.levels) (begin h) xs ≡ run (levels_here h + frame.levels) (done_list (level_in e h o.name mark) l.tree) (symbols_ahead classes text ahead)
+      comes_through : (h : Here) → Clear (fresh h) (atom_colon xs) → run (levels_here h + frame.level.left) (begin h) xs ≡ run (levels_here h + frame.level.left) (done_list (level_in e h o.name mark) l.tree) (symbols_ahead classes text ahead)
       comes_through h c =
-          let q : levels_at (level_in e h o.name mark) + (frame.levels - 1) ≡ levels_here h + frame.levels = omega (arith, levels_in e h o.name mark) in
+          let q : levels_at (level_in e h o.name mark) + (frame.level.left - 1) ≡ levels_here h + frame.level.left = omega (arith, levels_in e h o.name mark) in
           comes_in h c ∙ l.reads (level_in e h o.name mark) (clear_in h) ∙ ap (λ (i : ℕ). run i (done_list (level_in e h o.name mark) l.tree) (symbols_ahead classes text ahead)) q
 
   -- no symbol is left that could close the list
-  never_closed : (e : Enclosure) {xs : List Sym} {a b : ℕ} {span : Span} (frame : Frame) → Opening classes text e xs a b span → (frame.levels ≡ 0 → ⊥) → {table between : List ℕ} {ahead : Next} {low free : ℕ}
+  never_closed : (e : Enclosure) {xs : List Sym} {a b : ℕ} {span : Span} (frame : Frame) → Opening classes text e xs a b span → (frame.level.left ≡ 0 → ⊥) → {table between : List ℕ} {ahead : Next} {low free : ℕ}
       → ListRead classes text b (inner classes text frame) table between ahead low free → symbols_ahead classes text ahead ≡ [] → AddressStops classes text xs frame ends_too_soon (length text)
   never_closed e {xs} {a} {b} frame o n l z =
       record {
@@ -154,11 +154,11 @@ module _ (classes text : List ℕ) where
         rest = [];
         number_is = refl;
         place_is = refl;
-        stops = λ h c. ap judge (comes_through e frame o n l h c ∙ ap (run (levels_here h + frame.levels) _) z) ∙ run_unclosed e (levels_here h + frame.levels) h o.name (lexeme_at classes text (opening e) a b o.apart) l.tree;
+        stops = λ h c. ap judge (comes_through e frame o n l h c ∙ ap (run (levels_here h + frame.level.left) _) z) ∙ run_unclosed e (levels_here h + frame.level.left) h o.name (lexeme_at classes text (opening e) a b o.apart) l.tree;
       }
 
   -- the list is not closed
-  pub unclosed_stops : (e : Enclosure) {xs : List Sym} {a b : ℕ} {span : Span} (frame : Frame) → Opening classes text e xs a b span → (frame.levels ≡ 0 → ⊥) → {table between : List ℕ} (ahead : Next) {low free : ℕ}
+  pub unclosed_stops : (e : Enclosure) {xs : List Sym} {a b : ℕ} {span : Span} (frame : Frame) → Opening classes text e xs a b span → (frame.level.left ≡ 0 → ⊥) → {table between : List ℕ} (ahead : Next) {low free : ℕ}
       → ListRead classes text b (inner classes text frame) table between ahead low free → (start : ℕ) (after : List ℕ) → closes_next e ahead ≡ false
       → AddressIs classes text xs frame start table after (refused_next (length text) ahead)
   unclosed_stops e {xs} {a} {b} frame o n (Found x) l start after f =
@@ -168,23 +168,23 @@ module _ (classes text : List ℕ) where
         number_is = refl;
         place_is = refl;
         stops = λ h c. ap judge (comes_through e frame o n l h c)
-            ∙ run_other e (levels_here h + frame.levels) h o.name (lexeme_at classes text (opening e) a b o.apart) l.tree x.class (lexeme_at classes text x.class x.start x.end x.apart) (symbols_from classes text x.end) l.ends f;
+            ∙ run_other e (levels_here h + frame.level.left) h o.name (lexeme_at classes text (opening e) a b o.apart) l.tree x.class (lexeme_at classes text x.class x.start x.end x.apart) (symbols_from classes text x.end) l.ends f;
       }
   unclosed_stops e frame o n Ended l start after f = never_closed e frame o n l refl
   unclosed_stops e frame o n (Fault number p) l start after f = never_closed e frame o n l refl
 
-  module _ (e : Enclosure) {xs : List Sym} {a b : ℕ} {span : Span} (frame : Frame) (o : Opening classes text e xs a b span) (n : frame.levels ≡ 0 → ⊥)
+  module _ (e : Enclosure) {xs : List Sym} {a b : ℕ} {span : Span} (frame : Frame) (o : Opening classes text e xs a b span) (n : frame.level.left ≡ 0 → ⊥)
       {table between : List ℕ} {class : Class} {i j size low free : ℕ} {apart : Bool} (l : ListRead classes text b (inner classes text frame) table between (found_at class i j size apart) low free) (q : same_class (closing e) class ≡ true) where
     abbrev closed_by : Lexeme
     closed_by = lexeme_at classes text class i j apart
 
     -- the machine comes after the closing mark
     comes_behind : (h : Here) → Clear (fresh h) (atom_colon xs)
-        → run (levels_here h + frame.levels) (begin h) xs ≡ run (levels_here h + frame.levels) (done_address h (enclosed e o.name (lexeme_at classes text (opening e) a b o.apart) l.tree closed_by)) (symbols_from classes text j)
+        → run (levels_here h + frame.level.left) (begin h) xs ≡ run (levels_here h + frame.level.left) (done_address h (enclosed e o.name (lexeme_at classes text (opening e) a b o.apart) l.tree closed_by)) (symbols_from classes text j)
     comes_behind h c =
         comes_through e frame o n l h c
-        ∙ ap (λ (k : Class). run (levels_here h + frame.levels) (done_list (level_in e h o.name (lexeme_at classes text (opening e) a b o.apart)) l.tree) (of k closed_by ∷ symbols_from classes text j)) (sym (same_class_lem (closing e) class q))
-        ∙ run_close e (levels_here h + frame.levels) h o.name (lexeme_at classes text (opening e) a b o.apart) l.tree closed_by (symbols_from classes text j)
+        ∙ ap (λ (k : Class). run (levels_here h + frame.level.left) (done_list (level_in e h o.name (lexeme_at classes text (opening e) a b o.apart)) l.tree) (of k closed_by ∷ symbols_from classes text j)) (sym (same_class_lem (closing e) class q))
+        ∙ run_close e (levels_here h + frame.level.left) h o.name (lexeme_at classes text (opening e) a b o.apart) l.tree closed_by (symbols_from classes text j)
 
     -- something after it that does not end the address
     pub behind_stops : (behind : Next) → NextIs classes text j behind → ends_address_next behind ≡ false → (start : ℕ) (after : List ℕ) → AddressIs classes text xs frame start table after (refused_next (length text) behind)
@@ -194,31 +194,31 @@ module _ (classes text : List ℕ) where
           rest = symbols_ahead classes text (Found y);
           number_is = refl;
           place_is = refl;
-          stops = λ h c. ap judge (comes_behind h c ∙ ap (run (levels_here h + frame.levels) _) x.same)
-              ∙ run_behind e (levels_here h + frame.levels) h o.name (lexeme_at classes text (opening e) a b o.apart) l.tree closed_by y.class (lexeme_at classes text y.class y.start y.end y.apart) (symbols_from classes text y.end) f;
+          stops = λ h c. ap judge (comes_behind h c ∙ ap (run (levels_here h + frame.level.left) _) x.same)
+              ∙ run_behind e (levels_here h + frame.level.left) h o.name (lexeme_at classes text (opening e) a b o.apart) l.tree closed_by y.class (lexeme_at classes text y.class y.start y.end y.apart) (symbols_from classes text y.end) f;
         }
     behind_stops Ended x f start after = absurd (true≢false f)
     behind_stops (Fault number p) x f start after = absurd (true≢false f)
 
     -- the address
     pub enclosed_read : (behind : Next) (after : List ℕ) → NextIs classes text j behind → ends_address_next behind ≡ true → Opened classes text a b span frame
-        → after ≡ sets between (frame.number * address_record_size) (record_bytes (record_by (enclosure_kind e) (level_limit - frame.levels) frame.parent span.start j span.start span.end))
+        → after ≡ sets between (frame.number * address_record_size) (record_bytes (record_by (enclosure_kind e) (level_limit - frame.level.left) frame.level.parent span.start j span.start span.end))
         → AddressRead classes text xs frame span.start table after behind j free
     enclosed_read behind after x f p w =
         let t = lexeme_at classes text (opening e) a b o.apart in
         let s : Standing classes text i j = l.ahead_ok.1 in
-        let its-records : record_by (enclosure_kind e) (level_limit - frame.levels) frame.parent span.start j span.start span.end ∷ list_records l.tree (suc (level_limit - frame.levels)) (suc frame.number) (suc frame.number)
-        ≡ address_records (enclosed e o.name t l.tree closed_by) (level_limit - frame.levels) frame.parent frame.number =
-        rw (o.start_is, o.end_is) (sym (record_of e o.name t l.tree closed_by (level_limit - frame.levels) frame.parent frame.number)) in
+        let its-records : record_by (enclosure_kind e) (level_limit - frame.level.left) frame.level.parent span.start j span.start span.end ∷ list_records l.tree (suc (level_limit - frame.level.left)) (suc frame.number) (suc frame.number)
+        ≡ address_records (enclosed e o.name t l.tree closed_by) (level_limit - frame.level.left) frame.level.parent frame.number =
+        rw (o.start_is, o.end_is) (sym (record_of e o.name t l.tree closed_by (level_limit - frame.level.left) frame.level.parent frame.number)) in
         record {
           tree = enclosed e o.name t l.tree closed_by;
-          reads = λ h c. comes_behind h c ∙ ap (run (levels_here h + frame.levels) _) x.same;
+          reads = λ h c. comes_behind h c ∙ ap (run (levels_here h + frame.level.left) _) x.same;
           ends = ends_next classes text j behind x.ok f;
           ahead_ok = x.ok;
           last_is = sym (end_of e o.name t l.tree closed_by);
           count = omega (arith, l.count, count_of e o.name t l.tree closed_by);
           stored =
-              stored_in table between after frame.number frame.levels _ (λ d m. list_records l.tree d m m) n p.ready.levels_low l.stored w
+              stored_in table between after frame.number frame.level.left _ (λ d m. list_records l.tree d m m) n p.ready.levels_low l.stored w
               ∙ ap (λ rs. sets table (frame.number * address_record_size) (table_bytes rs)) its-records;
           from = omega (arith, p.behind, p.stands.starts, l.from, l.ahead_ok.0, s.starts);
           within = s.within;
@@ -234,7 +234,7 @@ module _ (classes text : List ℕ) where
     abbrev the_atom : Lexeme
     the_atom = lexeme_at classes text Atom atom.start atom.end t.follows.atom_apart
 
-    pub typed_deep : frame.levels ≡ 0 → AddressStops classes text (symbols_on classes text Colon start end apart) frame too_many_levels start
+    pub typed_deep : frame.level.left ≡ 0 → AddressStops classes text (symbols_on classes text Colon start end apart) frame too_many_levels start
     typed_deep z =
         record {
           why = too_deep;
@@ -245,22 +245,22 @@ module _ (classes text : List ℕ) where
               (deep_enclosed Group h none first_colon (symbols_on classes text Colon start end apart) (symbols_from classes text end) refl c);
         }
 
-    module _ (n : frame.levels ≡ 0 → ⊥) where
+    module _ (n : frame.level.left ≡ 0 → ⊥) where
       -- the machine comes after the second colon
-      comes_typed : (h : Here) → run (levels_here h + frame.levels) (begin h) (symbols_on classes text Colon start end apart)
-          ≡ run (levels_here (in_typed h first_colon the_atom t.follows.colon) + (inner classes text frame).levels) (want h first_colon the_atom t.follows.colon) (symbols_from classes text behind)
+      comes_typed : (h : Here) → run (levels_here h + frame.level.left) (begin h) (symbols_on classes text Colon start end apart)
+          ≡ run (levels_here (in_typed h first_colon the_atom t.follows.colon) + (inner classes text frame).level.left) (want h first_colon the_atom t.follows.colon) (symbols_from classes text behind)
       comes_typed h =
-          let q : levels_here h + suc (frame.levels - 1) ≡ levels_here h + frame.levels = omega arith in
-          let p : suc (levels_here h) + (frame.levels - 1) ≡ levels_here h + frame.levels = omega arith in
-          ap (λ (ys : List Sym). run (levels_here h + frame.levels) (begin h) (of Colon first_colon ∷ ys)) t.follows.yields
+          let q : levels_here h + suc (frame.level.left - 1) ≡ levels_here h + frame.level.left = omega arith in
+          let p : suc (levels_here h) + (frame.level.left - 1) ≡ levels_here h + frame.level.left = omega arith in
+          ap (λ (ys : List Sym). run (levels_here h + frame.level.left) (begin h) (of Colon first_colon ∷ ys)) t.follows.yields
           ∙ ap (λ (m : ℕ). run m (begin h) (of Colon first_colon ∷ of Atom the_atom ∷ of Colon t.follows.colon ∷ symbols_from classes text behind)) (sym q)
-          ∙ run_typed (frame.levels - 1) first_colon the_atom t.follows.colon (symbols_from classes text behind) h
+          ∙ run_typed (frame.level.left - 1) first_colon the_atom t.follows.colon (symbols_from classes text behind) h
           ∙ ap (λ (m : ℕ). run m (want h first_colon the_atom t.follows.colon) (symbols_from classes text behind)) (q ∙ sym p)
 
       want_ends : (k : Class) → ends_address k ≡ true → (u : Lexeme) (ys : List Sym) (h : Here)
-          → judge (run (levels_here (in_typed h first_colon the_atom t.follows.colon) + (inner classes text frame).levels) (want h first_colon the_atom t.follows.colon) (of k u ∷ ys)) ≡ refused unfit (of k u ∷ ys)
+          → judge (run (levels_here (in_typed h first_colon the_atom t.follows.colon) + (inner classes text frame).level.left) (want h first_colon the_atom t.follows.colon) (of k u ∷ ys)) ≡ refused unfit (of k u ∷ ys)
       want_ends k e u ys h =
-          each_of (λ c. judge (run (levels_here (in_typed h first_colon the_atom t.follows.colon) + (inner classes text frame).levels) (want h first_colon the_atom t.follows.colon) (of c u ∷ ys)) ≡ refused unfit (of c u ∷ ys)) ends_address
+          each_of (λ c. judge (run (levels_here (in_typed h first_colon the_atom t.follows.colon) + (inner classes text frame).level.left) (want h first_colon the_atom t.follows.colon) (of c u ∷ ys)) ≡ refused unfit (of c u ∷ ys)) ends_address
           (refl, (refl, (refl, tt))) k e
 
       typed_ends : symbols_from classes text behind ≡ [] → AddressStops classes text (symbols_on classes text Colon start end apart) frame ends_too_soon (length text)
@@ -300,10 +300,10 @@ module _ (classes text : List ℕ) where
             }
 
         pub typed_read : {ahead : Next} {last free : ℕ} (table between after : List ℕ) → AddressRead classes text (symbols_on classes text class i j apart') (inner classes text frame) i table between ahead last free
-            → after ≡ sets between (frame.number * address_record_size) (record_bytes (record_by (kind_number (typed_kind (part text atom.start atom.end))) (level_limit - frame.levels) frame.parent start last atom.start atom.end))
+            → after ≡ sets between (frame.number * address_record_size) (record_bytes (record_by (kind_number (typed_kind (part text atom.start atom.end))) (level_limit - frame.level.left) frame.level.parent start last atom.start atom.end))
             → AddressRead classes text (symbols_on classes text Colon start end apart) frame start table after ahead last free
         typed_read {ahead} {last} {free} table between after r w =
-            let p : (h : Here) → suc (levels_here h) + (frame.levels - 1) ≡ levels_here h + frame.levels = λ h. omega arith in
+            let p : (h : Here) → suc (levels_here h) + (frame.level.left - 1) ≡ levels_here h + frame.level.left = λ h. omega arith in
             record {
               tree = typed first_colon the_atom t.follows.colon r.tree;
               reads = λ h c. comes_typed h ∙ ap (run _ (want h first_colon the_atom t.follows.colon)) x.same ∙ r.reads (in_typed h first_colon the_atom t.follows.colon) tt
@@ -314,7 +314,7 @@ module _ (classes text : List ℕ) where
               count = omega (arith, r.count);
               stored =
                   rw (← r.last_is)
-                  (stored_in table between after frame.number frame.levels _ (λ d m. address_records r.tree d m m) n t.ready.levels_low r.stored w);
+                  (stored_in table between after frame.number frame.level.left _ (λ d m. address_records r.tree d m m) n t.ready.levels_low r.stored w);
               from = omega (arith, t.stands.starts, t.follows.from, t.follows.atom_starts, t.follows.end_before, x.ok.0, r.from);
               within = r.within;
               free_low = r.free_low;

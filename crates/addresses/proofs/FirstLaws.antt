@@ -1,14 +1,13 @@
 -- A body is read first, and only a refusal looks for its first fault. Assumes nothing.
 use mathlib.Core.Path.{◌≡◌, refl, sym, ap, ◌∙◌}
-use mathlib.Core.Bool.{true, false}
-use mathlib.Core.List.{List, [], ◌∷◌}
-use Prim.Native.Nat.{ℕ, ◌+◌, ◌*◌, ◌/◌, ◌≤◌, ◌<◌}
+use mathlib.Core.List.{List, []}
+use Prim.Native.Nat.{ℕ, ◌*◌, ◌/◌, ◌≤◌, ◌<◌}
 use native.Mathlib.Omega.{arith}
-use lib.ListN.{length, take, get_or}
+use lib.ListN.{length, take}
 use lib.Seq.{sets}
-use types.Run.{OneOf, miss}
-use denote.Enum.Declared.{tag_of}
 use Rattle.octets.specs.Believed.Numbers.{no_list_goes_on, level_limit}
+use Rattle.std.specs.Prelude.{Result, Ok, Err}
+use Rattle.addresses.specs.declared.Refusal.{Refusal}
 use Rattle.octets.specs.declared.answers.Answer.{Answer}
 use Rattle.octets.specs.declared.answers.Answer.TheVariants.{Accepted, Refused, NoRoom}
 use Rattle.octets.proofs.Parts.{staged}
@@ -18,88 +17,74 @@ use Rattle.grammar.specs.Believed.Records.{records}
 use Rattle.grammar.proofs.Any.Records.{length-records}
 use Rattle.scanner.specs.Believed.Scanning.{scan_by}
 use Rattle.scanner.specs.Believed.Answers.{unless_fault}
-use Rattle.scanner.specs.Ties.Cursors.{end_number, ahead_of, next_from, apart_in, next_in}
+use Rattle.scanner.specs.Ties.Cursors.{next_from, apart_in, next_in}
 use Rattle.scanner.specs.Ties.Steps.{Faultless}
 use Rattle.scanner.specs.declared.Next.TheVariants.{Ended, Fault}
+use Rattle.scanner.specs.declared.cursor.Cursor.{Cursor}
 use Rattle.scanner.specs.declared.cursor.Ahead.{Ahead}
 use Rattle.scanner.specs.declared.cursor.Ahead.TheVariants.{Symbol, End, Faulty}
-use Rattle.scanner.specs.contracts.cursor.Ahead as ahead-declared
 use Rattle.scanner.proofs.BodyChecks.{unless_refused, unless_none}
-use Rattle.grammar.specs.Believed.Language.{Refusal, unfit, unfinished, too_deep, number}
 use Rattle.grammar.specs.Executable.Machine733.{answer}
 use Rattle.grammar.specs.declared.Whole.{Whole}
 use Rattle.grammar.specs.declared.Whole.TheVariants as whole
 use Rattle.grammar.specs.declared.Whole.TheVariants.{Listed}
-use Rattle.addresses.specs.Ties.Steps.{free_in, fault_ahead, ListStops, ListIs}
-use Rattle.addresses.specs.Ties.Whole.{once_limit, once_room, ends_within, EndsWithin, IsRefused, WholeIs, TwiceIs, ListedClean, WholeFirst, FaultFirst}
+use Rattle.addresses.specs.declared.Walk.{Walk}
+use Rattle.addresses.specs.Ties.Steps.{number_told, place_told, coming, symbols_ahead, fault_from, fault_ahead, Onward, ListReads, ListIs}
+use Rattle.addresses.specs.Ties.Whole.{BodyRead, IsRefused, WholeIs, TwiceIs, ListedClean, WholeFirst, FaultFirst}
 use Rattle.addresses.proofs.CursorSteps.{found_in}
-use Rattle.addresses.proofs.BodyRecords.{accepted_half}
 use Rattle.addresses.proofs.AnyEdition.{twice_refused, twice_no_room, twice_written}
-use Rattle.addresses.proofs.WholeLaws.{outermost, verdict_listed, verdict_stops, verdict_closed, whole_listed, whole_closed}
-
--- the cursor with which a body is entered
-abbrev pub origin : ℕ → List ℕ
-origin at = end_number ∷ at ∷ at ∷ 0 ∷ at ∷ []
-
--- the numbers of refusals are small
-pub small_number : (why : Refusal) → number why < 256
-small_number unfit = omega arith
-small_number unfinished = omega arith
-small_number too_deep = omega arith
+use Rattle.addresses.proofs.WholeLaws.{outermost, verdict_listed, verdict_stops, verdict_closed, whole_listed, whole_stops, whole_closed}
 
 -- no symbol is left, and no fault
-ended_in : (cursor : List ℕ) → ahead_of (get_or cursor 0 0) ≡ End → next_in cursor ≡ Ended
+ended_in : (cursor : Cursor) → cursor.ahead ≡ End → next_in cursor ≡ Ended
 unfolding next_in
-ended_in cursor e = ap (λ (a : Ahead). next_from a (get_or cursor 1 0) (get_or cursor 2 0) (get_or cursor 3 0) (apart_in cursor)) e
+ended_in cursor e = ap (λ (a : Ahead). next_from a cursor.start cursor.end cursor.length (apart_in cursor)) e
 
-faulty_in : (cursor : List ℕ) → ahead_of (get_or cursor 0 0) ≡ Faulty → next_in cursor ≡ Fault (get_or cursor 2 0) (get_or cursor 1 0)
+faulty_in : (cursor : Cursor) {n : ℕ} → cursor.ahead ≡ Faulty n → next_in cursor ≡ Fault n cursor.start
 unfolding next_in
-faulty_in cursor e = ap (λ (a : Ahead). next_from a (get_or cursor 1 0) (get_or cursor 2 0) (get_or cursor 3 0) (apart_in cursor)) e
+faulty_in cursor e = ap (λ (a : Ahead). next_from a cursor.start cursor.end cursor.length (apart_in cursor)) e
 
 never : {n p m : ℕ} → Refused n p ≡ Accepted m → ⊥
 never e = let z : ◌≡◌ {A = ℕ} 0 1 = cc in omega arith
 
-module _ (classes text : List ℕ) where
+module _ (classes text : List ℕ) (limit at : ℕ) where
   -- ---- a list of at most so many levels
 
-  module _ (limit at : ℕ) {table after cursor : List ℕ} (l : ListIs classes text (origin at) limit 0 table after true cursor) where
-    clean_end : ahead_of (get_or cursor 0 0) ≡ End → Faultless classes text at
-    clean_end e = record { none = l.1.same ∙ ap (fault_ahead classes text) (ended_in cursor e) }
+  -- what is told of the list of a body
+  abbrev pub BodyIs : List ℕ → List ℕ → Result Unit Refusal → Walk → Type 0
+  BodyIs table after r walk = ListReads classes text at (outermost limit) table after r walk × Onward classes text (fault_from classes text at) r walk
 
-    -- .. to the end
-    pub within_end : ahead_of (get_or cursor 0 0) ≡ End → EndsWithin classes text limit at true
-    within_end e =
+  -- a walk that begins a body
+  pub begun : (before : Walk) → before.cursor.end ≡ at → before.free ≡ 0 → (table after : List ℕ) (r : Result Unit Refusal) (walk : Walk) → ListIs classes text before record { left = limit; parent = 0 } table after r walk → BodyIs table after r walk
+  begun before e f table after r walk x = rw (e, f) at x
+
+  pub body_stops : {table after : List ℕ} (why : Refusal) (walk : Walk) → BodyIs table after (Err why) walk → BodyRead classes text limit at table after (whole.Refused (number_told why) (place_told (length text) why walk))
+  body_stops why walk l = record { whole = λ e f. whole_stops classes text (rw e at l.0); within = record { clean = λ f. rw (verdict_stops classes text limit at l.0) refl; faulty = λ n p q. refl } }
+
+  module _ {table after : List ℕ} (walk : Walk) (l : BodyIs table after (Ok tt) walk) where
+    -- it reads to the end
+    pub body_end : walk.cursor.ahead ≡ End → BodyRead classes text limit at table after (Listed walk.free)
+    body_end e =
+        let clean : Faultless classes text at = record { none = l.1 ∙ ap (fault_ahead classes text) (ended_in walk.cursor e) } in
+        let nothing : symbols_ahead classes text (coming walk) ≡ [] = rw (ended_in walk.cursor e) refl in
         record {
-          clean = λ f. rw (verdict_listed classes text limit at (next_in cursor) l.0.read (rw (ended_in cursor e) refl)) refl;
-          faulty = λ n p q. absurd (never (q ∙ (clean_end e).none));
+          whole = λ m. record { listed = whole_listed classes text (coming walk) (rw m at l.0.read) nothing; faultless = clean };
+          within = record { clean = λ f. rw (verdict_listed classes text limit at (coming walk) l.0.read nothing) refl; faulty = λ n p q. absurd (never (q ∙ clean.none)) };
         }
 
     -- .. or not
-    within_from : (a : Ahead) → ahead_of (get_or cursor 0 0) ≡ a → OneOf (0 ∷ 2 ∷ []) (tag_of ahead-declared.the_type a) → Faultless classes text at → false ≡ ends_within classes text limit at
-    within_from (Symbol class) e o f = rw (verdict_closed classes text limit at (rw (found_in cursor e) at l.0.read)) refl
-    within_from End e o f = absurd (miss (0 ∷ 2 ∷ []) 1 tt o)
-    within_from Faulty e o f = absurd (never (sym (l.1.same ∙ ap (fault_ahead classes text) (faulty_in cursor e)) ∙ f.none))
+    body_from : (a : Ahead) → walk.cursor.ahead ≡ a → (walk.cursor.ahead ≡ End → ⊥) → BodyRead classes text limit at table after (whole.Refused no_list_goes_on walk.cursor.start)
+    body_from (Symbol class) e o =
+        record { whole = λ m f. whole_closed classes text (rw (m, found_in walk.cursor e) at l.0.read); within = record { clean = λ f. rw (verdict_closed classes text limit at (rw (found_in walk.cursor e) at l.0.read)) refl; faulty = λ n p q. refl } }
+    body_from End e o = absurd (o e)
+    body_from (Faulty number) e o =
+        let z : Faultless classes text at → ⊥ = λ f. never (sym (l.1 ∙ ap (fault_ahead classes text) (faulty_in walk.cursor e)) ∙ f.none) in
+        record { whole = λ m f. absurd (z f); within = record { clean = λ f. absurd (z f); faulty = λ n p q. refl } }
 
-    pub within_behind : {a : Ahead} → a ≡ ahead_of (get_or cursor 0 0) → OneOf (0 ∷ 2 ∷ []) (tag_of ahead-declared.the_type a) → EndsWithin classes text limit at false
-    within_behind {a} e o = record { clean = within_from a (sym e) o; faulty = λ n p q. refl }
+    pub body_behind : (walk.cursor.ahead ≡ End → ⊥) → BodyRead classes text limit at table after (whole.Refused no_list_goes_on walk.cursor.start)
+    body_behind o = body_from walk.cursor.ahead refl o
 
-  pub within_stops : (limit at : ℕ) {number-told place : ℕ} → ListStops classes text at (outermost limit) number-told place → EndsWithin classes text limit at false
-  within_stops limit at s = record { clean = λ f. rw (verdict_stops classes text limit at s) refl; faulty = λ n p q. refl }
-
-  -- ---- the first run
-
-  module _ (at : ℕ) {table after cursor : List ℕ} (l : ListIs classes text (origin at) level_limit 0 table after true cursor) where
-    pub first_end : ahead_of (get_or cursor 0 0) ≡ End → ListedClean (answer level_limit) classes text at table after (free_in cursor)
-    first_end e = record { listed = whole_listed classes text (next_in cursor) l.0.read (rw (ended_in cursor e) refl); faultless = clean_end level_limit at l e }
-
-    first_from : (a : Ahead) → ahead_of (get_or cursor 0 0) ≡ a → OneOf (0 ∷ 2 ∷ []) (tag_of ahead-declared.the_type a) → Faultless classes text at → IsRefused (answer level_limit) classes text at no_list_goes_on (get_or cursor 1 0)
-    first_from (Symbol class) e o f = whole_closed classes text (rw (found_in cursor e) at l.0.read)
-    first_from End e o f = absurd (miss (0 ∷ 2 ∷ []) 1 tt o)
-    first_from Faulty e o f = absurd (never (sym (l.1.same ∙ ap (fault_ahead classes text) (faulty_in cursor e)) ∙ f.none))
-
-    pub first_behind : {a : Ahead} → a ≡ ahead_of (get_or cursor 0 0) → OneOf (0 ∷ 2 ∷ []) (tag_of ahead-declared.the_type a) → Faultless classes text at → IsRefused (answer level_limit) classes text at no_list_goes_on (get_or cursor 1 0)
-    first_behind {a} e o f = first_from a (sym e) o f
-
+module _ (classes text : List ℕ) where
   -- ---- the answer
 
   module _ {at : ℕ} (table : List ℕ) where
@@ -127,14 +112,14 @@ module _ (classes text : List ℕ) where
         → FaultFirst (answer level_limit) classes text at table after (Accepted n)
     first_written after l h w x = listed_first l (twice_written (answer level_limit) classes text table after l.listed h w (as_whole after l w x))
 
-    -- one run beside the table, in room for all the records that so short a body can have
-    pub first_copied : (room half : List ℕ) {n : ℕ} {after : List ℕ} → at ≤ length text → length text ≤ at + once_limit → once_room ≡ length room → ListedClean (answer level_limit) classes text at room half n → n ≤ length table / address_record_size
+    -- one run beside the table, in room for all the records
+    pub first_copied : (room half : List ℕ) {n : ℕ} {after : List ℕ} → ListedClean (answer level_limit) classes text at room half n → n ≤ length room / address_record_size → n ≤ length table / address_record_size
         → after ≡ sets table 0 (take (n * address_record_size) half) → FaultFirst (answer level_limit) classes text at table after (Accepted n)
-    first_copied room half {n} {after} inside few large l h e =
+    first_copied room half {n} {after} l g h e =
         let k = l.listed.derivation in
         let rs = records k in
         let c : n ≡ length rs = l.listed.count_is ∙ sym (length-records k) in
         let size : n * address_record_size ≡ length (table_bytes rs) = omega (arith, length-table address_layout rs, c) in
-        let fits : length (table_bytes rs) ≤ length room = omega (arith, size, large, few, accepted_half classes text at level_limit inside l.listed.verdict_is, l.listed.count_is) in
+        let fits : length (table_bytes rs) ≤ length room = omega (arith, size, g) in
         first_written after l h (Listed n)
         record { listed = record { derivation = k; verdict_is = l.listed.verdict_is; count_is = l.listed.count_is; stored = e ∙ rw (l.listed.stored, size) (staged table room (table_bytes rs) fits) }; faultless = l.faultless }

@@ -40,12 +40,12 @@ module _ (classes text : List ℕ) where
   -- the list so far
   pub record ListSoFar (at : ℕ) (frame : Frame) (table after : List ℕ) (ahead : Next) (last free : ℕ) : Type 0 where
     pub tree : AddressList
-    pub reads : (k : Level) → Clear (nameless k) (atom_colon (symbols_from classes text at)) → run (levels_at k + frame.levels) (list k (idle empty)) (symbols_from classes text at) ≡ run (levels_at k + frame.levels) (done_list k tree) (symbols_ahead classes text ahead)
+    pub reads : (k : Level) → Clear (nameless k) (atom_colon (symbols_from classes text at)) → run (levels_at k + frame.level.left) (list k (idle empty)) (symbols_from classes text at) ≡ run (levels_at k + frame.level.left) (done_list k tree) (symbols_ahead classes text ahead)
     pub clear : (k : Level) → Clear (nameless k) (atom_colon (symbols_from classes text at)) → ClearAt k tree (symbols_ahead classes text ahead)
     pub behind : Behind tree (symbols_ahead classes text ahead)
     pub ahead_ok : Comes classes text last ahead
     pub count : free ≡ frame.number + list_count tree
-    pub stored : after ≡ sets table (frame.number * address_record_size) (table_bytes (list_records tree (level_limit - frame.levels) frame.parent frame.number))
+    pub stored : after ≡ sets table (frame.number * address_record_size) (table_bytes (list_records tree (level_limit - frame.level.left) frame.level.parent frame.number))
     pub from : at ≤ last
     pub within : last ≤ length text
     pub free_low : free ≤ last
@@ -54,7 +54,7 @@ module _ (classes text : List ℕ) where
   list_start {at} {frame} table ahead inside low x =
       record {
         tree = idle empty;
-        reads = λ k c. ap (run (levels_at k + frame.levels) (list k (idle empty))) x.same;
+        reads = λ k c. ap (run (levels_at k + frame.level.left) (list k (idle empty))) x.same;
         clear = λ k c. rw (← x.same) c;
         behind = tt;
         ahead_ok = x.ok;
@@ -70,8 +70,8 @@ module _ (classes text : List ℕ) where
     list_comma {a} {b} {apart = apart} ahead w x =
         record {
           tree = idle (comma w.tree (lexeme_at classes text Comma a b apart));
-          reads = λ k c. w.reads k c ∙ run_comma (levels_at k + frame.levels) k w.tree (lexeme_at classes text Comma a b apart) (symbols_from classes text b)
-              ∙ ap (run (levels_at k + frame.levels) (list k (idle (comma w.tree (lexeme_at classes text Comma a b apart))))) x.same;
+          reads = λ k c. w.reads k c ∙ run_comma (levels_at k + frame.level.left) k w.tree (lexeme_at classes text Comma a b apart) (symbols_from classes text b)
+              ∙ ap (run (levels_at k + frame.level.left) (list k (idle (comma w.tree (lexeme_at classes text Comma a b apart))))) x.same;
           clear = λ k c. tt;
           behind = tt;
           ahead_ok = x.ok;
@@ -84,15 +84,15 @@ module _ (classes text : List ℕ) where
 
     -- one address more
     pub list_address : {class : Class} {a b size last free last' free' : ℕ} {apart : Bool} (after : List ℕ) (ahead : Next) → ListSoFar at frame table now (found_at class a b size apart) last free → ends_address class ≡ false
-        → AddressRead classes text (symbols_on classes text class a b apart) record { levels = frame.levels; parent = frame.parent; number = free } a now after ahead last' free'
+        → AddressRead classes text (symbols_on classes text class a b apart) record { level = frame.level; number = free } a now after ahead last' free'
         → ListSoFar at frame table after ahead last' free'
     list_address {class} {a} {b} {free = free} {last' = last'} {free' = free'} {apart = apart} after ahead w f r = by w.tree w.reads w.clear w.behind w.count w.stored
       where
         by : (l : AddressList)
-            → ((k : Level) → Clear (nameless k) (atom_colon (symbols_from classes text at)) → run (levels_at k + frame.levels) (list k (idle empty)) (symbols_from classes text at) ≡ run (levels_at k + frame.levels) (done_list k l) (symbols_on classes text class a b apart))
+            → ((k : Level) → Clear (nameless k) (atom_colon (symbols_from classes text at)) → run (levels_at k + frame.level.left) (list k (idle empty)) (symbols_from classes text at) ≡ run (levels_at k + frame.level.left) (done_list k l) (symbols_on classes text class a b apart))
             → ((k : Level) → Clear (nameless k) (atom_colon (symbols_from classes text at)) → ClearAt k l (symbols_on classes text class a b apart))
             → Behind l (symbols_on classes text class a b apart) → free ≡ frame.number + list_count l
-            → now ≡ sets table (frame.number * address_record_size) (table_bytes (list_records l (level_limit - frame.levels) frame.parent frame.number)) → ListSoFar at frame table after ahead last' free'
+            → now ≡ sets table (frame.number * address_record_size) (table_bytes (list_records l (level_limit - frame.level.left) frame.level.parent frame.number)) → ListSoFar at frame table after ahead last' free'
         by (idle p) reads clear behind count stored =
             record {
               tree = full p r.tree;
@@ -101,7 +101,7 @@ module _ (classes text : List ℕ) where
               behind = r.ends;
               ahead_ok = r.ahead_ok;
               count = omega (arith, r.count);
-              stored = rw (stored, count) at r.stored ∙ stored_behind table frame.number p r.tree (level_limit - frame.levels) frame.parent;
+              stored = rw (stored, count) at r.stored ∙ stored_behind table frame.number p r.tree (level_limit - frame.level.left) frame.level.parent;
               from = omega (arith, w.from, w.ahead_ok.0, r.from);
               within = r.within;
               free_low = r.free_low;
@@ -109,13 +109,13 @@ module _ (classes text : List ℕ) where
         by (full p x) reads clear behind count stored = absurd (true≢false (sym behind ∙ f))
 
     pub list_stops : {class : Class} {a b size last free number-told place : ℕ} {apart : Bool} → ListSoFar at frame table now (found_at class a b size apart) last free → ends_address class ≡ false
-        → AddressStops classes text (symbols_on classes text class a b apart) record { levels = frame.levels; parent = frame.parent; number = free } number-told place → ListStops classes text at frame number-told place
+        → AddressStops classes text (symbols_on classes text class a b apart) record { level = frame.level; number = free } number-told place → ListStops classes text at frame number-told place
     list_stops {class} {a} {b} {apart = apart} w f s =
         record { why = s.why; rest = s.rest; number_is = s.number_is; place_is = s.place_is; stops = λ k c. by k w.tree (w.reads k c) (w.clear k c) w.behind }
       where
-        by : (k : Level) (l : AddressList) → run (levels_at k + frame.levels) (list k (idle empty)) (symbols_from classes text at) ≡ run (levels_at k + frame.levels) (done_list k l) (symbols_on classes text class a b apart)
+        by : (k : Level) (l : AddressList) → run (levels_at k + frame.level.left) (list k (idle empty)) (symbols_from classes text at) ≡ run (levels_at k + frame.level.left) (done_list k l) (symbols_on classes text class a b apart)
             → ClearAt k l (symbols_on classes text class a b apart) → Behind l (symbols_on classes text class a b apart)
-            → judge (run (levels_at k + frame.levels) (list k (idle empty)) (symbols_from classes text at)) ≡ Rattle.grammar.specs.Believed.Language.refused s.why s.rest
+            → judge (run (levels_at k + frame.level.left) (list k (idle empty)) (symbols_from classes text at)) ≡ Rattle.grammar.specs.Believed.Language.refused s.why s.rest
         by k (idle p) reads clear behind = ap judge reads ∙ s.stops (in_list k p) clear
         by k (full p x) reads clear behind = absurd (true≢false (sym behind ∙ f))
 

@@ -1,37 +1,34 @@
 -- An address that begins with a phrase. Assumes nothing.
-use mathlib.Core.Path.{◌≡◌, sym, ap, ◌∙◌}
-use mathlib.Core.Bool.{not, Bool, false}
-use mathlib.Core.List.{List, [], ◌∷◌}
+use mathlib.Core.Path.{◌≡◌, refl, sym, ap, ◌∙◌}
+use mathlib.Core.Bool.{Bool, false}
+use mathlib.Core.List.{List, ◌∷◌}
 use mathlib.Core.Option.{some}
 use Prim.Native.Nat.{ℕ}
-use types.Run.{OneOf, miss}
-use denote.Enum.Declared.{tag_of}
-use Rattle.scanner.specs.contracts.Next as next-declared
-use Rattle.octets.specs.Believed.Choice.{either}
 use Rattle.scanner.specs.declared.Next.{Next}
 use Rattle.scanner.specs.Believed.Answers.{found_at}
-use Rattle.scanner.specs.declared.Next.TheVariants.{Found, Ended, Fault}
-use Rattle.grammar.specs.Executable.Trees733.{Class, Lexeme, Sym, Phrase, one}
+use Rattle.grammar.specs.Executable.Trees733.{Class, Atom, Quoted, At, LessThan, GreaterThan, Comma, Semicolon, Colon, Stray, Dot, Literal, Lexeme, Sym, Phrase, one}
 use Rattle.grammar.proofs.Rfc733.Trees.{phrase_then}
-use Rattle.addresses.specs.Ties.Steps.{is_word, is_quoted, follows_phrase, lone_quoted, opening, House, symbols_from, lexeme_at, symbols_on, symbols_ahead, Comes, FirstWord, Words, WordsIs, NoMark, Named, Opening}
+use Rattle.addresses.specs.Ties.Steps.{is_word, is_quoted, follows_phrase, lone_quoted, opening, House, symbols_from, lexeme_at, symbols_on, symbols_ahead, FirstWord, Words, WordsIs, Named, Opening}
 use Rattle.records.specs.declared.Span.{Span}
 use Rattle.addresses.specs.declared.Enclosure.{Enclosure}
 use Rattle.addresses.specs.declared.Enclosure.TheVariants.{Angle, Group}
-use Rattle.addresses.proofs.ClassCases.{tag, by_class, is_false}
 use Rattle.addresses.proofs.PhraseLaws.{word_of, word_symbol_lem, word_lexeme_lem, word_lone}
 
 -- a symbol after a phrase that is no word and none of the marks of an address
-pub no_mark_found : (classes text : List ℕ) (class : Class) → OneOf (0 ∷ 1 ∷ 4 ∷ 5 ∷ 6 ∷ 8 ∷ 9 ∷ 10 ∷ []) (tag class) → is_word class ≡ false → follows_phrase classes text class ≡ false
-no_mark_found classes text class o e =
-    let b = by_class (0 ∷ 1 ∷ 4 ∷ 5 ∷ 6 ∷ 8 ∷ 9 ∷ 10 ∷ []) (λ c. either (is_word c) (not (follows_phrase classes text c))) tt class o in
-    is_false (follows_phrase classes text class) (rw e at b)
+pub no_mark_found : (classes text : List ℕ) (class : Class) → (class ≡ At → ⊥) → (class ≡ LessThan → ⊥) → (class ≡ Colon → ⊥) → is_word class ≡ false → follows_phrase classes text class ≡ false
+no_mark_found classes text Atom a l c e = e
+no_mark_found classes text Quoted a l c e = e
+no_mark_found classes text At a l c e = absurd (a refl)
+no_mark_found classes text LessThan a l c e = absurd (l refl)
+no_mark_found classes text GreaterThan a l c e = refl
+no_mark_found classes text Comma a l c e = refl
+no_mark_found classes text Semicolon a l c e = refl
+no_mark_found classes text Colon a l c e = absurd (c refl)
+no_mark_found classes text Stray a l c e = refl
+no_mark_found classes text Dot a l c e = refl
+no_mark_found classes text Literal a l c e = refl
 
 module _ (classes text : List ℕ) where
-  pub no_mark_left : (low : ℕ) (r : Next) → Comes classes text low r → OneOf (1 ∷ 2 ∷ []) (tag_of next-declared.the_type r) → NoMark classes text r
-  no_mark_left low (Found symbol) a o = absurd (miss (1 ∷ 2 ∷ []) 0 tt o)
-  no_mark_left low Ended a o = tt
-  no_mark_left low (Fault number p) a o = tt
-
   -- the phrase that begins with a word
   abbrev pub phrase_of : (class : Class) (start end : ℕ) (apart : Bool) {lone : Bool} {r : Words} → WordsIs classes text end lone r → Phrase
   phrase_of class start end apart w = w.grow (one (word_of class (lexeme_at classes text class start end apart)))

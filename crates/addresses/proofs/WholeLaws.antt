@@ -35,7 +35,7 @@ use Rattle.addresses.proofs.AnyEdition as any
 
 -- the outermost list, of at most so many levels
 abbrev pub outermost : ℕ → Frame
-outermost limit = record { levels = limit; parent = 0; number = 0 }
+outermost limit = record { level = record { left = limit; parent = 0 }; number = 0 }
 
 -- ---- the verdict
 

@@ -2,107 +2,117 @@
 //
 // The list reader and the address reader call each other, what is left of the text and the levels left falling.
 // Two of the calls go down one level, read_enclosed's of the list reader and read_typed's of the address reader; the others keep the level. So at most 64 are open.
+// The table of classes and the text stay parameters of their own: in a lent struct the table is no constant to the compiler, and callgrind counts about a tenth more instructions.
 #![tactic(auto)]
 
-ghost use Rattle.std.specs.Prelude.{◌≡◌, ◌+◌, ◌*◌, ◌-◌, ◌≤◌, ◌<◌, length, get_or};
+ghost use Rattle.std.specs.Prelude.{◌≡◌, ◌+◌, ◌*◌, ◌-◌, ◌≤◌, ◌<◌, length};
 ghost use Rattle.std.proofs.lemmas.List.Edits.{sets};
+ghost use Rattle.octets.specs.Believed.Answers.{fault};
 ghost use Rattle.octets.specs.Believed.Numbers.{message_limit, level_limit};
 ghost use Rattle.octets.specs.declared.answers.Answer.TheVariants.{Refused};
 ghost use Rattle.records.specs.Believed.AddressRecords.{record_by, record_bytes, address_record_size};
 ghost use Rattle.scanner.specs.Believed.Scanning.{scan_by};
 ghost use Rattle.scanner.specs.Believed.Answers.{unless_fault};
-ghost use Rattle.scanner.specs.Ties.Cursors.{cursor_size, ahead_of, next_in};
 ghost use Rattle.grammar.specs.Executable.Machine733.{answer};
-ghost use Rattle.addresses.specs.Ties.Steps.{word_ahead, quoted_ahead, ends_ahead, closes_ahead, enclosure_of, reading, refused_next, enclosure_kind, PhraseIs, NodesAre, TypedAtomIs, MarkAhead, MailboxIs, LoneAhead, LoneIs, CloseIs, Entered, ListIs, BeginsAddress, AddressAhead, NamedFirst, EnclosedIs, ColonFirst, TypedAhead, TypedIs};
-ghost use Rattle.addresses.specs.Ties.Whole.{Fitting, once_limit, once_room, WholeFirst, FaultFirst, EndsWithin};
+ghost use Rattle.addresses.specs.Ties.Steps.{is_ahead, word_ahead, ends_ahead, closes_ahead, refusal_ahead, number_told, place_told, enclosure_kind, PhraseIs, NodesAre, TypedAtomIs, MarkAhead, MailboxIs, LoneAhead, LoneIs, CloseIs, Entered, ListIs, BeginsAddress, AddressAhead, NamedFirst, EnclosedIs, ColonFirst, TypedAhead, TypedIs};
+ghost use Rattle.addresses.specs.Ties.Whole.{Fitting, BodyRead, FaultFirst};
 ghost use Rattle.addresses.specs.Believed.Outcome.{AnsweredBy, outcome};
 ghost use Rattle.addresses.specs.Believed.Within.{list_within};
 ghost use Rattle.addresses.specs.Believed.Condition3.{Condition3};
 
 use grammar::{Whole, typed_kind};
-use octets::answers::Answer;
-use octets::classes::{CLASSES, COLON};
+use octets::answers::{Answer, Fault};
+use octets::classes::CLASSES;
 use octets::numbers::{ENDS_TOO_SOON, LEVEL_LIMIT, NO_LIST_GOES_ON, TOO_MANY_LEVELS};
 use octets::writing::copy_front;
 use records::Span;
 use records::address::{ADDRESS_RECORD_SIZE, AddressRecord, store};
 use scanner::Class;
-use scanner::cursor::{Ahead, CLASS, END, ENDED, FAULT, FROM, START, ahead_of, put, step};
+use scanner::cursor::{Ahead, Cursor};
 
-// The places of a cursor that are this walk's own: the next free record number, and the end of the last symbol read.
-const FREE: usize = 5;
-
-const LAST: usize = 6;
-
-// A body of up to so many bytes is read once, beside the table.
+// The records of a body of up to so many bytes are held beside the table, so that it is read once.
 const ONCE_LIMIT: usize = 1024;
 
-// The bytes of the records that it can have.
-const ONCE_ROOM: usize = ONCE_LIMIT / 2 * ADDRESS_RECORD_SIZE;
+// Their bytes: it has at most one record for each two bytes.
+const STAGED: usize = ONCE_LIMIT / 2 * ADDRESS_RECORD_SIZE;
+
+// The kinds of addresses that are not typed, as their records have them.
+const MAILBOX: u8 = 1;
+
+const ANGLE_LIST: u8 = 2;
+
+const GROUP: u8 = 3;
+
+const QUOTED_STRING: u8 = 4;
 
 // What encloses a list.
-#[derive(Clone, Copy)]
+#[derive(Clone, Copy, PartialEq, Eq)]
 enum Enclosure {
     Angle,
     Group,
 }
 
-// Where a record stands: the levels left, its parent's number plus 1, and its own number.
+// Why a list is refused: no list goes on with what stands ahead, the text ends too soon, or there are too many levels.
+#[derive(Clone, Copy, PartialEq, Eq)]
+enum Refusal {
+    Unfit,
+    Unfinished,
+    TooDeep,
+}
+
+// Where a list or an address stands: the levels left, and its parent's number plus 1.
+#[derive(Clone, Copy)]
+struct Level {
+    left: usize,
+    parent: usize,
+}
+
+// Where a record stands: the level of its address, and its own number.
 #[derive(Clone, Copy)]
 struct Frame {
-    levels: usize,
-    parent: usize,
+    level: Level,
     number: usize,
 }
 
-// Whether an atom and ":" follow a ":", and the atom's span.
+// A walk through a list: what stands ahead, the next free record number, and the end of the last symbol read.
 #[derive(Clone, Copy)]
-enum TypedAtom {
-    Typed(usize, usize),
-    Nameless,
+struct Walk {
+    cursor: Cursor,
+    free: usize,
+    last: usize,
 }
 
-// Write a record at its place in the table; past the end nothing is stored.
-fn put_record(table: &mut [u8], frame: Frame, kind: u8, end: usize, start: usize, name: Span)
-    requires { (frame.levels ≤ level_limit) × (frame.number ≤ message_limit) }
-    ensures { table.new ≡ sets table.old (frame.number * address_record_size) (record_bytes (record_by kind (level_limit - frame.levels) frame.parent start end name.start name.end)) }
-{
-    let depth = (LEVEL_LIMIT - frame.levels) as u8;
-    let address = AddressRecord {
-        kind,
-        depth,
-        parent: frame.parent,
-        start,
-        end,
-        name,
-    };
-    store(table, frame.number, address);
+impl Frame {
+    // Write a record at its place in the table; past the end nothing is stored.
+    #[inline(always)]
+    fn put(self, table: &mut [u8], kind: u8, end: usize, start: usize, name: Span)
+        requires { (self.level.left ≤ level_limit) × (self.number ≤ message_limit) }
+        ensures { table.new ≡ sets table.old (self.number * address_record_size) (record_bytes (record_by kind (level_limit - self.level.left) self.level.parent start end name.start name.end)) }
+    {
+        let address = AddressRecord {
+            kind,
+            depth: (LEVEL_LIMIT - self.level.left) as u8,
+            parent: self.level.parent,
+            start,
+            end,
+            name,
+        };
+        store(table, self.number, address);
+    }
 }
 
 // Whether a word stands ahead.
 fn is_word(ahead: Ahead) -> bool
     ensures { result ≡ word_ahead ahead }
 {
-    match ahead {
-        Ahead::Symbol(class) => match class {
-            Class::Atom | Class::Quoted => true,
-            _ => false,
-        },
-        _ => false,
-    }
+    matches!(ahead, Ahead::Symbol(Class::Atom | Class::Quoted))
 }
 
-// Whether a quoted-string stands ahead.
-fn is_quoted(ahead: Ahead) -> bool
-    ensures { result ≡ quoted_ahead ahead }
+// Whether a symbol of a class stands ahead.
+fn is_ahead(class: Class, ahead: Ahead) -> bool
+    ensures { result ≡ is_ahead class ahead }
 {
-    let Ahead::Symbol(class) = ahead else {
-        return false;
-    };
-    match class {
-        Class::Quoted => true,
-        _ => false,
-    }
+    ahead == Ahead::Symbol(class)
 }
 
 // Whether what stands ahead may stand after an address.
@@ -110,437 +120,404 @@ fn ends_address(ahead: Ahead) -> bool
     ensures { result ≡ ends_ahead ahead }
 {
     match ahead {
-        Ahead::Symbol(class) => match class {
-            Class::Comma | Class::GreaterThan | Class::Semicolon => true,
-            _ => false,
-        },
+        Ahead::Symbol(class) => {
+            matches!(class, Class::Comma | Class::GreaterThan | Class::Semicolon)
+        }
         _ => true,
     }
 }
 
-// The refusal of what stands ahead: 8 at a symbol, 9 at the end of the text.
-fn refuse(text: &[u8], cursor: &mut [usize; 7]) -> bool
-    requires { length cursor.old ≡ cursor_size }
-    ensures { reading result cursor.new ≡ refused_next (length text.now) (next_in cursor.old) }
-{
-    match ahead_of(cursor[CLASS]) {
-        Ahead::Symbol(_) => {
-            let place = cursor[START];
-            put(cursor, FAULT, place, NO_LIST_GOES_ON as usize, 0);
-        }
-        _ => put(cursor, FAULT, text.len(), ENDS_TOO_SOON as usize, 0),
-    }
-    false
-}
-
-// The words of a phrase whose first stands ahead, and whether they are one quoted-string; lone: whether the first is one.
-fn read_words(classes: &[u8; 256], text: &[u8], cursor: &mut [usize; 7], lone: bool) -> bool
-    requires { (length cursor.old ≡ cursor_size) × (get_or cursor.old 2 0 ≤ length text.now) }
-    ensures { PhraseIs classes.now text.now cursor.old lone result cursor.new }
-{
-    let mut single = lone;
-    loop {
-        let last = cursor[END];
-        step(classes, text, cursor);
-        if !is_word(ahead_of(cursor[CLASS])) {
-            cursor[LAST] = last;
-            return single;
-        }
-        single = false;
-    }
-}
-
-// The nodes after the "at" that stands ahead, to the end of the address.
-fn read_nodes(classes: &[u8; 256], text: &[u8], cursor: &mut [usize; 7]) -> bool
-    requires { length cursor.old ≡ cursor_size }
-    ensures { NodesAre classes.now text.now cursor.old result cursor.new }
-{
-    loop {
-        step(classes, text, cursor);
-        if !is_word(ahead_of(cursor[CLASS])) {
-            return refuse(text, cursor);
-        }
-        let last = cursor[END];
-        step(classes, text, cursor);
-        let ahead = ahead_of(cursor[CLASS]);
-        if ends_address(ahead) {
-            cursor[LAST] = last;
-            return true;
-        }
-        let Ahead::Symbol(class) = ahead else {
-            return refuse(text, cursor);
+impl Enclosure {
+    // Whether what stands ahead closes an enclosed list.
+    fn closes(self, ahead: Ahead) -> bool
+        ensures { result ≡ closes_ahead self ahead }
+    {
+        let mark = match self {
+            Enclosure::Angle => Class::GreaterThan,
+            Enclosure::Group => Class::Semicolon,
         };
-        let Class::At = class else {
-            return refuse(text, cursor);
-        };
+        is_ahead(mark, ahead)
+    }
+
+    // The kind of an enclosed list.
+    fn kind(self) -> u8
+        ensures { result ≡ enclosure_kind self }
+    {
+        match self {
+            Enclosure::Angle => ANGLE_LIST,
+            Enclosure::Group => GROUP,
+        }
     }
 }
 
-// The atom and ":" that make a typed address of the ":" that stands ahead; after them the second ":" stands ahead.
-fn typed_atom(classes: &[u8; 256], text: &[u8], cursor: &mut [usize; 7]) -> TypedAtom
-    requires { length cursor.old ≡ cursor_size }
-    ensures { TypedAtomIs classes.now text.now cursor.old result cursor.new }
-{
-    step(classes, text, cursor);
-    let Ahead::Symbol(class) = ahead_of(cursor[CLASS]) else {
-        return TypedAtom::Nameless;
-    };
-    let Class::Atom = class else {
-        return TypedAtom::Nameless;
-    };
-    let start = cursor[START];
-    let end = cursor[END];
-    step(classes, text, cursor);
-    let Ahead::Symbol(mark) = ahead_of(cursor[CLASS]) else {
-        return TypedAtom::Nameless;
-    };
-    let Class::Colon = mark else {
-        return TypedAtom::Nameless;
-    };
-    TypedAtom::Typed(start, end)
-}
+impl Walk {
+    // A walk that begins at a position.
+    fn new(at: usize) -> Walk
+        ensures { (result.cursor.end ≡ at) × (result.free ≡ 0) }
+    {
+        Walk {
+            cursor: Cursor::new(at),
+            free: 0,
+            last: at,
+        }
+    }
 
-// A mailbox, after its phrase; the "at" stands ahead.
-fn read_mailbox(
-    classes: &[u8; 256],
-    text: &[u8],
-    table: &mut [u8],
-    cursor: &mut [usize; 7],
-    levels: usize,
-    parent: usize,
-    name: Span,
-) -> bool
-    requires { MarkAhead classes.now text.now cursor.old levels parent name }
-    ensures { MailboxIs classes.now text.now cursor.old levels parent name table.old table.new result cursor.new }
-{
-    if !read_nodes(classes, text, cursor) {
-        return false;
+    // The refusal of what stands ahead.
+    fn refusal(&self) -> Refusal
+        ensures { result ≡ refusal_ahead self.now.cursor.ahead }
+    {
+        match self.cursor.ahead {
+            Ahead::Symbol(_) => Refusal::Unfit,
+            _ => Refusal::Unfinished,
+        }
     }
-    let number = cursor[FREE];
-    let frame = Frame {
-        levels,
-        parent,
-        number,
-    };
-    put_record(table, frame, 1, cursor[LAST], name.start, name);
-    cursor[FREE] = number + 1;
-    true
-}
 
-// A phrase that no mark follows: one quoted-string alone is an address.
-fn read_lone(
-    classes: &[u8; 256],
-    text: &[u8],
-    table: &mut [u8],
-    cursor: &mut [usize; 7],
-    levels: usize,
-    parent: usize,
-    lone: bool,
-    name: Span,
-) -> bool
-    requires { LoneAhead classes.now text.now cursor.old levels parent name }
-    ensures { LoneIs classes.now text.now cursor.old levels parent lone name table.old table.new result cursor.new }
-{
-    if !lone {
-        return refuse(text, cursor);
+    // A refusal by its number, and its place: where the walk stands, or the end of the text.
+    fn fault(&self, refusal: Refusal, text: &[u8]) -> Fault
+        ensures { result ≡ fault (number_told refusal) (place_told (length text.now) refusal self.now) }
+    {
+        match refusal {
+            Refusal::Unfit => Fault {
+                number: NO_LIST_GOES_ON,
+                position: self.cursor.start,
+            },
+            Refusal::Unfinished => Fault {
+                number: ENDS_TOO_SOON,
+                position: text.len(),
+            },
+            Refusal::TooDeep => Fault {
+                number: TOO_MANY_LEVELS,
+                position: self.cursor.start,
+            },
+        }
     }
-    if !ends_address(ahead_of(cursor[CLASS])) {
-        return refuse(text, cursor);
-    }
-    let number = cursor[FREE];
-    let frame = Frame {
-        levels,
-        parent,
-        number,
-    };
-    put_record(table, frame, 4, name.end, name.start, name);
-    cursor[FREE] = number + 1;
-    true
-}
 
-// Whether what stands ahead closes an enclosed list.
-fn closes(enclosure: Enclosure, ahead: Ahead) -> bool
-    ensures { result ≡ closes_ahead enclosure ahead }
-{
-    let Ahead::Symbol(mark) = ahead else {
-        return false;
-    };
-    match enclosure {
-        Enclosure::Angle => match mark {
-            Class::GreaterThan => true,
-            _ => false,
-        },
-        Enclosure::Group => match mark {
-            Class::Semicolon => true,
-            _ => false,
-        },
+    // The words of a phrase whose first stands ahead, and whether they are one quoted-string; lone: whether the first is one.
+    fn read_words(&mut self, classes: &[u8; 256], text: &[u8], lone: bool) -> bool
+        requires { self.old.cursor.end ≤ length text.now }
+        ensures { PhraseIs classes.now text.now self.old lone result self.new }
+    {
+        let mut single = lone;
+        loop {
+            let last = self.cursor.end;
+            self.cursor.step(classes, text);
+            if !is_word(self.cursor.ahead) {
+                self.last = last;
+                return single;
+            }
+            single = false;
+        }
     }
-}
 
-// What a mark encloses: "<" an angle list, and ":" a group.
-fn enclosure_of(ahead: Ahead) -> Enclosure
-    ensures { result ≡ enclosure_of ahead }
-{
-    let Ahead::Symbol(class) = ahead else {
-        return Enclosure::Group;
-    };
-    match class {
-        Class::LessThan => Enclosure::Angle,
-        _ => Enclosure::Group,
-    }
-}
-
-// The kind of an enclosed list.
-fn enclosure_kind(enclosure: Enclosure) -> u8
-    ensures { result ≡ enclosure_kind enclosure }
-{
-    match enclosure {
-        Enclosure::Angle => 2,
-        Enclosure::Group => 3,
-    }
-}
-
-// The end of an enclosed list, whose addresses are read: its closing mark, and what may stand after it.
-fn close_list(
-    classes: &[u8; 256],
-    text: &[u8],
-    table: &mut [u8],
-    cursor: &mut [usize; 7],
-    frame: Frame,
-    enclosure: Enclosure,
-    name: Span,
-) -> bool
-    requires { (frame.levels ≤ level_limit) × (frame.number ≤ message_limit) × (length cursor.old ≡ cursor_size) }
-    ensures { CloseIs classes.now text.now cursor.old frame enclosure name table.old table.new result cursor.new }
-{
-    if !closes(enclosure, ahead_of(cursor[CLASS])) {
-        return refuse(text, cursor);
-    }
-    let end = cursor[END];
-    step(classes, text, cursor);
-    if !ends_address(ahead_of(cursor[CLASS])) {
-        return refuse(text, cursor);
-    }
-    put_record(
-        table,
-        frame,
-        enclosure_kind(enclosure),
-        end,
-        name.start,
-        name,
-    );
-    cursor[LAST] = end;
-    true
-}
-
-// A list from the end of what stands ahead on, up to what may stand after it.
-#[cycle(reading)]
-fn read_list(
-    classes: &[u8; 256],
-    text: &[u8],
-    table: &mut [u8],
-    cursor: &mut [usize; 7],
-    levels: usize,
-    parent: usize,
-) -> bool
-    requires { Entered classes.now text.now cursor.old levels parent }
-    ensures { ListIs classes.now text.now cursor.old levels parent table.old table.new result cursor.new }
-{
-    step(classes, text, cursor);
-    loop {
-        let Ahead::Symbol(class) = ahead_of(cursor[CLASS]) else {
-            return true;
-        };
-        match class {
-            Class::Comma => step(classes, text, cursor),
-            Class::GreaterThan | Class::Semicolon => return true,
-            _ => {
-                if !read_address(classes, text, table, cursor, levels, parent) {
-                    return false;
-                }
+    // The nodes after the "at" that stands ahead, to the end of the address.
+    #[inline(always)]
+    fn read_nodes(&mut self, classes: &[u8; 256], text: &[u8]) -> Result<(), Refusal>
+        ensures { NodesAre classes.now text.now self.old result self.new }
+    {
+        loop {
+            self.cursor.step(classes, text);
+            if !is_word(self.cursor.ahead) {
+                return Err(self.refusal());
+            }
+            let last = self.cursor.end;
+            self.cursor.step(classes, text);
+            if ends_address(self.cursor.ahead) {
+                self.last = last;
+                return Ok(());
+            }
+            if !is_ahead(Class::At, self.cursor.ahead) {
+                return Err(self.refusal());
             }
         }
     }
-}
 
-// An address whose first symbol stands ahead.
-#[cycle(reading)]
-fn read_address(
-    classes: &[u8; 256],
-    text: &[u8],
-    table: &mut [u8],
-    cursor: &mut [usize; 7],
-    levels: usize,
-    parent: usize,
-) -> bool
-    requires { BeginsAddress classes.now text.now cursor.old levels parent }
-    ensures { AddressAhead classes.now text.now cursor.old levels parent table.old table.new result cursor.new }
-{
-    let Ahead::Symbol(class) = ahead_of(cursor[CLASS]) else {
-        return refuse(text, cursor);
-    };
-    match class {
-        Class::Atom | Class::Quoted => read_named(classes, text, table, cursor, levels, parent),
-        Class::LessThan => {
-            let start = cursor[START];
-            let name = Span { start, end: start };
-            read_enclosed(classes, text, table, cursor, levels, parent, name)
+    // The atom before the ":" that makes a typed address of the ":" that stands ahead; if there is one, the second ":" stands ahead.
+    fn typed_atom(&mut self, classes: &[u8; 256], text: &[u8]) -> Option<Span>
+        ensures { TypedAtomIs classes.now text.now self.old result self.new }
+    {
+        self.cursor.step(classes, text);
+        if !is_ahead(Class::Atom, self.cursor.ahead) {
+            return None;
         }
-        Class::Colon => read_colon(classes, text, table, cursor, levels, parent),
-        _ => refuse(text, cursor),
+        let atom = Span {
+            start: self.cursor.start,
+            end: self.cursor.end,
+        };
+        self.cursor.step(classes, text);
+        if !is_ahead(Class::Colon, self.cursor.ahead) {
+            return None;
+        }
+        Some(atom)
     }
-}
 
-// An address that begins with a word.
-#[cycle(reading)]
-fn read_named(
-    classes: &[u8; 256],
-    text: &[u8],
-    table: &mut [u8],
-    cursor: &mut [usize; 7],
-    levels: usize,
-    parent: usize,
-) -> bool
-    requires { NamedFirst classes.now text.now cursor.old levels parent }
-    ensures { AddressAhead classes.now text.now cursor.old levels parent table.old table.new result cursor.new }
-{
-    let start = cursor[START];
-    let quoted = is_quoted(ahead_of(cursor[CLASS]));
-    let lone = read_words(classes, text, cursor, quoted);
-    let end = cursor[LAST];
-    let name = Span { start, end };
-    let Ahead::Symbol(mark) = ahead_of(cursor[CLASS]) else {
-        return read_lone(classes, text, table, cursor, levels, parent, lone, name);
-    };
-    match mark {
-        Class::At => read_mailbox(classes, text, table, cursor, levels, parent, name),
-        Class::LessThan | Class::Colon => read_enclosed(
-            classes, text, table, cursor, levels, parent, name,
-        ),
-        _ => read_lone(classes, text, table, cursor, levels, parent, lone, name),
+    // A mailbox, after its phrase; the "at" stands ahead.
+    #[inline(always)]
+    fn read_mailbox(
+        &mut self,
+        classes: &[u8; 256],
+        text: &[u8],
+        table: &mut [u8],
+        level: Level,
+        name: Span,
+    ) -> Result<(), Refusal>
+        requires { MarkAhead classes.now text.now self.old level name }
+        ensures { MailboxIs classes.now text.now self.old level name table.old table.new result self.new }
+    {
+        self.read_nodes(classes, text)?;
+        let number = self.free;
+        Frame { level, number }.put(table, MAILBOX, self.last, name.start, name);
+        self.free = number + 1;
+        Ok(())
     }
-}
 
-// An angle list or a group, after its name, if it has one; its opening mark stands ahead.
-#[cycle(reading)]
-fn read_enclosed(
-    classes: &[u8; 256],
-    text: &[u8],
-    table: &mut [u8],
-    cursor: &mut [usize; 7],
-    levels: usize,
-    parent: usize,
-    name: Span,
-) -> bool
-    requires { MarkAhead classes.now text.now cursor.old levels parent name }
-    ensures { EnclosedIs classes.now text.now cursor.old levels parent (enclosure_of (ahead_of (get_or cursor.old 0 0))) name table.old table.new result cursor.new }
-{
-    let enclosure = enclosure_of(ahead_of(cursor[CLASS]));
-    if levels == 0 {
-        let place = cursor[START];
-        put(cursor, FAULT, place, TOO_MANY_LEVELS as usize, 0); // at its opening mark
-        return false;
+    // A phrase that no mark follows: one quoted-string alone is an address.
+    fn read_lone(
+        &mut self,
+        classes: &[u8; 256],
+        text: &[u8],
+        table: &mut [u8],
+        level: Level,
+        lone: bool,
+        name: Span,
+    ) -> Result<(), Refusal>
+        requires { LoneAhead classes.now text.now self.old level name }
+        ensures { LoneIs classes.now text.now self.old level lone name table.old table.new result self.new }
+    {
+        if !lone || !ends_address(self.cursor.ahead) {
+            return Err(self.refusal());
+        }
+        let number = self.free;
+        Frame { level, number }.put(table, QUOTED_STRING, name.end, name.start, name);
+        self.free = number + 1;
+        Ok(())
     }
-    let number = cursor[FREE];
-    let below = number + 1;
-    cursor[FREE] = below;
-    if !read_list(classes, text, table, cursor, levels - 1, below) {
-        return false;
-    }
-    let frame = Frame {
-        levels,
-        parent,
-        number,
-    };
-    close_list(classes, text, table, cursor, frame, enclosure, name)
-}
 
-// An address that begins with ":": a typed address, or a nameless group.
-#[cycle(reading)]
-fn read_colon(
-    classes: &[u8; 256],
-    text: &[u8],
-    table: &mut [u8],
-    cursor: &mut [usize; 7],
-    levels: usize,
-    parent: usize,
-) -> bool
-    requires { ColonFirst classes.now text.now cursor.old levels parent }
-    ensures { AddressAhead classes.now text.now cursor.old levels parent table.old table.new result cursor.new }
-{
-    let start = cursor[START];
-    let end = cursor[END];
-    let from = cursor[FROM];
-    match typed_atom(classes, text, cursor) {
-        TypedAtom::Typed(first, last) => {
-            let atom = Span {
-                start: first,
-                end: last,
+    // The end of an enclosed list, whose addresses are read: its closing mark, and what may stand after it.
+    #[inline(always)]
+    fn close_list(
+        &mut self,
+        classes: &[u8; 256],
+        text: &[u8],
+        table: &mut [u8],
+        frame: Frame,
+        enclosure: Enclosure,
+        name: Span,
+    ) -> Result<(), Refusal>
+        requires { (frame.level.left ≤ level_limit) × (frame.number ≤ message_limit) }
+        ensures { CloseIs classes.now text.now self.old frame enclosure name table.old table.new result self.new }
+    {
+        if !enclosure.closes(self.cursor.ahead) {
+            return Err(self.refusal());
+        }
+        let end = self.cursor.end;
+        self.cursor.step(classes, text);
+        if !ends_address(self.cursor.ahead) {
+            return Err(self.refusal());
+        }
+        frame.put(table, enclosure.kind(), end, name.start, name);
+        self.last = end;
+        Ok(())
+    }
+
+    // A list from the end of what stands ahead on, up to what may stand after it.
+    #[cycle(reading)]
+    fn read_list(
+        &mut self,
+        classes: &[u8; 256],
+        text: &[u8],
+        table: &mut [u8],
+        level: Level,
+    ) -> Result<(), Refusal>
+        requires { Entered classes.now text.now self.old level }
+        ensures { ListIs classes.now text.now self.old level table.old table.new result self.new }
+    {
+        self.cursor.step(classes, text);
+        loop {
+            let Ahead::Symbol(class) = self.cursor.ahead else {
+                return Ok(());
             };
-            read_typed(classes, text, table, cursor, levels, parent, start, atom)
+            match class {
+                Class::Comma => self.cursor.step(classes, text),
+                Class::GreaterThan | Class::Semicolon => return Ok(()),
+                _ => self.read_address(classes, text, table, level)?,
+            }
         }
-        TypedAtom::Nameless => {
-            put(cursor, COLON as usize, start, end, 1);
-            cursor[FROM] = from;
-            let name = Span { start, end: start };
-            read_enclosed(classes, text, table, cursor, levels, parent, name)
+    }
+
+    // An address whose first symbol stands ahead.
+    #[cycle(reading)]
+    fn read_address(
+        &mut self,
+        classes: &[u8; 256],
+        text: &[u8],
+        table: &mut [u8],
+        level: Level,
+    ) -> Result<(), Refusal>
+        requires { BeginsAddress classes.now text.now self.old level }
+        ensures { AddressAhead classes.now text.now self.old level table.old table.new result self.new }
+    {
+        let Ahead::Symbol(class) = self.cursor.ahead else {
+            return Err(self.refusal());
+        };
+        match class {
+            Class::Atom | Class::Quoted => self.read_named(classes, text, table, level),
+            Class::LessThan => {
+                let start = self.cursor.start;
+                let name = Span { start, end: start };
+                self.read_enclosed(classes, text, table, level, Enclosure::Angle, name)
+            }
+            Class::Colon => self.read_colon(classes, text, table, level),
+            _ => Err(self.refusal()),
         }
+    }
+
+    // An address that begins with a word.
+    #[cycle(reading)]
+    fn read_named(
+        &mut self,
+        classes: &[u8; 256],
+        text: &[u8],
+        table: &mut [u8],
+        level: Level,
+    ) -> Result<(), Refusal>
+        requires { NamedFirst classes.now text.now self.old level }
+        ensures { AddressAhead classes.now text.now self.old level table.old table.new result self.new }
+    {
+        let start = self.cursor.start;
+        let quoted = is_ahead(Class::Quoted, self.cursor.ahead);
+        let lone = self.read_words(classes, text, quoted);
+        let name = Span {
+            start,
+            end: self.last,
+        };
+        let Ahead::Symbol(mark) = self.cursor.ahead else {
+            return self.read_lone(classes, text, table, level, lone, name);
+        };
+        match mark {
+            Class::At => self.read_mailbox(classes, text, table, level, name),
+            Class::LessThan => self.read_enclosed(
+                classes,
+                text,
+                table,
+                level,
+                Enclosure::Angle,
+                name,
+            ),
+            Class::Colon => self.read_enclosed(classes, text, table, level, Enclosure::Group, name),
+            _ => self.read_lone(classes, text, table, level, lone, name),
+        }
+    }
+
+    // An angle list or a group, after its name, if it has one; its opening mark stands ahead.
+    #[cycle(reading)]
+    fn read_enclosed(
+        &mut self,
+        classes: &[u8; 256],
+        text: &[u8],
+        table: &mut [u8],
+        level: Level,
+        enclosure: Enclosure,
+        name: Span,
+    ) -> Result<(), Refusal>
+        requires { MarkAhead classes.now text.now self.old level name }
+        ensures { EnclosedIs classes.now text.now self.old level enclosure name table.old table.new result self.new }
+    {
+        if level.left == 0 {
+            return Err(Refusal::TooDeep); // at its opening mark
+        }
+        let number = self.free;
+        let below = number + 1;
+        self.free = below;
+        let inner = Level {
+            left: level.left - 1,
+            parent: below,
+        };
+        self.read_list(classes, text, table, inner)?;
+        self.close_list(
+            classes,
+            text,
+            table,
+            Frame { level, number },
+            enclosure,
+            name,
+        )
+    }
+
+    // An address that begins with ":": a typed address, or a nameless group.
+    #[cycle(reading)]
+    fn read_colon(
+        &mut self,
+        classes: &[u8; 256],
+        text: &[u8],
+        table: &mut [u8],
+        level: Level,
+    ) -> Result<(), Refusal>
+        requires { ColonFirst classes.now text.now self.old level }
+        ensures { AddressAhead classes.now text.now self.old level table.old table.new result self.new }
+    {
+        let colon = self.cursor;
+        let start = colon.start;
+        if let Some(atom) = self.typed_atom(classes, text) {
+            return self.read_typed(classes, text, table, level, start, atom);
+        }
+        self.cursor = colon;
+        let name = Span { start, end: start };
+        self.read_enclosed(classes, text, table, level, Enclosure::Group, name)
+    }
+
+    // A typed address whose first ":" stands at start, after its atom; its second ":" stands ahead.
+    #[cycle(reading)]
+    fn read_typed(
+        &mut self,
+        classes: &[u8; 256],
+        text: &[u8],
+        table: &mut [u8],
+        level: Level,
+        start: usize,
+        atom: Span,
+    ) -> Result<(), Refusal>
+        requires { TypedAhead classes.now text.now self.old level start atom }
+        ensures { TypedIs classes.now text.now self.old level start atom table.old table.new result self.new }
+    {
+        if level.left == 0 {
+            self.cursor.start = start; // its first ":"
+            return Err(Refusal::TooDeep);
+        }
+        self.cursor.step(classes, text);
+        if ends_address(self.cursor.ahead) {
+            return Err(self.refusal());
+        }
+        let number = self.free;
+        let child = number + 1;
+        self.free = child;
+        let inner = Level {
+            left: level.left - 1,
+            parent: child,
+        };
+        self.read_address(classes, text, table, inner)?;
+        let kind = typed_kind(&text[atom.start..atom.end]);
+        Frame { level, number }.put(table, kind, self.last, start, atom);
+        Ok(())
     }
 }
 
-// A typed address whose first ":" stands at start, after its atom; its second ":" stands ahead.
-#[cycle(reading)]
-fn read_typed(
-    classes: &[u8; 256],
-    text: &[u8],
-    table: &mut [u8],
-    cursor: &mut [usize; 7],
-    levels: usize,
-    parent: usize,
-    start: usize,
-    atom: Span,
-) -> bool
-    requires { TypedAhead classes.now text.now cursor.old levels parent start atom }
-    ensures { TypedIs classes.now text.now cursor.old levels parent start atom table.old table.new result cursor.new }
+// The list of at most so many levels from a position of a text on to its end. A fault in it is taken for its end, and looked for afterwards.
+fn read_whole(classes: &[u8; 256], text: &[u8], table: &mut [u8], at: usize, levels: usize) -> Whole
+    requires { Fitting text.now at × (levels ≤ level_limit) }
+    ensures { BodyRead classes.now text.now levels at table.old table.new result }
 {
-    if levels == 0 {
-        put(cursor, FAULT, start, TOO_MANY_LEVELS as usize, 0); // at its first ":"
-        return false;
-    }
-    step(classes, text, cursor);
-    if ends_address(ahead_of(cursor[CLASS])) {
-        return refuse(text, cursor);
-    }
-    let number = cursor[FREE];
-    let child = number + 1;
-    cursor[FREE] = child;
-    if !read_address(classes, text, table, cursor, levels - 1, child) {
-        return false;
-    }
-    let from = atom.start;
-    let to = atom.end;
-    let kind = typed_kind(&text[from..to]);
-    let frame = Frame {
-        levels,
-        parent,
-        number,
+    let mut walk = Walk::new(at);
+    let outermost = Level {
+        left: levels,
+        parent: 0,
     };
-    put_record(table, frame, kind, cursor[LAST], start, atom);
-    true
-}
-
-// The list from a position of a text on to its end. A fault in it is taken for its end, and looked for afterwards.
-fn read_whole(classes: &[u8; 256], text: &[u8], table: &mut [u8], at: usize) -> Whole
-    requires { Fitting text.now at }
-    ensures { WholeFirst (answer level_limit) classes.now text.now at table.old table.new result }
-{
-    let mut cursor: [usize; 7] = [ENDED, at, at, 0, 0, 0, at];
-    if !read_list(classes, text, table, &mut cursor, LEVEL_LIMIT, 0) {
-        return Whole::Refused(cursor[END] as u8, cursor[START]);
+    if let Err(refusal) = walk.read_list(classes, text, table, outermost) {
+        let fault = walk.fault(refusal, text);
+        return Whole::Refused(fault.number, fault.position);
     }
-    match ahead_of(cursor[CLASS]) {
-        Ahead::End => Whole::Listed(cursor[FREE]),
-        _ => Whole::Refused(NO_LIST_GOES_ON, cursor[START]),
+    match walk.cursor.ahead {
+        Ahead::End => Whole::Listed(walk.free),
+        _ => Whole::Refused(NO_LIST_GOES_ON, walk.cursor.start),
     }
 }
 
@@ -554,44 +531,28 @@ fn fault_or(classes: &[u8; 256], text: &[u8], at: usize, number: u8, place: usiz
     }
 }
 
-// A run on the empty part of the table for the answer, and then, if there is room, the run that writes.
-fn read_twice(classes: &[u8; 256], text: &[u8], table: &mut [u8], at: usize) -> Answer
+// Read a body, its records beside the table first; then, if the table has room for all, copy them, or read again where they were too many.
+fn read_body(
+    classes: &[u8; 256],
+    text: &[u8],
+    table: &mut [u8],
+    staged: &mut [u8],
+    at: usize,
+) -> Answer
     requires { Fitting text.now at }
     ensures { FaultFirst (answer level_limit) classes.now text.now at table.old table.new result }
 {
-    match read_whole(classes, text, &mut table[..0], at) {
-        Whole::Refused(number, place) => fault_or(classes, text, at, number, place),
-        Whole::Listed(count) => {
-            let room = table.len() / ADDRESS_RECORD_SIZE;
-            if room < count {
-                return Answer::NoRoom(count);
-            }
-            read_whole(classes, text, table, at);
-            Answer::Accepted(count)
-        }
-    }
-}
-
-// Room for the records of a body that is read once.
-fn once_room() -> [u8; ONCE_ROOM]
-    ensures { once_room ≡ length result }
-{
-    [0; ONCE_ROOM]
-}
-
-// A short body: one run, beside the table; its records are copied if there is room. They always fit there, one for each two bytes.
-fn read_once(classes: &[u8; 256], text: &[u8], table: &mut [u8], at: usize) -> Answer
-    requires { Fitting text.now at × (length text.now ≤ at + once_limit) }
-    ensures { FaultFirst (answer level_limit) classes.now text.now at table.old table.new result }
-{
-    let mut staged = once_room();
-    match read_whole(classes, text, &mut staged, at) {
+    match read_whole(classes, text, staged, at, LEVEL_LIMIT) {
         Whole::Refused(number, place) => fault_or(classes, text, at, number, place),
         Whole::Listed(count) => {
             if table.len() / ADDRESS_RECORD_SIZE < count {
                 return Answer::NoRoom(count);
             }
-            copy_front(table, &staged, count * ADDRESS_RECORD_SIZE);
+            if count <= staged.len() / ADDRESS_RECORD_SIZE {
+                copy_front(table, staged, count * ADDRESS_RECORD_SIZE);
+            } else {
+                read_whole(classes, text, table, at, LEVEL_LIMIT);
+            }
             Answer::Accepted(count)
         }
     }
@@ -605,27 +566,11 @@ pub fn read_addresses(message: &[u8], start: usize, end: usize, table: &mut [u8]
     if let Answer::Refused(number, place) = scanner::check_body(message, start, end) {
         return Answer::Refused(number, place);
     }
-    let classes = &CLASSES;
-    if end - start <= ONCE_LIMIT {
-        return read_once(classes, &message[..end], table, start);
+    // a longer one gets no room, for to clear it takes some 6,000 instructions
+    if ONCE_LIMIT < end - start {
+        return read_body(&CLASSES, &message[..end], table, &mut [], start);
     }
-    read_twice(classes, &message[..end], table, start)
-}
-
-// Whether a text is, whole, a list of at most so many levels.
-fn ends_within(classes: &[u8; 256], text: &[u8], levels: usize) -> bool
-    requires { Fitting text.now 0 × (levels ≤ level_limit) }
-    ensures { EndsWithin classes.now text.now levels 0 result }
-{
-    let mut none: [u8; 1] = [0; 1];
-    let mut cursor: [usize; 7] = [ENDED, 0, 0, 0, 0, 0, 0];
-    if !read_list(classes, text, &mut none[..0], &mut cursor, levels, 0) {
-        return false;
-    }
-    match ahead_of(cursor[CLASS]) {
-        Ahead::End => true,
-        _ => false,
-    }
+    read_body(&CLASSES, &message[..end], table, &mut [0; STAGED], start)
 }
 
 // Whether a text is, whole, an address list of at most so many levels; never of more than 64.
@@ -635,9 +580,9 @@ pub fn is_list_within(text: &[u8], levels: usize) -> bool
     if let Answer::Refused(_, _) = scanner::check_body(text, 0, text.len()) {
         return false;
     }
-    let classes = &CLASSES;
-    if LEVEL_LIMIT < levels {
-        return ends_within(classes, text, LEVEL_LIMIT);
-    }
-    ends_within(classes, text, levels)
+    let used = levels.min(LEVEL_LIMIT);
+    matches!(
+        read_whole(&CLASSES, text, &mut [], 0, used),
+        Whole::Listed(_)
+    )
 }

@@ -1,13 +1,14 @@
 -- The days before a year by a formula, the tables of the months. Assumes nothing.
-use mathlib.Core.Path.{◌≡◌, refl, sym, ap, ◌∙◌}
+use mathlib.Core.Path.{◌≡◌, refl, sym}
 use mathlib.Core.Bool.{Bool, true, false}
 use mathlib.Core.List.{List, [], ◌∷◌}
 use Prim.Native.Nat.{ℕ, zero, suc, ◌+◌, ◌-◌, ◌*◌, ◌/◌, ◌%◌, ◌≤◌, ◌<◌}
 use native.Mathlib.Omega.{arith}
-use lib.Dec.{eqb, eqb→eq, leb, leb→le}
+use native.Mathlib.Decide.{dec_lt}
+use lib.Dec.{eqb, eqb→eq, leb, leb→le, ltb}
 use lib.ListN.{get_or, take, get_or-eq_default}
-use borrow.Author.Tests.{eqb-true, eqb-false}
-use Rattle.octets.specs.Believed.Choice.{pick}
+use borrow.Author.Tests.{eqb-true, eqb-false, ne_eqb}
+use Rattle.octets.specs.Believed.Choice.{pick, both}
 use Rattle.octets.proofs.Tables.{at}
 use Rattle.dates.specs.Believed.Calendar.{leap, month_lengths, sum, month_length, days_before_month, days_of_years}
 
@@ -85,43 +86,65 @@ formula year h =
 
 -- ---- the months
 
-abbrev before : Bool → List ℕ
-before false = 0 ∷ 31 ∷ 59 ∷ 90 ∷ 120 ∷ 151 ∷ 181 ∷ 212 ∷ 243 ∷ 273 ∷ 304 ∷ 334 ∷ []
-before true = 0 ∷ 31 ∷ 60 ∷ 91 ∷ 121 ∷ 152 ∷ 182 ∷ 213 ∷ 244 ∷ 274 ∷ 305 ∷ 335 ∷ []
+-- the tables of the code, and the leap day on top
+abbrev pub lengths : List ℕ
+lengths = 31 ∷ 28 ∷ 31 ∷ 30 ∷ 31 ∷ 30 ∷ 31 ∷ 31 ∷ 30 ∷ 31 ∷ 30 ∷ 31 ∷ []
 
--- an entry is the sum of the lengths of the months before it
-abbrev right : Bool → ℕ → ℕ → Bool
-right leap_year month days = eqb days (sum (take month (month_lengths leap_year)))
+abbrev before : List ℕ
+before = 0 ∷ 31 ∷ 59 ∷ 90 ∷ 120 ∷ 151 ∷ 181 ∷ 212 ∷ 243 ∷ 273 ∷ 304 ∷ 334 ∷ []
+
+abbrev in_february : ℕ → Bool → ℕ
+in_february month leap_year = pick (both (eqb month 1) leap_year) 1 0
+
+abbrev past_february : ℕ → Bool → ℕ
+past_february month leap_year = pick (both (ltb 1 month) leap_year) 1 0
+
+-- a length is the table's; an entry is the sum of the lengths of the months before it, less than a year
+abbrev length_right : Bool → ℕ → ℕ → Bool
+length_right leap_year month days = eqb (days + in_february month leap_year) (get_or (month_lengths leap_year) month 0)
+
+abbrev before_right : Bool → ℕ → ℕ → Bool
+before_right leap_year month days = eqb (days + past_february month leap_year) (sum (take month (month_lengths leap_year)))
 
 abbrev short : ℕ → ℕ → ℕ → Bool
 short most month days = leb days most
 
 module _ (month : ℕ) (h : month < 12) where
-  summed : (leap_year : Bool) → get_or (before leap_year) month 0 ≡ sum (take month (month_lengths leap_year))
-  summed true = eqb→eq _ _ (at (right true) (before true) 0 tt month h)
-  summed false = eqb→eq _ _ (at (right false) (before false) 0 tt month h)
+  lengths_right : (leap_year : Bool) → get_or lengths month 0 + in_february month leap_year ≡ get_or (month_lengths leap_year) month 0
+  lengths_right true = eqb→eq _ _ (at (length_right true) lengths 0 tt month h)
+  lengths_right false = eqb→eq _ _ (at (length_right false) lengths 0 tt month h)
 
-  in_year : (leap_year : Bool) → get_or (before leap_year) month 0 < 366
-  in_year true = omega (arith, leb→le (get_or (before true) month 0) 365 (at (short 365) (before true) 0 tt month h))
-  in_year false = omega (arith, leb→le (get_or (before false) month 0) 365 (at (short 365) (before false) 0 tt month h))
+  summed : (leap_year : Bool) → get_or before month 0 + past_february month leap_year ≡ sum (take month (month_lengths leap_year))
+  summed true = eqb→eq _ _ (at (before_right true) before 0 tt month h)
+  summed false = eqb→eq _ _ (at (before_right false) before 0 tt month h)
+
+  one_at_most : (t : Bool) → pick t 1 0 ≤ 1
+  one_at_most true = omega arith
+  one_at_most false = omega arith
 
   -- the days before a month stand in the table
-  pub before_month : (year : ℕ) (leap_year : Bool) → leap year ≡ leap_year → (get_or (before leap_year) month 0 ≡ days_before_month year month) × (get_or (before leap_year) month 0 < 366)
+  pub before_month : (year : ℕ) (d : Bool) → d ≡ both (ltb 1 month) (leap year) → (get_or before month 0 + pick d 1 0 ≡ days_before_month year month) × (get_or before month 0 + pick d 1 0 < 366)
   unfolding days_before_month
-  before_month year leap_year e = (summed leap_year ∙ ap (λ (t : Bool). sum (take month (month_lengths t))) (sym e), in_year leap_year)
+  before_month year d e = (rw e (summed (leap year)), omega (arith, one_at_most d, leb→le (get_or before month 0) 334 (at (short 334) before 0 tt month h)))
 
   at_most_31 : (leap_year : Bool) → get_or (month_lengths leap_year) month 0 ≤ 31
   at_most_31 true = leb→le _ _ (at (short 31) (month_lengths true) 0 tt month h)
   at_most_31 false = leb→le _ _ (at (short 31) (month_lengths false) 0 tt month h)
 
-pub length-of : (year month : ℕ) (leap_year : Bool) → leap year ≡ leap_year → get_or (month_lengths leap_year) month 0 ≡ month_length year month
-unfolding month_length
-length-of year month leap_year e = ap (λ (t : Bool). get_or (month_lengths t) month 0) (sym e)
-
 -- there are twelve
 pub no_month : (year month : ℕ) → 12 ≤ month → 0 ≡ month_length year month
 unfolding month_length
 no_month year month h = sym (get_or-eq_default (month_lengths (leap year)) 0 h)
+
+pub length-of : (year month : ℕ) (d : Bool) → d ≡ both (eqb month 1) (leap year) → get_or lengths month 0 + pick d 1 0 ≡ month_length year month
+unfolding month_length
+length-of year month d e = elim (dec_lt month 12) [
+  | yes h ↦ rw e (lengths_right month h (leap year))
+  | no h ↦
+      let n : (month ≡ 1 → ⊥) = λ z. absurd (omega arith) in
+      let m : 12 ≤ month = omega arith in
+      rw (e, ne_eqb month 1 n, get_or-eq_default lengths 0 m, get_or-eq_default (month_lengths (leap year)) 0 m)
+]
 
 pub length-small : (year month : ℕ) → month < 12 → month_length year month ≤ 31
 unfolding month_length

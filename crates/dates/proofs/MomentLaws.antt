@@ -14,19 +14,13 @@ use Rattle.octets.specs.Believed.Choice.{both}
 use Rattle.octets.proofs.ChoiceLaws.{both_parts}
 use Rattle.dates.specs.Believed.Calendar.{month_length}
 use Rattle.dates.specs.Believed.Answers.{day_exists, time_exists, seconds}
+use Rattle.dates.specs.Ties.Moment.{InCalendar, InDay}
 use Rattle.dates.proofs.CalendarLaws.{no_month, length-small}
 
 -- ---- days
 
 module _ (year month day : ℕ) where
-  pub record InCalendar : Type 0 where
-    pub from : 1900 ≤ year
-    pub to : year ≤ 9999
-    pub month_is : month < 12
-    pub first : 1 ≤ day
-    pub last : day ≤ 31
-
-  pub in_calendar : day_exists year month day ≡ true → InCalendar
+  pub in_calendar : day_exists year month day ≡ true → InCalendar year month day
   unfolding day_exists
   in_calendar e =
       let a = both_parts (both (leb 1900 year) (leb year 9999)) _ e in
@@ -40,12 +34,7 @@ module _ (year month day : ℕ) where
 -- ---- times
 
 module _ (hour minute second : ℕ) where
-  pub record InDay : Type 0 where
-    pub hours : hour ≤ 23
-    pub minutes : minute ≤ 59
-    pub seconds_are : second ≤ 59
-
-  pub in_day : time_exists hour minute second ≡ true → InDay
+  pub in_day : time_exists hour minute second ≡ true → InDay hour minute second
   unfolding time_exists
   in_day e =
       let a = both_parts (leb hour 23) _ e in

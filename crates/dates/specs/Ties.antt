@@ -1,2 +1,5 @@
 -- Ties between code and definitions: what the functions below the entry points do. Nothing here needs to be believed.
 pub mod Steps
+pub mod Cursor
+pub mod Names
+pub mod Moment

@@ -1,60 +1,106 @@
 // The names of days, months and zones, looked up with case ignored.
-ghost use Rattle.std.specs.Prelude.{◌≡◌, true, length};
-ghost use Rattle.dates.specs.Believed.Names.{called as called_by, place};
-ghost use Rattle.dates.specs.Ties.Steps.{rows, ascend};
+ghost use Rattle.std.specs.Prelude.{◌≡◌, map};
+ghost use Rattle.dates.specs.Believed.Names.{called as called_by, zone_names, zone_minutes};
+ghost use Rattle.dates.specs.Ties.Names.{place_in, minutes_in};
 
-// The names of each table stand one after the other; its ends say where each name ends.
-pub(crate) const DAYS: [u8; 50] = *b"MondayTuesdayWednesdayThursdayFridaySaturdaySunday";
-
-pub(crate) const DAY_ENDS: [usize; 7] = [6, 13, 22, 30, 36, 44, 50];
-
-pub(crate) const MONTHS: [u8; 74] =
-    *b"JanuaryFebruaryMarchAprilMayJuneJulyAugustSeptemberOctoberNovemberDecember";
-
-pub(crate) const MONTH_ENDS: [usize; 12] = [7, 15, 20, 25, 28, 32, 36, 42, 51, 58, 66, 74];
-
-pub(crate) const ZONES: [u8; 79] =
-    *b"GMTNSTASTESTCSTMSTPSTYSTHSTBSTADTEDTCDTMDTPDTYDTHDTBDTZABCDEFGHIKLMNOPQRSTUVWXY";
-
-pub(crate) const ZONE_ENDS: [usize; 43] = [
-    3, 6, 9, 12, 15, 18, 21, 24, 27, 30, 33, 36, 39, 42, 45, 48, 51, 54, 55, 56, 57, 58, 59, 60,
-    61, 62, 63, 64, 65, 66, 67, 68, 69, 70, 71, 72, 73, 74, 75, 76, 77, 78, 79,
+pub(crate) const DAYS: [&[u8]; 7] = [
+    b"Monday",
+    b"Tuesday",
+    b"Wednesday",
+    b"Thursday",
+    b"Friday",
+    b"Saturday",
+    b"Sunday",
 ];
 
-// Local time minus GMT of each zone, in minutes.
-pub(crate) const ZONE_MINUTES: [i16; 43] = [
-    0, -210, -240, -300, -360, -420, -480, -540, -600, -660, -180, -240, -300, -360, -420, -480,
-    -540, -600, 0, -60, -120, -180, -240, -300, -360, -420, -480, -540, -600, -660, -720, 60, 120,
-    180, 240, 300, 360, 420, 480, 540, 600, 660, 720,
+pub(crate) const MONTHS: [&[u8]; 12] = [
+    b"January",
+    b"February",
+    b"March",
+    b"April",
+    b"May",
+    b"June",
+    b"July",
+    b"August",
+    b"September",
+    b"October",
+    b"November",
+    b"December",
+];
+
+// Zones, and local time minus GMT in each, in minutes.
+const ZONES: [(&[u8], i16); 43] = [
+    (b"GMT", 0),
+    (b"NST", -210),
+    (b"AST", -240),
+    (b"EST", -300),
+    (b"CST", -360),
+    (b"MST", -420),
+    (b"PST", -480),
+    (b"YST", -540),
+    (b"HST", -600),
+    (b"BST", -660),
+    (b"ADT", -180),
+    (b"EDT", -240),
+    (b"CDT", -300),
+    (b"MDT", -360),
+    (b"PDT", -420),
+    (b"YDT", -480),
+    (b"HDT", -540),
+    (b"BDT", -600),
+    (b"Z", 0),
+    (b"A", -60),
+    (b"B", -120),
+    (b"C", -180),
+    (b"D", -240),
+    (b"E", -300),
+    (b"F", -360),
+    (b"G", -420),
+    (b"H", -480),
+    (b"I", -540),
+    (b"K", -600),
+    (b"L", -660),
+    (b"M", -720),
+    (b"N", 60),
+    (b"O", 120),
+    (b"P", 180),
+    (b"Q", 240),
+    (b"R", 300),
+    (b"S", 360),
+    (b"T", 420),
+    (b"U", 480),
+    (b"V", 540),
+    (b"W", 600),
+    (b"X", 660),
+    (b"Y", 720),
 ];
 
 // Whether a name is the full one or its first three letters.
 fn called(full: &[u8], name: &[u8]) -> bool
     ensures { result ≡ called_by full.now name.now }
 {
-    if octets::letters::same_letters(name, full) {
-        return true;
-    }
-    if full.len() < 3 {
-        return false;
-    }
-    octets::letters::same_letters(name, &full[..3])
+    octets::letters::same_letters(name, full)
+        || full.len() >= 3 && octets::letters::same_letters(name, &full[..3])
 }
 
-// The place of the first name of a table that is called so; past the last, if none is.
-pub(crate) fn find(text: &[u8], ends: &[usize], name: &[u8]) -> usize
-    requires { ascend (length text.now) 0 ends.now ≡ true }
-    ensures { result ≡ place (rows text.now 0 ends.now) name.now }
+// The place of the first name that is called so.
+pub(crate) fn place_of(names: &[&[u8]], name: &[u8]) -> Option<usize>
+    ensures { result ≡ place_in (map (λ full. full.now) names.now) name.now }
 {
-    let mut start: usize = 0;
-    let mut i: usize = 0;
-    while i < ends.len() {
-        let end = ends[i];
-        if called(&text[start..end], name) {
-            return i;
-        }
-        start = end;
-        i += 1;
-    }
-    i
+    names.iter().position(|full| called(full, name))
+}
+
+// The first zone of a list that is called so. The list is a parameter, for a clause can name it, and the table's references it cannot.
+fn zone_in(zones: &[(&[u8], i16)], name: &[u8]) -> Option<i16>
+    ensures { result ≡ minutes_in (map (λ zone. zone.0.now) zones.now) (map (λ zone. zone.1) zones.now) name.now }
+{
+    let zone = zones.iter().find(|zone| called(zone.0, name))?;
+    Some(zone.1)
+}
+
+// The zone of a name.
+pub(crate) fn zone_of(name: &[u8]) -> Option<i16>
+    ensures { result ≡ minutes_in zone_names zone_minutes name.now }
+{
+    zone_in(&ZONES, name)
 }

@@ -4,7 +4,9 @@ use native.Mathlib.Omega.{arith}
 use mathlib.Core.Path.{◌≡◌, refl, sym, ap, ◌∙◌}
 use mathlib.Core.Bool.{Bool, true, false}
 use mathlib.Core.List.{List, [], ◌∷◌, ◌++◌}
-use mathlib.Core.Option.{Option, none, some}
+use mathlib.Core.Option.{none, some}
+use mathlib.Core.Option as maybe
+use Rattle.std.specs.Prelude.{Option, Some, None}
 use lib.ListN.{length, length-append}
 use Rattle.octets.specs.Believed.Choice.{pick}
 use Rattle.records.specs.Believed.AddressRecords.{AddressRecord, record_by}
@@ -16,7 +18,9 @@ use Rattle.grammar.specs.Executable.Machines.{Result, ended, stopped, after, Arr
 use Rattle.grammar.proofs.Rfc733.TreeRecords.{word_lexeme, phrase_start, phrase_end}
 use Rattle.grammar.specs.Executable.Trees822.{Class, Atom, Quoted, At, LessThan, GreaterThan, Comma, Semicolon, Colon, Stray, Dot, Literal, Lexeme, Sym, of, Phrase, Sub, atom_sub, literal_sub, Domain, one_sub, more_sub, Local, one_word, more_word, Spec, spec, Mailbox, bare, angle, routed, Slot, empty, comma, Listed, idle, full, Address, box, group}
 use Rattle.grammar.specs.Executable.Machine822.{Here, in_list, in_group, Open, less, In, bare_in, angle_in, route_in, Hop, first_at, next_at, Behind, of_spec, of_hop, State, place, word, phrase, local, local_dot, at, domain, domain_dot, opened, hop, route, boxed, closed, arrows, run}
-use Rattle.editions.specs.Ties.Places.{Walked, walked_by, one_if, parent_of, close_record, step_from, WalkEnd, ends, stops, walk_from}
+use Rattle.editions.specs.declared.places.Place.{Place}
+use Rattle.editions.specs.declared.places.Place.TheVariants as places
+use Rattle.editions.specs.Ties.Places.{Walked, walked_by, one_if, parent_number, parent_of, last_number, close_record, step_from, WalkEnd, ends, stops, walk_from}
 
 -- ---- what the numbers are in each state of the machine
 
@@ -81,16 +85,19 @@ abbrev mutual
 abbrev placed : Slot Address → List AddressRecord
 placed r = add_slot r []
 
+abbrev pub group_of : Here → Option ℕ
+group_of (in_list r) = None
+group_of (in_group r p t s) = Some (length (placed r))
+
 abbrev pub group_number : Here → ℕ
-group_number (in_list r) = 0
-group_number (in_group r p t s) = suc (length (placed r))
+group_number h = parent_number (group_of h)
 
 abbrev pub here_records : Here → List AddressRecord
 here_records (in_list r) = placed r
 here_records (in_group r p t s) = add_box_slot s (suc (length (placed r))) (opens_group p t.end (placed r))
 
 abbrev depth_here : Here → ℕ
-depth_here h = one_if (group_number h)
+depth_here h = one_if (group_of h)
 
 abbrev here_of : Open → Here
 here_of (less h p t) = h
@@ -98,8 +105,11 @@ here_of (less h p t) = h
 abbrev pub open_records : Open → List AddressRecord
 open_records (less h p t) = here_records h ++ (named_record 2 p t.end (depth_here h) (group_number h) ∷ [])
 
+abbrev angle_of : Open → Option ℕ
+angle_of o = Some (length (here_records (here_of o)))
+
 abbrev angle_number : Open → ℕ
-angle_number o = suc (length (here_records (here_of o)))
+angle_number o = parent_number (angle_of o)
 
 -- the mailbox's record that "@" begins
 abbrev in_records : In → Local → ℕ → List AddressRecord
@@ -109,47 +119,47 @@ in_records (route_in o r) l e = open_records o ++ (spec_record l e (suc (depth_h
 
 -- the numbers, where the two that do not matter are `a` and `b`
 abbrev walked_place : Here → ℕ → ℕ → Walked
-walked_place (in_list r) a b = walked_by 0 a b 0 0 (placed r)
-walked_place (in_group r p t empty) a b = walked_by 17 a b (suc (length (placed r))) 0 (opens_group p t.end (placed r))
-walked_place (in_group r p t (comma l u)) a b = walked_by 0 a b (suc (length (placed r))) 0 (here_records (in_group r p t (comma l u)))
+walked_place (in_list r) a b = walked_by places.Slot a b None None (placed r)
+walked_place (in_group r p t empty) a b = walked_by places.GroupOpened a b (Some (length (placed r))) None (opens_group p t.end (placed r))
+walked_place (in_group r p t (comma l u)) a b = walked_by places.Slot a b (Some (length (placed r))) None (here_records (in_group r p t (comma l u)))
 
 abbrev walked_local : In → Local → Walked
-walked_local (bare_in h) l = walked_by 3 (local_start l) (local_end l) (group_number h) 0 (here_records h)
-walked_local (angle_in o) (one_word w) = walked_by 9 (word_lexeme w).start (word_lexeme w).end (group_number (here_of o)) (angle_number o) (open_records o)
-walked_local (angle_in o) (more_word l t w) = walked_by 22 (local_start l) (word_lexeme w).end (group_number (here_of o)) (angle_number o) (open_records o)
-walked_local (route_in o r) (one_word w) = walked_by 9 (word_lexeme w).start (word_lexeme w).end (group_number (here_of o)) (angle_number o) (open_records o)
-walked_local (route_in o r) (more_word l t w) = walked_by 22 (local_start l) (word_lexeme w).end (group_number (here_of o)) (angle_number o) (open_records o)
+walked_local (bare_in h) l = walked_by places.Local (local_start l) (local_end l) (group_of h) None (here_records h)
+walked_local (angle_in o) (one_word w) = walked_by places.AngleWord (word_lexeme w).start (word_lexeme w).end (group_of (here_of o)) (angle_of o) (open_records o)
+walked_local (angle_in o) (more_word l t w) = walked_by places.AngleLocal (local_start l) (word_lexeme w).end (group_of (here_of o)) (angle_of o) (open_records o)
+walked_local (route_in o r) (one_word w) = walked_by places.AngleWord (word_lexeme w).start (word_lexeme w).end (group_of (here_of o)) (angle_of o) (open_records o)
+walked_local (route_in o r) (more_word l t w) = walked_by places.AngleLocal (local_start l) (word_lexeme w).end (group_of (here_of o)) (angle_of o) (open_records o)
 
 abbrev walked_dot : In → Local → Walked
-walked_dot (bare_in h) l = walked_by 4 (local_start l) (local_end l) (group_number h) 0 (here_records h)
-walked_dot (angle_in o) l = walked_by 10 (local_start l) (local_end l) (group_number (here_of o)) (angle_number o) (open_records o)
-walked_dot (route_in o r) l = walked_by 10 (local_start l) (local_end l) (group_number (here_of o)) (angle_number o) (open_records o)
+walked_dot (bare_in h) l = walked_by places.LocalDot (local_start l) (local_end l) (group_of h) None (here_records h)
+walked_dot (angle_in o) l = walked_by places.AngleDot (local_start l) (local_end l) (group_of (here_of o)) (angle_of o) (open_records o)
+walked_dot (route_in o r) l = walked_by places.AngleDot (local_start l) (local_end l) (group_of (here_of o)) (angle_of o) (open_records o)
 
 -- in a domain, by the places of the three kinds of domains
-abbrev walked_behind : ℕ → ℕ → ℕ → Behind → (Lexeme → ℕ) → ℕ → ℕ → Walked
-walked_behind bares angles hops (of_spec (bare_in h) l t) e a b = walked_by bares a b (group_number h) 0 (in_records (bare_in h) l (e t))
-walked_behind bares angles hops (of_spec (angle_in o) l t) e a b = walked_by angles a b (group_number (here_of o)) (angle_number o) (in_records (angle_in o) l (e t))
-walked_behind bares angles hops (of_spec (route_in o r) l t) e a b = walked_by angles a b (group_number (here_of o)) (angle_number o) (in_records (route_in o r) l (e t))
-walked_behind bares angles hops (of_hop o f t) e a b = walked_by hops a b (group_number (here_of o)) (angle_number o) (open_records o)
+abbrev walked_behind : Place → Place → Place → Behind → (Lexeme → ℕ) → ℕ → ℕ → Walked
+walked_behind here inner hops (of_spec (bare_in h) l t) e a b = walked_by here a b (group_of h) None (in_records (bare_in h) l (e t))
+walked_behind here inner hops (of_spec (angle_in o) l t) e a b = walked_by inner a b (group_of (here_of o)) (angle_of o) (in_records (angle_in o) l (e t))
+walked_behind here inner hops (of_spec (route_in o r) l t) e a b = walked_by inner a b (group_of (here_of o)) (angle_of o) (in_records (route_in o r) l (e t))
+walked_behind here inner hops (of_hop o f t) e a b = walked_by hops a b (group_of (here_of o)) (angle_of o) (open_records o)
 
-abbrev hop_place : Hop → ℕ
-hop_place (first_at g) = 14
-hop_place (next_at h u g) = 18
+abbrev hop_place : Hop → Place
+hop_place (first_at g) = places.EmptyHop
+hop_place (next_at h u g) = places.HopComma
 
 abbrev pub walked_in : State → ℕ → ℕ → Walked
 walked_in (place h) a b = walked_place h a b
-walked_in (word h w) a b = walked_by 1 (word_lexeme w).start (word_lexeme w).end (group_number h) 0 (here_records h)
-walked_in (phrase h p) a b = walked_by 2 (phrase_start p) (phrase_end p) (group_number h) 0 (here_records h)
+walked_in (word h w) a b = walked_by places.Word (word_lexeme w).start (word_lexeme w).end (group_of h) None (here_records h)
+walked_in (phrase h p) a b = walked_by places.Phrase (phrase_start p) (phrase_end p) (group_of h) None (here_records h)
 walked_in (local c l) a b = walked_local c l
 walked_in (local_dot c l t) a b = walked_dot c l
-walked_in (at d) a b = walked_behind 5 11 15 d (λ t. t.end) a b
-walked_in (domain d m) a b = walked_behind 6 12 16 d (λ t. end_of_domain m) a b
-walked_in (domain_dot d m t) a b = walked_behind 7 13 15 d (λ u. end_of_domain m) a b
-walked_in (opened o) a b = walked_by 8 a b (group_number (here_of o)) (angle_number o) (open_records o)
-walked_in (hop o f) a b = walked_by (hop_place f) a b (group_number (here_of o)) (angle_number o) (open_records o)
-walked_in (route o r) a b = walked_by 19 a b (group_number (here_of o)) (angle_number o) (open_records o)
-walked_in (boxed h m) a b = walked_by 20 a b (group_number h) 0 (add_box m (depth_here h) (group_number h) (here_records h))
-walked_in (closed r x) a b = walked_by 21 a b 0 0 (add_address x (placed r))
+walked_in (at d) a b = walked_behind places.AtSign places.AngleAt places.HopAt d (λ t. t.end) a b
+walked_in (domain d m) a b = walked_behind places.Domain places.AngleDomain places.HopDomain d (λ t. end_of_domain m) a b
+walked_in (domain_dot d m t) a b = walked_behind places.DomainDot places.AngleDomainDot places.HopAt d (λ u. end_of_domain m) a b
+walked_in (opened o) a b = walked_by places.Opened a b (group_of (here_of o)) (angle_of o) (open_records o)
+walked_in (hop o f) a b = walked_by (hop_place f) a b (group_of (here_of o)) (angle_of o) (open_records o)
+walked_in (route o r) a b = walked_by places.RouteColon a b (group_of (here_of o)) (angle_of o) (open_records o)
+walked_in (boxed h m) a b = walked_by places.AngleClosed a b (group_of h) None (add_box m (depth_here h) (group_number h) (here_records h))
+walked_in (closed r x) a b = walked_by places.GroupClosed a b None None (add_address x (placed r))
 
 -- ---- the end of a record
 
@@ -167,11 +177,11 @@ set_at : (xs : List AddressRecord) (r : AddressRecord) (e : ℕ) → set_end (le
 set_at [] r e = refl
 set_at (x ∷ xs) r e = ap (λ rs. x ∷ rs) (set_at xs r e)
 
-last_step : {c a b g x : ℕ} (c₀ : ℕ) (xs : List AddressRecord) (r : AddressRecord) (t : Lexeme)
-    → close_record (length (xs ++ (r ∷ []))) g x c (walked_by c₀ a b g x (xs ++ (r ∷ []))) t ≡ some (walked_by c a b g x (xs ++ (with_end r t.end ∷ [])))
+last_step : {c : Place} {a b : ℕ} {g x : Option ℕ} (c₀ : Place) (xs : List AddressRecord) (r : AddressRecord) (t : Lexeme)
+    → close_record (last_number (length (xs ++ (r ∷ [])))) g x c (walked_by c₀ a b g x (xs ++ (r ∷ []))) t ≡ Some (walked_by c a b g x (xs ++ (with_end r t.end ∷ [])))
 last_step {c} {a} {b} {g} {x} c₀ xs r t =
     let n : length (xs ++ (r ∷ [])) ≡ suc (length xs) = omega (arith, length-append xs (r ∷ [])) in
-    rw n (ap (λ rs. some (walked_by c a b g x rs)) (set_at xs r t.end))
+    rw n (ap (λ rs. Some (walked_by c a b g x rs)) (set_at xs r t.end))
 
 box_ends : (xs : List AddressRecord) (r s : AddressRecord) (e : ℕ) → set_end (length xs) e ((xs ++ (r ∷ [])) ++ (s ∷ [])) ≡ (xs ++ (with_end r e ∷ [])) ++ (s ∷ [])
 box_ends xs r s e = set_keep (length xs) e (xs ++ (r ∷ [])) (s ∷ []) (omega (arith, length-append xs (r ∷ []))) ∙ ap (λ rs. rs ++ (s ∷ [])) (set_at xs r e)
@@ -230,58 +240,58 @@ group_ends r p c l u =
 -- ---- the loop follows every arrow
 
 abbrev Goes : State → Class → (Lexeme → State) → Type 0
-Goes s c to = (t : Lexeme) (a b : ℕ) → (a' : ℕ) × (b' : ℕ) × (step_from (walked_in s a b) (of c t) ≡ some (walked_in (to t) a' b'))
+Goes s c to = (t : Lexeme) (a b : ℕ) → (a' : ℕ) × (b' : ℕ) × (step_from (walked_in s a b) (of c t) ≡ Some (walked_in (to t) a' b'))
 
 abbrev Follows : State → List (Arrow Class State) → Type 0
 Follows s [] = Unit {0}
 Follows s (x ∷ others) = Goes s x.class x.to × Follows s others
 
 -- "@" begins the mailbox's record, at the depth of its place
-at_depth : (c g x : ℕ) (rs : List AddressRecord) (l : Local) (t : Lexeme) {depth : ℕ} → one_if g + one_if x ≡ depth
-    → some (walked_by c (local_start l) (local_end l) g x (rs ++ (spec_record l t.end (one_if g + one_if x) (parent_of g x) ∷ []))) ≡ some (walked_by c (local_start l) (local_end l) g x (rs ++ (spec_record l t.end depth (parent_of g x) ∷ [])))
+at_depth : (c : Place) (g x : Option ℕ) (rs : List AddressRecord) (l : Local) (t : Lexeme) {depth : ℕ} → one_if g + one_if x ≡ depth
+    → Some (walked_by c (local_start l) (local_end l) g x (rs ++ (spec_record l t.end (one_if g + one_if x) (parent_of g x) ∷ []))) ≡ Some (walked_by c (local_start l) (local_end l) g x (rs ++ (spec_record l t.end depth (parent_of g x) ∷ [])))
 at_depth c g x rs l t e = rw e
 
 follows : (s : State) → Follows s (arrows s)
 follows (place (in_list r)) = (λ t a b. (0, 0, refl), (λ t a b. (0, 0, refl), (λ t a b. (a, b, refl), tt)))
-follows (place (in_group r p c empty)) = (λ t a b. (0, 0, refl), (λ t a b. (0, 0, refl), (λ t a b. (a, b, refl), (λ t a b. (a, b, ap (λ rs. some (walked_by 21 a b 0 0 rs)) (group_ends r p c (idle empty) t)), tt))))
-follows (place (in_group r p c (comma v o))) = (λ t a b. (0, 0, refl), (λ t a b. (0, 0, refl), (λ t a b. (a, b, refl), (λ t a b. (a, b, ap (λ rs. some (walked_by 21 a b 0 0 rs)) (group_ends r p c (idle (comma v o)) t)), tt))))
+follows (place (in_group r p c empty)) = (λ t a b. (0, 0, refl), (λ t a b. (0, 0, refl), (λ t a b. (a, b, refl), (λ t a b. (a, b, ap (λ rs. Some (walked_by places.GroupClosed a b None None rs)) (group_ends r p c (idle empty) t)), tt))))
+follows (place (in_group r p c (comma v o))) = (λ t a b. (0, 0, refl), (λ t a b. (0, 0, refl), (λ t a b. (a, b, refl), (λ t a b. (a, b, ap (λ rs. Some (walked_by places.GroupClosed a b None None rs)) (group_ends r p c (idle (comma v o)) t)), tt))))
 follows (word (in_list r) w) = (λ t a b. (0, 0, refl), (λ t a b. (0, 0, refl), (λ t a b. (0, 0, refl), (λ t a b. ((word_lexeme w).start, (word_lexeme w).end, refl), (λ t a b. ((word_lexeme w).start, (word_lexeme w).end, refl), (λ t a b. ((word_lexeme w).start, (word_lexeme w).end, refl), tt))))))
 follows (word (in_group r p c s) w) = (λ t a b. (0, 0, refl), (λ t a b. (0, 0, refl), (λ t a b. (0, 0, refl), (λ t a b. ((word_lexeme w).start, (word_lexeme w).end, refl), (λ t a b. ((word_lexeme w).start, (word_lexeme w).end, refl), tt)))))
 follows (phrase (in_list r) q) = (λ t a b. (0, 0, refl), (λ t a b. (0, 0, refl), (λ t a b. (phrase_start q, phrase_end q, refl), (λ t a b. (phrase_start q, phrase_end q, refl), tt))))
 follows (phrase (in_group r p c s) q) = (λ t a b. (0, 0, refl), (λ t a b. (0, 0, refl), (λ t a b. (phrase_start q, phrase_end q, refl), tt)))
-follows (local (bare_in h) l) = (λ t a b. (0, 0, refl), (λ t a b. (local_start l, local_end l, at_depth 5 (group_number h) 0 (here_records h) l t (omega arith)), tt))
-follows (local (angle_in o) (one_word w)) = (λ t a b. (0, 0, refl), (λ t a b. ((word_lexeme w).start, (word_lexeme w).end, at_depth 11 (group_number (here_of o)) (angle_number o) (open_records o) (one_word w) t (omega arith)), tt))
-follows (local (angle_in o) (more_word l i w)) = (λ t a b. (0, 0, refl), (λ t a b. (local_start l, (word_lexeme w).end, at_depth 11 (group_number (here_of o)) (angle_number o) (open_records o) (more_word l i w) t (omega arith)), tt))
-follows (local (route_in o y) (one_word w)) = (λ t a b. (0, 0, refl), (λ t a b. ((word_lexeme w).start, (word_lexeme w).end, at_depth 11 (group_number (here_of o)) (angle_number o) (open_records o) (one_word w) t (omega arith)), tt))
-follows (local (route_in o y) (more_word l i w)) = (λ t a b. (0, 0, refl), (λ t a b. (local_start l, (word_lexeme w).end, at_depth 11 (group_number (here_of o)) (angle_number o) (open_records o) (more_word l i w) t (omega arith)), tt))
+follows (local (bare_in h) l) = (λ t a b. (0, 0, refl), (λ t a b. (local_start l, local_end l, at_depth places.AtSign (group_of h) None (here_records h) l t (omega arith)), tt))
+follows (local (angle_in o) (one_word w)) = (λ t a b. (0, 0, refl), (λ t a b. ((word_lexeme w).start, (word_lexeme w).end, at_depth places.AngleAt (group_of (here_of o)) (angle_of o) (open_records o) (one_word w) t (omega arith)), tt))
+follows (local (angle_in o) (more_word l i w)) = (λ t a b. (0, 0, refl), (λ t a b. (local_start l, (word_lexeme w).end, at_depth places.AngleAt (group_of (here_of o)) (angle_of o) (open_records o) (more_word l i w) t (omega arith)), tt))
+follows (local (route_in o y) (one_word w)) = (λ t a b. (0, 0, refl), (λ t a b. ((word_lexeme w).start, (word_lexeme w).end, at_depth places.AngleAt (group_of (here_of o)) (angle_of o) (open_records o) (one_word w) t (omega arith)), tt))
+follows (local (route_in o y) (more_word l i w)) = (λ t a b. (0, 0, refl), (λ t a b. (local_start l, (word_lexeme w).end, at_depth places.AngleAt (group_of (here_of o)) (angle_of o) (open_records o) (more_word l i w) t (omega arith)), tt))
 follows (local_dot (bare_in h) l i) = (λ t a b. (0, 0, refl), (λ t a b. (0, 0, refl), tt))
 follows (local_dot (angle_in o) l i) = (λ t a b. (0, 0, refl), (λ t a b. (0, 0, refl), tt))
 follows (local_dot (route_in o r) l i) = (λ t a b. (0, 0, refl), (λ t a b. (0, 0, refl), tt))
-follows (at (of_spec (bare_in h) l i)) = (λ t a b. (a, b, last_step 5 (here_records h) (spec_record l i.end (depth_here h) (group_number h)) t), (λ t a b. (a, b, last_step 5 (here_records h) (spec_record l i.end (depth_here h) (group_number h)) t), tt))
-follows (at (of_spec (angle_in o) l i)) = (λ t a b. (a, b, last_step 11 (open_records o) (spec_record l i.end (suc (depth_here (here_of o))) (angle_number o)) t), (λ t a b. (a, b, last_step 11 (open_records o) (spec_record l i.end (suc (depth_here (here_of o))) (angle_number o)) t), tt))
-follows (at (of_spec (route_in o r) l i)) = (λ t a b. (a, b, last_step 11 (open_records o) (spec_record l i.end (suc (depth_here (here_of o))) (angle_number o)) t), (λ t a b. (a, b, last_step 11 (open_records o) (spec_record l i.end (suc (depth_here (here_of o))) (angle_number o)) t), tt))
+follows (at (of_spec (bare_in h) l i)) = (λ t a b. (a, b, last_step places.AtSign (here_records h) (spec_record l i.end (depth_here h) (group_number h)) t), (λ t a b. (a, b, last_step places.AtSign (here_records h) (spec_record l i.end (depth_here h) (group_number h)) t), tt))
+follows (at (of_spec (angle_in o) l i)) = (λ t a b. (a, b, last_step places.AngleAt (open_records o) (spec_record l i.end (suc (depth_here (here_of o))) (angle_number o)) t), (λ t a b. (a, b, last_step places.AngleAt (open_records o) (spec_record l i.end (suc (depth_here (here_of o))) (angle_number o)) t), tt))
+follows (at (of_spec (route_in o r) l i)) = (λ t a b. (a, b, last_step places.AngleAt (open_records o) (spec_record l i.end (suc (depth_here (here_of o))) (angle_number o)) t), (λ t a b. (a, b, last_step places.AngleAt (open_records o) (spec_record l i.end (suc (depth_here (here_of o))) (angle_number o)) t), tt))
 follows (at (of_hop o f i)) = (λ t a b. (a, b, refl), (λ t a b. (a, b, refl), tt))
 follows (domain (of_spec (bare_in (in_list r)) l i) m) = (λ t a b. (a, b, refl), (λ t a b. (a, b, refl), tt))
-follows (domain (of_spec (bare_in (in_group r p c s)) l i) m) = (λ t a b. (a, b, refl), (λ t a b. (a, b, refl), (λ t a b. (a, b, ap (λ rs. some (walked_by 21 a b 0 0 rs)) (group_ends r p c (full s (bare (spec l i m))) t)), tt)))
-follows (domain (of_spec (angle_in (less h q u)) l i) m) = (λ t a b. (a, b, refl), (λ t a b. (a, b, ap (λ rs. some (walked_by 20 a b (group_number h) 0 rs)) (box_ends (here_records h) (named_record 2 q u.end (depth_here h) (group_number h)) (spec_record l (end_of_domain m) (suc (depth_here h)) (suc (length (here_records h)))) t.end)), tt))
-follows (domain (of_spec (route_in (less h q u) y) l i) m) = (λ t a b. (a, b, refl), (λ t a b. (a, b, ap (λ rs. some (walked_by 20 a b (group_number h) 0 rs)) (box_ends (here_records h) (named_record 2 q u.end (depth_here h) (group_number h)) (spec_record l (end_of_domain m) (suc (depth_here h)) (suc (length (here_records h)))) t.end)), tt))
+follows (domain (of_spec (bare_in (in_group r p c s)) l i) m) = (λ t a b. (a, b, refl), (λ t a b. (a, b, refl), (λ t a b. (a, b, ap (λ rs. Some (walked_by places.GroupClosed a b None None rs)) (group_ends r p c (full s (bare (spec l i m))) t)), tt)))
+follows (domain (of_spec (angle_in (less h q u)) l i) m) = (λ t a b. (a, b, refl), (λ t a b. (a, b, ap (λ rs. Some (walked_by places.AngleClosed a b (group_of h) None rs)) (box_ends (here_records h) (named_record 2 q u.end (depth_here h) (group_number h)) (spec_record l (end_of_domain m) (suc (depth_here h)) (suc (length (here_records h)))) t.end)), tt))
+follows (domain (of_spec (route_in (less h q u) y) l i) m) = (λ t a b. (a, b, refl), (λ t a b. (a, b, ap (λ rs. Some (walked_by places.AngleClosed a b (group_of h) None rs)) (box_ends (here_records h) (named_record 2 q u.end (depth_here h) (group_number h)) (spec_record l (end_of_domain m) (suc (depth_here h)) (suc (length (here_records h)))) t.end)), tt))
 follows (domain (of_hop o f i) m) = (λ t a b. (a, b, refl), (λ t a b. (a, b, refl), (λ t a b. (a, b, refl), tt)))
-follows (domain_dot (of_spec (bare_in h) l i) m j) = (λ t a b. (a, b, last_step 7 (here_records h) (spec_record l (end_of_domain m) (depth_here h) (group_number h)) t), (λ t a b. (a, b, last_step 7 (here_records h) (spec_record l (end_of_domain m) (depth_here h) (group_number h)) t), tt))
-follows (domain_dot (of_spec (angle_in o) l i) m j) = (λ t a b. (a, b, last_step 13 (open_records o) (spec_record l (end_of_domain m) (suc (depth_here (here_of o))) (angle_number o)) t), (λ t a b. (a, b, last_step 13 (open_records o) (spec_record l (end_of_domain m) (suc (depth_here (here_of o))) (angle_number o)) t), tt))
-follows (domain_dot (of_spec (route_in o r) l i) m j) = (λ t a b. (a, b, last_step 13 (open_records o) (spec_record l (end_of_domain m) (suc (depth_here (here_of o))) (angle_number o)) t), (λ t a b. (a, b, last_step 13 (open_records o) (spec_record l (end_of_domain m) (suc (depth_here (here_of o))) (angle_number o)) t), tt))
+follows (domain_dot (of_spec (bare_in h) l i) m j) = (λ t a b. (a, b, last_step places.DomainDot (here_records h) (spec_record l (end_of_domain m) (depth_here h) (group_number h)) t), (λ t a b. (a, b, last_step places.DomainDot (here_records h) (spec_record l (end_of_domain m) (depth_here h) (group_number h)) t), tt))
+follows (domain_dot (of_spec (angle_in o) l i) m j) = (λ t a b. (a, b, last_step places.AngleDomainDot (open_records o) (spec_record l (end_of_domain m) (suc (depth_here (here_of o))) (angle_number o)) t), (λ t a b. (a, b, last_step places.AngleDomainDot (open_records o) (spec_record l (end_of_domain m) (suc (depth_here (here_of o))) (angle_number o)) t), tt))
+follows (domain_dot (of_spec (route_in o r) l i) m j) = (λ t a b. (a, b, last_step places.AngleDomainDot (open_records o) (spec_record l (end_of_domain m) (suc (depth_here (here_of o))) (angle_number o)) t), (λ t a b. (a, b, last_step places.AngleDomainDot (open_records o) (spec_record l (end_of_domain m) (suc (depth_here (here_of o))) (angle_number o)) t), tt))
 follows (domain_dot (of_hop o f i) m j) = (λ t a b. (a, b, refl), (λ t a b. (a, b, refl), tt))
 follows (opened o) = (λ t a b. (0, 0, refl), (λ t a b. (0, 0, refl), (λ t a b. (a, b, refl), (λ t a b. (a, b, refl), tt))))
 follows (hop o (first_at g)) = (λ t a b. (a, b, refl), (λ t a b. (a, b, refl), tt))
 follows (hop o (next_at h u g)) = (λ t a b. (a, b, refl), (λ t a b. (a, b, refl), (λ t a b. (a, b, refl), tt)))
 follows (route o r) = (λ t a b. (0, 0, refl), (λ t a b. (0, 0, refl), tt))
 follows (boxed (in_list r) m) = (λ t a b. (a, b, refl), tt)
-follows (boxed (in_group r p c s) m) = (λ t a b. (a, b, refl), (λ t a b. (a, b, ap (λ rs. some (walked_by 21 a b 0 0 rs)) (group_ends r p c (full s m) t)), tt))
+follows (boxed (in_group r p c s) m) = (λ t a b. (a, b, refl), (λ t a b. (a, b, ap (λ rs. Some (walked_by places.GroupClosed a b None None rs)) (group_ends r p c (full s m) t)), tt))
 follows (closed r x) = (λ t a b. (a, b, refl), tt)
 
 -- ---- where no arrow goes on the loop stops
 
-abbrev Quiet : Option State → Option Walked → Type 0
-Quiet none o = o ≡ none
+abbrev Quiet : maybe.Option State → Option Walked → Type 0
+Quiet none o = o ≡ None
 Quiet (some s) o = Unit {0}
 
 abbrev QuietAt : State → ℕ → ℕ → Lexeme → Class → Type 0
@@ -341,9 +351,9 @@ quiet_at s a b t Literal = (quiet s a b t).10
 
 -- ---- the loop does what the machine does
 
-abbrev Agrees : Option State → Option Walked → Type 0
-Agrees none o = o ≡ none
-Agrees (some s) o = (a : ℕ) × (b : ℕ) × (o ≡ some (walked_in s a b))
+abbrev Agrees : maybe.Option State → Option Walked → Type 0
+Agrees none o = o ≡ None
+Agrees (some s) o = (a : ℕ) × (b : ℕ) × (o ≡ Some (walked_in s a b))
 
 look_follows : (s : State) (a b : ℕ) (x : Sym) (others : List (Arrow Class State)) → Follows s others → Quiet (look same_class others x) (step_from (walked_in s a b) x)
     → Agrees (look same_class others x) (step_from (walked_in s a b) x)
@@ -366,9 +376,9 @@ abbrev pub Matches : Result Class State → WalkEnd → Type 0
 Matches (ended s) e = (a : ℕ) × (b : ℕ) × (e ≡ ends (walked_in s a b))
 Matches (stopped why rest) e = (why ≡ unfit) × (e ≡ stops rest)
 
-match_step : (n : ℕ) (x : Sym) (xs : List Sym) (o : Option State) (p : Option Walked) → Agrees o p
+match_step : (n : ℕ) (x : Sym) (xs : List Sym) (o : maybe.Option State) (p : Option Walked) → Agrees o p
     → ((s : State) (a b : ℕ) → Matches (run n s xs) (walk_from (walked_in s a b) xs))
-    → Matches (after (taken o) (λ s. run n s xs) (x ∷ xs)) (elim p [ none ↦ stops (x ∷ xs) | some g ↦ walk_from g xs ])
+    → Matches (after (taken o) (λ s. run n s xs) (x ∷ xs)) (elim p [ None ↦ stops (x ∷ xs) | Some g ↦ walk_from g xs ])
 match_step n x xs none p g f = rw g (refl, refl)
 match_step n x xs (some s) p (a, b, e) f = rw e (f s a b)
 

@@ -3,7 +3,6 @@
 pub mod Follows
 pub mod WalkRecords
 pub mod Verdicts
-pub mod PlaceLaws
 pub mod StepLaws
 pub mod LoopLaws
 pub mod LevelLaws

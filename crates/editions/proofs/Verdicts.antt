@@ -1,6 +1,5 @@
 -- What the loop of RFC 822 comes to is the machine's verdict, with the records of the derivation. Assumes nothing.
 use Prim.Native.Nat.{ℕ}
-use native.Mathlib.Omega.{arith}
 use mathlib.Core.Path.{◌≡◌, refl, sym, ap, ◌∙◌}
 use mathlib.Core.Bool.{true, false}
 use mathlib.Core.List.{List}
@@ -71,8 +70,8 @@ says_end (some k) f e d q = (f, q, d.0, d.1)
 says : (r : Result Class State) (e : WalkEnd) → Matches r e → Says (verdict_by finish r) e
 says (ended s) e m = let (a, b, q) = m in says_end (finish s) (walked_in s a b) e (done s a b) q
 says (stopped unfit rest) e m = m.1
-says (stopped unfinished rest) e m = absurd (let q = m.0 in let z : ◌≡◌ {A = ℕ} 0 1 = cc in omega arith)
-says (stopped too_deep rest) e m = absurd (let q = m.0 in let z : ◌≡◌ {A = ℕ} 0 1 = cc in omega arith)
+says (stopped unfinished rest) e m = absurd (let q = m.0 in cc)
+says (stopped too_deep rest) e m = absurd (let q = m.0 in cc)
 
 -- the loop from the start says what the machine says, whatever the numbers that do not matter
 pub loop_says : (n a b : ℕ) (xs : List Sym) → Says (read n xs) (walk_from (walked_in start a b) xs)
@@ -82,20 +81,20 @@ loop_says n a b xs = says (run n start xs) (walk_from (walked_in start a b) xs) 
 
 listed_by : (v : Verdict Class (Forest Class Nonterminal)) (e : WalkEnd) (f : Walked) → Says v e → e ≡ ends f → may_end f ≡ true → (k : Forest Class Nonterminal) × (v ≡ accepted k) × (f.records ≡ records k)
 listed_by (accepted k) e f (g, q, d, r) p t = let h : f ≡ g = cc in (k, refl, ap (λ (z : Walked). z.records) h ∙ r)
-listed_by (refused unfit rest) e f s p t = absurd (let z : ◌≡◌ {A = ℕ} 0 1 = cc in omega arith)
-listed_by (refused unfinished rest) e f (g, q, d) p t = absurd (let h : f ≡ g = cc in let z : true ≡ false = sym t ∙ ap may_end h ∙ d in let y : ◌≡◌ {A = ℕ} 0 1 = cc in omega arith)
+listed_by (refused unfit rest) e f s p t = absurd cc
+listed_by (refused unfinished rest) e f (g, q, d) p t = absurd cc
 listed_by (refused too_deep rest) e f s p t = absurd s
 
 unfinished_by : (v : Verdict Class (Forest Class Nonterminal)) (e : WalkEnd) (f : Walked) → Says v e → e ≡ ends f → may_end f ≡ false → (rest : List Sym) × (v ≡ refused unfinished rest)
-unfinished_by (accepted k) e f (g, q, d, r) p t = absurd (let h : f ≡ g = cc in let z : true ≡ false = sym d ∙ ap may_end (sym h) ∙ t in let y : ◌≡◌ {A = ℕ} 0 1 = cc in omega arith)
-unfinished_by (refused unfit rest) e f s p t = absurd (let z : ◌≡◌ {A = ℕ} 0 1 = cc in omega arith)
+unfinished_by (accepted k) e f (g, q, d, r) p t = absurd cc
+unfinished_by (refused unfit rest) e f s p t = absurd cc
 unfinished_by (refused unfinished rest) e f s p t = (rest, refl)
 unfinished_by (refused too_deep rest) e f s p t = absurd s
 
 stopped_by : (v : Verdict Class (Forest Class Nonterminal)) (e : WalkEnd) (rest : List Sym) → Says v e → e ≡ stops rest → v ≡ refused unfit rest
-stopped_by (accepted k) e rest (g, q, d, r) p = absurd (let z : ◌≡◌ {A = ℕ} 0 1 = cc in omega arith)
+stopped_by (accepted k) e rest (g, q, d, r) p = absurd cc
 stopped_by (refused unfit rest') e rest s p = let h : rest' ≡ rest = cc in ap (refused unfit) h
-stopped_by (refused unfinished rest') e rest (g, q, d) p = absurd (let z : ◌≡◌ {A = ℕ} 0 1 = cc in omega arith)
+stopped_by (refused unfinished rest') e rest (g, q, d) p = absurd cc
 stopped_by (refused too_deep rest') e rest s p = absurd s
 
 pub loop_listed : (n a b : ℕ) (xs : List Sym) (f : Walked) → walk_from (walked_in start a b) xs ≡ ends f → may_end f ≡ true → (k : Forest Class Nonterminal) × (read n xs ≡ accepted k) × (f.records ≡ records k)

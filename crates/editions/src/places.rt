@@ -1,39 +1,97 @@
-// The table of the loop of RFC 822.
+// The places of the loop of RFC 822, and how symbols lead from one to another.
+ghost use Rattle.std.specs.Prelude.{◌≡◌};
+ghost use Rattle.editions.specs.Ties.Places.{next_place};
 
-// How many places it has. They are: after a comma or at the start of a list; after the first word of an address; further words
-// of a phrase; a further word of a local-part; a dot of it; its "@"; a part of its domain; a dot of that; after "<"; the first word
-// of the local-part there; a dot of it; its "@"; a part of its domain; a dot of that; a comma before the first "@" of a route; an
-// "@" of a route, or a dot of a domain there; a part of its domain; the ":" of a group; a comma after a domain of a route; the ":"
-// of a route; ">"; ";"; a further word of a local-part in angle brackets.
-pub const PLACES: usize = 23;
+use Place::{
+    AngleAt, AngleClosed, AngleDomain, AngleDomainDot, AngleDot, AngleLocal, AngleWord, AtSign,
+    Domain, DomainDot, EmptyHop, GroupClosed, GroupOpened, HopAt, HopComma, HopDomain, Local,
+    LocalDot, Opened, Phrase, RouteColon, Slot, Word,
+};
+use scanner::Class::{
+    self, At, Atom, Colon, Comma, Dot, GreaterThan, LessThan, Literal, Quoted, Semicolon,
+};
 
-// The columns of a row: what coming to the place does; 1 where a list may end there, outside of a group; then for each class the
-// next place, 255 where no list goes on: atom, quoted-string, "@", "<", ">", ",", ";", ":", any other, ".", domain literal.
-// Coming to a place does nothing (0), a word begins a name (1) or goes on with it (2), the record of a mailbox begins (3) and comes
-// to its end (4), so that of an angle address (5, 6), and of a group (7, 8).
-pub const COLUMNS: usize = 13;
+// Where the loop stands.
+#[derive(Clone, Copy, PartialEq, Eq)]
+pub enum Place {
+    // At a place of a list or of a group: at its start, or after a comma.
+    Slot,
+    // After the first word of an address.
+    Word,
+    // After further words of a phrase.
+    Phrase,
+    // After a word of a local-part that follows a dot.
+    Local,
+    // After a dot of a local-part.
+    LocalDot,
+    // After the "@" of a mailbox without brackets.
+    AtSign,
+    // After a part of its domain.
+    Domain,
+    // After a dot of its domain.
+    DomainDot,
+    // After "<".
+    Opened,
+    // After the first word of the local-part in it.
+    AngleWord,
+    // After a further word of that local-part.
+    AngleLocal,
+    // After a dot of that local-part.
+    AngleDot,
+    // After its "@".
+    AngleAt,
+    // After a part of its domain.
+    AngleDomain,
+    // After a dot of its domain.
+    AngleDomainDot,
+    // After a comma before the first "@" of a route.
+    EmptyHop,
+    // After an "@" of a route, or a dot of a domain there.
+    HopAt,
+    // After a part of a domain of a route.
+    HopDomain,
+    // After a comma of a route after a domain.
+    HopComma,
+    // After the ":" of a route.
+    RouteColon,
+    // After ">".
+    AngleClosed,
+    // After the ":" of a group.
+    GroupOpened,
+    // After ";".
+    GroupClosed,
+}
 
-pub const EFFECT: usize = 0;
-
-pub const ENDS: usize = 1;
-
-pub const NEXT: usize = 2;
-
-pub const TABLE_SIZE: usize = 299;
-
-pub const PLACE_TABLE: [u8; TABLE_SIZE] = [
-    0, 1, 1, 1, 255, 255, 255, 0, 21, 255, 255, 255, 255, 1, 0, 2, 2, 5, 8, 255, 255, 255, 17, 255,
-    4, 255, 2, 0, 2, 2, 255, 8, 255, 255, 255, 17, 255, 255, 255, 2, 0, 255, 255, 5, 255, 255, 255,
-    255, 255, 255, 4, 255, 0, 0, 3, 3, 255, 255, 255, 255, 255, 255, 255, 255, 255, 3, 0, 6, 255,
-    255, 255, 255, 255, 255, 255, 255, 255, 6, 4, 1, 255, 255, 255, 255, 255, 0, 21, 255, 255, 7,
-    255, 0, 0, 6, 255, 255, 255, 255, 255, 255, 255, 255, 255, 6, 5, 0, 9, 9, 15, 255, 255, 14,
-    255, 255, 255, 255, 255, 1, 0, 255, 255, 11, 255, 255, 255, 255, 255, 255, 10, 255, 0, 0, 22,
-    22, 255, 255, 255, 255, 255, 255, 255, 255, 255, 3, 0, 12, 255, 255, 255, 255, 255, 255, 255,
-    255, 255, 12, 4, 0, 255, 255, 255, 255, 20, 255, 255, 255, 255, 13, 255, 0, 0, 12, 255, 255,
-    255, 255, 255, 255, 255, 255, 255, 12, 0, 0, 255, 255, 15, 255, 255, 14, 255, 255, 255, 255,
-    255, 0, 0, 16, 255, 255, 255, 255, 255, 255, 255, 255, 255, 16, 0, 0, 255, 255, 255, 255, 255,
-    18, 255, 19, 255, 15, 255, 7, 0, 1, 1, 255, 255, 255, 0, 21, 255, 255, 255, 255, 0, 0, 255,
-    255, 15, 255, 255, 18, 255, 19, 255, 255, 255, 0, 0, 9, 9, 255, 255, 255, 255, 255, 255, 255,
-    255, 255, 6, 1, 255, 255, 255, 255, 255, 0, 21, 255, 255, 255, 255, 8, 1, 255, 255, 255, 255,
-    255, 0, 255, 255, 255, 255, 255, 2, 0, 255, 255, 11, 255, 255, 255, 255, 255, 255, 10, 255,
-];
+// The next place, from a place by a symbol of a class; none where no list goes on.
+pub fn next_place(place: Place, class: Class) -> Option<Place>
+    ensures { result ≡ next_place place class }
+{
+    let next = match (place, class) {
+        (Slot | GroupOpened, Atom | Quoted) => Word,
+        (Word | Phrase, Atom | Quoted) => Phrase,
+        (Word | Phrase, Colon) => GroupOpened,
+        (Word | Phrase, LessThan) => Opened,
+        (Word | Local, Dot) => LocalDot,
+        (Word | Local, At) => AtSign,
+        (LocalDot, Atom | Quoted) => Local,
+        (AtSign | DomainDot, Atom | Literal) => Domain,
+        (Domain, Dot) => DomainDot,
+        (Opened | EmptyHop, Comma) => EmptyHop,
+        (Opened | EmptyHop | HopComma, At) => HopAt,
+        (HopAt, Atom | Literal) => HopDomain,
+        (HopDomain, Dot) => HopAt,
+        (HopDomain | HopComma, Comma) => HopComma,
+        (HopDomain | HopComma, Colon) => RouteColon,
+        (Opened | RouteColon, Atom | Quoted) => AngleWord,
+        (AngleWord | AngleLocal, Dot) => AngleDot,
+        (AngleWord | AngleLocal, At) => AngleAt,
+        (AngleDot, Atom | Quoted) => AngleLocal,
+        (AngleAt | AngleDomainDot, Atom | Literal) => AngleDomain,
+        (AngleDomain, Dot) => AngleDomainDot,
+        (AngleDomain, GreaterThan) => AngleClosed,
+        (Slot | GroupOpened | Domain | AngleClosed, Semicolon) => GroupClosed,
+        (Slot | GroupOpened | Domain | AngleClosed | GroupClosed, Comma) => Slot,
+        _ => return None,
+    };
+    Some(next)
+}

@@ -1,98 +1,56 @@
 -- The table holds what is done in each mode at each symbol. Assumes nothing.
-use Prim.Native.Nat.{ℕ, ◌+◌, ◌*◌, ◌<◌}
-use mathlib.Core.Path.{◌≡◌, refl, sym, ap, ◌∙◌}
-use mathlib.Core.List.{[], ◌∷◌}
+use mathlib.Core.Path.{◌≡◌, refl}
+use mathlib.Core.List.{List}
 use lib.ListN.{get_or}
-use native.Mathlib.Omega.{arith}
-use Rattle.octets.proofs.TableRows.{cell_at}
+use Rattle.scanner.specs.declared.Class.{Class}
+use Rattle.scanner.specs.declared.Class.TheVariants.{Atom, Quoted, At, LessThan, GreaterThan, Comma, Semicolon, Colon, Stray, Dot, Literal}
 use Rattle.grammar.specs.Believed.Rfc733.{class_number}
-use Rattle.grammar.specs.Executable.Trees733.{Class, Atom, Quoted, At, LessThan, GreaterThan, Comma, Semicolon, Colon, Stray, Dot, Literal}
-use Rattle.engine.specs.Ties.Actions.{Mode, at_place, at_start, at_first_atom, wanting, at_atom, at_quoted, at_words, after_at, at_node, after_address, mode_number, Act, refuses, begins, adds, passes, opens, opens_named, turns_typed, ends_at_comma, closes, ends_and_closes, finishes, ends_and_finishes, act_number, no, entry, Row, row_of, on_class, action_of, columns, cells, end_column, mode_count, modes, action_table}
+use Rattle.engine.specs.declared.actions.Mode.{Mode}
+use Rattle.engine.specs.declared.actions.Mode.TheVariants.{AtPlace, AtStart, AtFirstAtom, Wanting, AtAtom, AtQuoted, AtWords, AfterAt, AtNode, AfterAddress}
+use Rattle.engine.specs.declared.actions.Action.{Action}
+use Rattle.engine.specs.declared.actions.End.{End}
+use Rattle.engine.specs.Ties.Actions.{Row, row_of, on_class, action_of, cells, mode_number, action_table, end_table}
 
-pub mode_small : (m : Mode) → mode_number m < mode_count
-mode_small at_place = omega arith
-mode_small at_start = omega arith
-mode_small at_first_atom = omega arith
-mode_small wanting = omega arith
-mode_small at_atom = omega arith
-mode_small at_quoted = omega arith
-mode_small at_words = omega arith
-mode_small after_at = omega arith
-mode_small at_node = omega arith
-mode_small after_address = omega arith
-
-pub class_small : (c : Class) → class_number c < end_column
-class_small Atom = omega arith
-class_small Quoted = omega arith
-class_small At = omega arith
-class_small LessThan = omega arith
-class_small GreaterThan = omega arith
-class_small Comma = omega arith
-class_small Semicolon = omega arith
-class_small Colon = omega arith
-class_small Stray = omega arith
-class_small Dot = omega arith
-class_small Literal = omega arith
-
--- ---- the table, entry by entry
-
-mode_at : (m : Mode) → get_or modes (mode_number m) at_place ≡ m
-mode_at at_place = refl
-mode_at at_start = refl
-mode_at at_first_atom = refl
-mode_at wanting = refl
-mode_at at_atom = refl
-mode_at at_quoted = refl
-mode_at at_words = refl
-mode_at after_at = refl
-mode_at at_node = refl
-mode_at after_address = refl
-
--- a column of a row
-column_at : (m : Mode) (j : ℕ) → j < columns → get_or action_table (mode_number m * columns + j) 0 ≡ entry (get_or (cells (row_of m)) j no)
+-- the row of a mode
+row_in : (m : Mode) (other : List Action) → get_or action_table (mode_number m) other ≡ cells (row_of m)
 unfolding action_table
-column_at m j h =
-    cell_at columns (λ i k. entry (get_or (cells (row_of (get_or modes i at_place))) k no)) (omega arith) action_table tt (mode_number m) j h (omega (arith, mode_small m)) ∙ ap (λ n. entry (get_or (cells (row_of n)) j no)) (mode_at m)
+row_in AtPlace other = refl
+row_in AtStart other = refl
+row_in AtFirstAtom other = refl
+row_in Wanting other = refl
+row_in AtAtom other = refl
+row_in AtQuoted other = refl
+row_in AtWords other = refl
+row_in AfterAt other = refl
+row_in AtNode other = refl
+row_in AfterAddress other = refl
 
-class_at_lem : (r : Row) (c : Class) → get_or (cells r) (class_number c) no ≡ on_class r c
-class_at_lem r Atom = refl
-class_at_lem r Quoted = refl
-class_at_lem r At = refl
-class_at_lem r LessThan = refl
-class_at_lem r GreaterThan = refl
-class_at_lem r Comma = refl
-class_at_lem r Semicolon = refl
-class_at_lem r Colon = refl
-class_at_lem r Stray = refl
-class_at_lem r Dot = refl
-class_at_lem r Literal = refl
+action_in : (r : Row) (c : Class) (other : Action) → get_or (cells r) (class_number c) other ≡ on_class r c
+action_in r Atom other = refl
+action_in r Quoted other = refl
+action_in r At other = refl
+action_in r LessThan other = refl
+action_in r GreaterThan other = refl
+action_in r Comma other = refl
+action_in r Semicolon other = refl
+action_in r Colon other = refl
+action_in r Stray other = refl
+action_in r Dot other = refl
+action_in r Literal other = refl
 
 -- what is done in a mode at a symbol of a class
-pub entry_at : (m : Mode) (c : Class) → get_or action_table (mode_number m * columns + class_number c) 0 ≡ entry (action_of m c)
-entry_at m c = column_at m (class_number c) (omega (arith, class_small c)) ∙ ap entry (class_at_lem (row_of m) c)
+pub entry_at : (m : Mode) (c : Class) (row : List Action) (other : Action) → get_or (get_or action_table (mode_number m) row) (class_number c) other ≡ action_of m c
+entry_at m c row other = rw row_in (action_in (row_of m) c other)
 
 -- .. and at the end of the text
-pub end_entry : (m : Mode) → get_or action_table (mode_number m * columns + end_column) 0 ≡ entry (row_of m).end
-end_entry m = column_at m end_column (omega arith)
-
--- ---- what is done, by its number
-
-abbrev act_at : ℕ → Act
-act_at n = get_or (refuses ∷ begins ∷ adds ∷ passes ∷ opens ∷ opens_named ∷ turns_typed ∷ ends_at_comma ∷ closes ∷ ends_and_closes ∷ finishes ∷ ends_and_finishes ∷ []) n refuses
-
-act_at_lem : (d : Act) → act_at (act_number d) ≡ d
-act_at_lem refuses = refl
-act_at_lem begins = refl
-act_at_lem adds = refl
-act_at_lem passes = refl
-act_at_lem opens = refl
-act_at_lem opens_named = refl
-act_at_lem turns_typed = refl
-act_at_lem ends_at_comma = refl
-act_at_lem closes = refl
-act_at_lem ends_and_closes = refl
-act_at_lem finishes = refl
-act_at_lem ends_and_finishes = refl
-
-pub act_is : (d e : Act) → act_number d ≡ act_number e → d ≡ e
-act_is d e p = sym (act_at_lem d) ∙ ap act_at p ∙ act_at_lem e
+pub end_entry : (m : Mode) (other : End) → get_or end_table (mode_number m) other ≡ (row_of m).end
+end_entry AtPlace other = refl
+end_entry AtStart other = refl
+end_entry AtFirstAtom other = refl
+end_entry Wanting other = refl
+end_entry AtAtom other = refl
+end_entry AtQuoted other = refl
+end_entry AtWords other = refl
+end_entry AfterAt other = refl
+end_entry AtNode other = refl
+end_entry AfterAddress other = refl

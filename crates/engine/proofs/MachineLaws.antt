@@ -8,7 +8,14 @@ use Rattle.grammar.specs.Executable.Machines.{go, stop}
 use Rattle.grammar.specs.Executable.Trees733.{Class, Atom, Quoted, At, LessThan, GreaterThan, Comma, Semicolon, Colon, Stray, Dot, Literal, Lexeme, Word, atom_word, quoted_word, Phrase, one, more, Nodes, first, next, Slot, empty, comma, AddressList, idle, full, Address, mailbox, quoted}
 use Rattle.grammar.specs.Executable.Machine733.{Here, in_list, in_typed, Level, top, in_angle, in_group, State, list, phrase, first_at, next_at, node, want, close, enter, Began, fresh, phrase_colon, step_on, finish, whole_of, complete, on_greater_than, on_comma, on_semicolon}
 use Rattle.grammar.proofs.Rfc733.Complete.{begin}
-use Rattle.engine.specs.Ties.Actions.{Mode, at_place, wanting, at_words, Act, refuses, begins, adds, passes, opens, opens_named, turns_typed, ends_at_comma, closes, ends_and_closes, finishes, ends_and_finishes, Action, ◌then◌, place_row, words_row, row_of, on_class, action_of, after_address}
+use Rattle.engine.specs.declared.actions.Mode.{Mode}
+use Rattle.engine.specs.declared.actions.Mode.TheVariants.{AtPlace, Wanting, AtWords, AfterAddress}
+use Rattle.engine.specs.declared.actions.Act.{Act}
+use Rattle.engine.specs.declared.actions.Act.TheVariants.{Refuse, Begin, Add, Pass, Open, OpenNamed, TurnTyped, EndAtComma, Close, EndAndClose}
+use Rattle.engine.specs.declared.actions.Action.{Action}
+use Rattle.engine.specs.declared.actions.End.{End}
+use Rattle.engine.specs.declared.actions.End.TheVariants.{TooSoon, OfList, OfAddress}
+use Rattle.engine.specs.Ties.Actions.{◌then◌, place_row, words_row, row_of, on_class, action_of}
 use Rattle.engine.specs.Ties.Stands.{place_mode, atom_mode, mode_of}
 use Rattle.engine.specs.Ties.Turns.{is_angle, level_if, end_if, Ended, lone, boxed}
 
@@ -36,7 +43,7 @@ pub record Adds (mode : Mode) (n : ℕ) (s : State) (c : Class) (t : Lexeme) : T
   pub at : s ≡ phrase here sofar
   pub is : WordIs c t word
   pub steps : step_on n s c t ≡ go (phrase here (more sofar word))
-  pub mode_is : at_words ≡ mode
+  pub mode_is : AtWords ≡ mode
 
 -- a step that changes no record and no level
 pub data Keeps (t : Lexeme) : State → State → Type 0 where
@@ -75,7 +82,7 @@ pub record TurnsTyped (mode : Mode) (n : ℕ) (s : State) (c : Class) (t : Lexem
   pub atom : Lexeme
   pub at : s ≡ phrase (in_list (in_group here none colon) empty) (one (atom_word atom))
   pub steps : step_on n s c t ≡ go (want here colon atom t)
-  pub mode_is : wanting ≡ mode
+  pub mode_is : Wanting ≡ mode
 
 -- an address ends, with the typed addresses around it, and a place follows
 pub record EndsAtComma (mode : Mode) (n : ℕ) (s : State) (c : Class) (t : Lexeme) : Type 0 where
@@ -83,7 +90,7 @@ pub record EndsAtComma (mode : Mode) (n : ℕ) (s : State) (c : Class) (t : Lexe
   pub address : Address
   pub ended : Ended s here address
   pub steps : step_on n s c t ≡ go (list (close here address).level (idle (comma (close here address).sofar t)))
-  pub mode_is : at_place ≡ mode
+  pub mode_is : AtPlace ≡ mode
 
 -- the innermost level is closed, if the mark is its own
 pub record Closes (mode : Mode) (n : ℕ) (s : State) (c : Class) (t : Lexeme) : Type 0 where
@@ -91,7 +98,7 @@ pub record Closes (mode : Mode) (n : ℕ) (s : State) (c : Class) (t : Lexeme) :
   pub sofar : AddressList
   pub at : s ≡ list level sofar
   pub steps : step_on n s c t ≡ end_if (is_angle c) level sofar t
-  pub mode_is : after_address ≡ mode
+  pub mode_is : AfterAddress ≡ mode
 
 -- an address ends, with the typed addresses around it, and the level around them is closed, if the mark is its own
 pub record EndsAndCloses (mode : Mode) (n : ℕ) (s : State) (c : Class) (t : Lexeme) : Type 0 where
@@ -99,22 +106,20 @@ pub record EndsAndCloses (mode : Mode) (n : ℕ) (s : State) (c : Class) (t : Le
   pub address : Address
   pub ended : Ended s here address
   pub steps : step_on n s c t ≡ end_if (is_angle c) (close here address).level (close here address).sofar t
-  pub mode_is : after_address ≡ mode
+  pub mode_is : AfterAddress ≡ mode
 
--- any act; the last two stand in no column of a class
+-- any act
 abbrev pub Does : Act → Mode → ℕ → State → Class → Lexeme → Type 0
-Does refuses mode n s c t = step_on n s c t ≡ stop unfit
-Does begins mode n s c t = Begins mode n s c t
-Does adds mode n s c t = Adds mode n s c t
-Does passes mode n s c t = Passes mode n s c t
-Does opens mode n s c t = Opens mode n s c t
-Does opens_named mode n s c t = OpensNamed mode n s c t
-Does turns_typed mode n s c t = TurnsTyped mode n s c t
-Does ends_at_comma mode n s c t = EndsAtComma mode n s c t
-Does closes mode n s c t = Closes mode n s c t
-Does ends_and_closes mode n s c t = EndsAndCloses mode n s c t
-Does finishes mode n s c t = ⊥
-Does ends_and_finishes mode n s c t = ⊥
+Does Refuse mode n s c t = step_on n s c t ≡ stop unfit
+Does Begin mode n s c t = Begins mode n s c t
+Does Add mode n s c t = Adds mode n s c t
+Does Pass mode n s c t = Passes mode n s c t
+Does Open mode n s c t = Opens mode n s c t
+Does OpenNamed mode n s c t = OpensNamed mode n s c t
+Does TurnTyped mode n s c t = TurnsTyped mode n s c t
+Does EndAtComma mode n s c t = EndsAtComma mode n s c t
+Does Close mode n s c t = Closes mode n s c t
+Does EndAndClose mode n s c t = EndsAndCloses mode n s c t
 
 -- .. with the next mode
 abbrev pub DoesSo : Action → ℕ → State → Class → Lexeme → Type 0
@@ -136,8 +141,8 @@ place_row_lem (some b) = refl
 
 -- ":" after one atom
 abbrev colon_of : Option Began → Action
-colon_of none = opens_named then at_place
-colon_of (some b) = turns_typed then wanting
+colon_of none = OpenNamed then AtPlace
+colon_of (some b) = TurnTyped then Wanting
 
 atom_row : (o : Option Began) → row_of (atom_mode o) ≡ words_row (colon_of o)
 atom_row none = refl
@@ -201,7 +206,7 @@ module _ (n : ℕ) (t : Lexeme) where
   does (phrase h (one (quoted_word q))) Stray = refl
   does (phrase h (one (quoted_word q))) Dot = refl
   does (phrase h (one (quoted_word q))) Literal = refl
-  does (phrase h (more p w)) c = at_words_lem h (more p w) (opens_named then at_place) refl (record { here = h; name = more p w; at = refl; steps = refl; mode_is = refl }) c
+  does (phrase h (more p w)) c = at_words_lem h (more p w) (OpenNamed then AtPlace) refl (record { here = h; name = more p w; at = refl; steps = refl; mode_is = refl }) c
   does (first_at h p v) Atom = record { after = node h p (first v (atom_word t)); keeps = to_node Atom atom_is; steps = refl; mode_is = refl }
   does (first_at h p v) Quoted = record { after = node h p (first v (quoted_word t)); keeps = to_node Quoted quoted_is; steps = refl; mode_is = refl }
   does (first_at h p v) At = refl
@@ -262,23 +267,14 @@ pub record EndsAndFinishes (s : State) : Type 0 where
   pub ended : Ended s here address
   pub is : finish s ≡ whole_of (some (close here address))
 
--- what an act is at the end of the text
-abbrev pub DoesAtEnd : Act → State → Type 0
-DoesAtEnd refuses s = finish s ≡ none
-DoesAtEnd begins s = ⊥
-DoesAtEnd adds s = ⊥
-DoesAtEnd passes s = ⊥
-DoesAtEnd opens s = ⊥
-DoesAtEnd opens_named s = ⊥
-DoesAtEnd turns_typed s = ⊥
-DoesAtEnd ends_at_comma s = ⊥
-DoesAtEnd closes s = ⊥
-DoesAtEnd ends_and_closes s = ⊥
-DoesAtEnd finishes s = Finishes s
-DoesAtEnd ends_and_finishes s = EndsAndFinishes s
+-- what the end of the text is
+abbrev pub DoesAtEnd : End → State → Type 0
+DoesAtEnd TooSoon s = finish s ≡ none
+DoesAtEnd OfList s = Finishes s
+DoesAtEnd OfAddress s = EndsAndFinishes s
 
 -- at the end, too
-pub does_at_end : (s : State) → DoesAtEnd (row_of (mode_of s)).end.act s
+pub does_at_end : (s : State) → DoesAtEnd (row_of (mode_of s)).end s
 does_at_end (list k (idle r)) = rw (place_row_lem (fresh (in_list k r))) (record { level = k; sofar = idle r; at = refl })
 does_at_end (list k (full r a)) = record { level = k; sofar = full r a; at = refl }
 does_at_end (phrase h (one (atom_word a))) = rw (atom_row (fresh h)) refl

@@ -1,43 +1,214 @@
 // The table of modes and classes: what is done at a symbol, and the mode after it.
 
-// A row for each mode: at a place of a list; right after the ":" of a nameless group; after one atom there; after the two
-// colons of a typed address; one atom; one quoted-string; more words; after "at"; after a node; after another address.
-// The columns: atom, quoted-string, "at", "<", ">", ",", ";", ":", any other, a dot and a domain literal, which
-// RFC 733 has not, the end of the text.
-pub const ACTIONS: [u8; TABLE_SIZE] = [
-    20, 21, 0, 64, 137, 48, 137, 65, 0, 0, 0, 160, 18, 21, 0, 64, 137, 48, 137, 65, 0, 0, 0, 160,
-    38, 38, 55, 80, 0, 0, 0, 99, 0, 0, 0, 0, 20, 21, 0, 64, 0, 0, 0, 65, 0, 0, 0, 0, 38, 38, 55,
-    80, 0, 0, 0, 80, 0, 0, 0, 0, 38, 38, 55, 80, 153, 112, 153, 80, 0, 0, 0, 176, 38, 38, 55, 80,
-    0, 0, 0, 80, 0, 0, 0, 0, 56, 56, 0, 0, 0, 0, 0, 0, 0, 0, 0, 0, 0, 0, 55, 0, 153, 112, 153, 0,
-    0, 0, 0, 176, 0, 0, 0, 0, 137, 48, 137, 0, 0, 0, 0, 160,
+ghost use Rattle.std.specs.Prelude.{◌≡◌};
+ghost use Rattle.engine.specs.Ties.Actions.{row_of, action_of, mode_number, action_table};
+
+use grammar::class_number;
+use scanner::Class;
+
+// Where the reader is in a list.
+#[derive(Clone, Copy, PartialEq, Eq)]
+pub enum Mode {
+    // At a place,
+    AtPlace,
+    // right after the ":" of a nameless group,
+    AtStart,
+    // after one atom there,
+    AtFirstAtom,
+    // after the two colons of a typed address,
+    Wanting,
+    // after one atom,
+    AtAtom,
+    // one quoted-string,
+    AtQuoted,
+    // or more words,
+    AtWords,
+    // after "at",
+    AfterAt,
+    // after a node,
+    AtNode,
+    // and after another address.
+    AfterAddress,
+}
+
+// What is done at a symbol.
+#[derive(Clone, Copy, PartialEq, Eq)]
+pub enum Act {
+    // It is refused.
+    Refuse,
+    // A word begins an address.
+    Begin,
+    // A further word.
+    Add,
+    // Only the mode changes.
+    Pass,
+    // A level is opened, without a name,
+    Open,
+    // and with one.
+    OpenNamed,
+    // The nameless group that was opened turns typed.
+    TurnTyped,
+    // An address ends.
+    EndAtComma,
+    // A level is closed.
+    Close,
+    // An address ends, and a level is closed.
+    EndAndClose,
+}
+
+// .. and the mode after it.
+#[derive(Clone, Copy, PartialEq, Eq)]
+pub struct Action {
+    pub act: Act,
+    pub next: Mode,
+}
+
+// What the end of the text is: too soon, the end of a list, or that of an address and a list.
+#[derive(Clone, Copy, PartialEq, Eq)]
+pub enum End {
+    TooSoon,
+    OfList,
+    OfAddress,
+}
+
+impl Mode {
+    // The number of its row.
+    fn number(self) -> usize
+        ensures { result ≡ mode_number self }
+    {
+        self as usize
+    }
+}
+
+const CLASSES: usize = 11;
+
+const MODES: usize = 10;
+
+const NO: Action = Action {
+    act: Act::Refuse,
+    next: Mode::AtPlace,
+};
+
+const ATOM: Action = Action {
+    act: Act::Begin,
+    next: Mode::AtAtom,
+};
+
+const FIRST_ATOM: Action = Action {
+    act: Act::Begin,
+    next: Mode::AtFirstAtom,
+};
+
+const QUOTED: Action = Action {
+    act: Act::Begin,
+    next: Mode::AtQuoted,
+};
+
+const WORD: Action = Action {
+    act: Act::Add,
+    next: Mode::AtWords,
+};
+
+const AT: Action = Action {
+    act: Act::Pass,
+    next: Mode::AfterAt,
+};
+
+const NODE: Action = Action {
+    act: Act::Pass,
+    next: Mode::AtNode,
+};
+
+const COMMA: Action = Action {
+    act: Act::Pass,
+    next: Mode::AtPlace,
+};
+
+const LIST: Action = Action {
+    act: Act::Open,
+    next: Mode::AtPlace,
+};
+
+const GROUP: Action = Action {
+    act: Act::Open,
+    next: Mode::AtStart,
+};
+
+const NAMED: Action = Action {
+    act: Act::OpenNamed,
+    next: Mode::AtPlace,
+};
+
+const TYPED: Action = Action {
+    act: Act::TurnTyped,
+    next: Mode::Wanting,
+};
+
+const CLOSE: Action = Action {
+    act: Act::Close,
+    next: Mode::AfterAddress,
+};
+
+const END_COMMA: Action = Action {
+    act: Act::EndAtComma,
+    next: Mode::AtPlace,
+};
+
+const END_CLOSE: Action = Action {
+    act: Act::EndAndClose,
+    next: Mode::AfterAddress,
+};
+
+pub type Table = [[Action; CLASSES]; MODES];
+
+// A row for each mode and a column for each class, in their order: atom, quoted-string, "at", "<", ">", ",", ";", ":", any other,
+// and a dot and a domain literal, which RFC 733 has not.
+pub const ACTIONS: Table = [
+    [
+        ATOM, QUOTED, NO, LIST, CLOSE, COMMA, CLOSE, GROUP, NO, NO, NO,
+    ],
+    [
+        FIRST_ATOM, QUOTED, NO, LIST, CLOSE, COMMA, CLOSE, GROUP, NO, NO, NO,
+    ],
+    [WORD, WORD, AT, NAMED, NO, NO, NO, TYPED, NO, NO, NO],
+    [ATOM, QUOTED, NO, LIST, NO, NO, NO, GROUP, NO, NO, NO],
+    [WORD, WORD, AT, NAMED, NO, NO, NO, NAMED, NO, NO, NO],
+    [
+        WORD, WORD, AT, NAMED, END_CLOSE, END_COMMA, END_CLOSE, NAMED, NO, NO, NO,
+    ],
+    [WORD, WORD, AT, NAMED, NO, NO, NO, NAMED, NO, NO, NO],
+    [NODE, NODE, NO, NO, NO, NO, NO, NO, NO, NO, NO],
+    [
+        NO, NO, AT, NO, END_CLOSE, END_COMMA, END_CLOSE, NO, NO, NO, NO,
+    ],
+    [NO, NO, NO, NO, CLOSE, COMMA, CLOSE, NO, NO, NO, NO],
 ];
 
-// The entries of the table.
-pub const TABLE_SIZE: usize = 120;
-// The columns of a row.
-pub const COLUMNS: usize = 12;
-// The column of the end of the text.
-pub const END: usize = 11;
-// An entry is this many times its act, plus the next mode.
-pub const MODE_ROOM: u8 = 16;
-// The mode after one quoted-string.
-pub const QUOTED: u8 = 5;
+// The column of the end of the text. It stands by itself, for rows that are structs with arrays are built anew at each look.
+const ENDS: [End; MODES] = [
+    End::OfList,
+    End::OfList,
+    End::TooSoon,
+    End::TooSoon,
+    End::TooSoon,
+    End::OfAddress,
+    End::TooSoon,
+    End::TooSoon,
+    End::OfAddress,
+    End::OfList,
+];
 
-// The acts: the symbol is refused.
-pub const REFUSES: u8 = 0;
-// A word begins an address.
-pub const BEGINS: u8 = 1;
-// A further word.
-pub const ADDS: u8 = 2;
-// A level is opened, without a name.
-pub const OPENS: u8 = 4;
-// A level is opened, with one.
-pub const OPENS_NAMED: u8 = 5;
-// The nameless group that was opened turns typed.
-pub const TURNS_TYPED: u8 = 6;
-// A level is closed.
-pub const CLOSES: u8 = 8;
-// An address ends, and a level is closed.
-pub const ENDS_AND_CLOSES: u8 = 9;
-// The text may end.
-pub const FINISHES: u8 = 10;
+// What is done in a mode at a symbol of a class. The table is lent, for else it is built anew at each look.
+pub(crate) fn action_at(actions: &Table, mode: Mode, class: Class) -> Action
+    requires { actions.now ≡ action_table }
+    ensures { result ≡ action_of mode class }
+{
+    actions[mode.number()][class_number(class)]
+}
+
+// What the end of the text is in a mode.
+pub(crate) fn end_at(mode: Mode) -> End
+    ensures { result ≡ (row_of mode).end }
+{
+    ENDS[mode.number()]
+}

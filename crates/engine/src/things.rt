@@ -1,4 +1,4 @@
-// What could stand next, as numbers that are summed: a word,
+// What could stand next, as numbers: one sum of them is told, as the C interface has it. A word,
 pub const WORD: usize = 1;
 // "at" and "@", which are one class,
 pub const AT: usize = 2 + 16;

@@ -58,7 +58,7 @@ same_end p (one_symbol (quoteds start end t u apart) a) = same_end end a
 -- no atom is a quoted-string
 same_atom : {x y : Sym} → SameSymbol x y → x.class ≡ Atom → y.lexeme.meaning ≡ x.lexeme.meaning
 same_atom (itself x) e = refl
-same_atom (quoteds start end t u apart) e = absurd (let z : ◌≡◌ {A = ℕ} 0 1 = cc in omega arith)
+same_atom (quoteds start end t u apart) e = absurd cc
 
 -- ---- every rule makes records of the same kind: by the meaning of an atom, or whatever the name means
 

@@ -13,7 +13,7 @@ use Rattle.equality.proofs.ByteMoves.{character_view, InComment, stays, opens, c
 use Rattle.equality.proofs.ByteMoves as byte
 
 pub never : {A : Type 0} → false ≡ true → A
-never e = absurd (let o : ◌≡◌ {A = ℕ} 0 1 = cc in omega arith)
+never e = absurd cc
 
 -- what is left to close after a move
 abbrev pub closes_by : List Character → Move → Bool

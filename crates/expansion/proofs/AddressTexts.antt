@@ -21,11 +21,11 @@ use Rattle.plain.specs.Ties.Walking.{symbol_text, after, colon_next, walk_text}
 use Rattle.plain.specs.Ties.Writing.{text_limit, is_colon}
 use Rattle.plain.specs.declared.places.Place.{Place}
 use Rattle.plain.specs.declared.places.Place.TheVariants.{Start}
-use Rattle.plain.proofs.WalkSteps.{colon_of, NoneComes}
+use Rattle.plain.proofs.WalkSteps.{colon_of}
 use Rattle.expansion.specs.Ties.Walk.{Sym, until_end}
 use Rattle.addresses.specs.Ties.Steps.{symbols_from}
 use Rattle.expansion.specs.Ties.Steps.{address_from}
-use Rattle.expansion.proofs.SeekSteps.{no_symbols, next_symbol}
+use Rattle.expansion.proofs.SeekSteps.{NotFound, no_symbols, next_symbol}
 use Rattle.expansion.proofs.Seeking.{Ending, at_greater, at_comma, at_semicolon, ending}
 
 -- where an address ends no ":" stands
@@ -61,7 +61,7 @@ module _ {classes text : List ℕ} {start : ℕ} {own₀ own : List ℕ} {n : �
   ended_with : walk_text place (until_end (symbols_from classes text l.at)) ≡ [] → (n ≡ length (address_from classes text start)) × (own ≡ sets own₀ 0 (address_from classes text start))
   ended_with e = (omega (arith, l.count, ap length e), sym (l.same ∙ ap (sets own n) e))
 
-  pub coming_none : NoneComes coming → (n ≡ length (address_from classes text start)) × (own ≡ sets own₀ 0 (address_from classes text start))
+  pub coming_none : NotFound coming → (n ≡ length (address_from classes text start)) × (own ≡ sets own₀ 0 (address_from classes text start))
   coming_none h = ended_with (ap (λ xs. walk_text place (until_end xs)) (no_symbols classes text coming l.at l.is h))
 
   until_next : {class : Class} {first end size : ℕ} {apart : Bool} → coming ≡ found_at class first end size apart

@@ -28,11 +28,10 @@ use Rattle.expansion.specs.Believed.Promises.{Promises}
 use Rattle.expansion.specs.Ties.Walk.{halted, wrote, walked}
 use Rattle.addresses.specs.Ties.Steps.{symbols_from}
 use Rattle.expansion.specs.Ties.Steps.{TextWalked, BodyWent, BodyWalked, trail_outcome, ListExpanded}
-use Rattle.expansion.specs.declared.Around.TheVariants.{Body}
+use Rattle.std.specs.Prelude.{Result, Ok, Err, None}
 use Rattle.expansion.specs.declared.Expanded.{Expanded}
 use Rattle.expansion.specs.declared.Stage.{Stage}
-use Rattle.expansion.specs.declared.Walked.{Walked}
-use Rattle.expansion.specs.declared.Walked.TheVariants.{Went, Stopped}
+use Rattle.expansion.specs.declared.Stopped.{Stopped}
 use Rattle.expansion.proofs.ExpansionLaws.{expansion_promised}
 use Rattle.expansion.proofs.WalkLaws.{walked_expansion}
 use Rattle.expansion.proofs.WalkThrough.{onward}
@@ -45,11 +44,11 @@ abbrev pub first : Stage
 first = record { place = Start; openings = 0; written = 0 }
 
 module _ (classes store text : List ℕ) (start : ℕ) where
-  pub body_walked : (out after : List ℕ) (r : Walked) → TextWalked classes store text start Body first out after r → BodyWalked classes store text start out after r
-  body_walked out after (Went r) g =
+  pub body_walked : (out after : List ℕ) (r : Result Stage Stopped) → TextWalked classes store text start None first out after r → BodyWalked classes store text start out after r
+  body_walked out after (Ok r) g =
       let y = g.onward opening_limit (omega arith) in
       record { written_text = y.put []; trail = y.same (λ place u. wrote [] u); count = omega (arith, y.wrote.count []); stored = sym (y.wrote.same []) }
-  body_walked out after (Stopped n p u) f = f opening_limit (λ place u. wrote [] u) (omega arith)
+  body_walked out after (Err s) f = f opening_limit (λ place u. wrote [] u) (omega arith)
 
   -- ---- what is answered of it; the first walk was on the empty front of the lent text
 
@@ -64,16 +63,16 @@ module _ (classes store text : List ℕ) (start : ℕ) where
           rw w.trail (record { answered = answered f.0 f.1; openings_is = refl })
 
       -- the second walk writes the same
-      again : (later : List ℕ) (r' : Walked) → BodyWalked classes store text start (front ++ lent) later r' → later ≡ sets (front ++ lent) 0 w.written_text
-      again later (Went r') v =
+      again : (later : List ℕ) (r' : Result Stage Stopped) → BodyWalked classes store text start (front ++ lent) later r' → later ≡ sets (front ++ lent) 0 w.written_text
+      again later (Ok r') v =
           let e : wrote v.written_text r'.openings ≡ wrote w.written_text r.openings = sym v.trail ∙ w.trail in
           let f : v.written_text ≡ w.written_text = cc in
           v.stored ∙ ap (sets (front ++ lent) 0) f
-      again later (Stopped n p u) v =
-          let e : halted n p u ≡ wrote w.written_text r.openings = sym v ∙ w.trail in
-          absurd (let z : ◌≡◌ {A = ℕ} 0 1 = cc in omega arith)
+      again later (Err s) v =
+          let e : halted s.fault.number s.fault.position s.openings ≡ wrote w.written_text r.openings = sym v ∙ w.trail in
+          cc
 
-      pub list_fitting : r.written ≤ length (front ++ lent) → (later : List ℕ) (r' : Walked) → BodyWalked classes store text start (front ++ lent) later r'
+      pub list_fitting : r.written ≤ length (front ++ lent) → (later : List ℕ) (r' : Result Stage Stopped) → BodyWalked classes store text start (front ++ lent) later r'
           → ListExpanded classes store text start lent later (record { answer = Accepted r.written; openings = r.openings })
       list_fitting h later r' v =
           let f = fitting w.written_text lent front later r.written r.written w.count none h w.count (again later r' v) in

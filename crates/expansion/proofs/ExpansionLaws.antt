@@ -4,7 +4,7 @@ use native.Mathlib.Omega.{arith}
 use mathlib.Core.Path.{◌≡◌, refl, ap, ap₂, ◌∙◌}
 use mathlib.Core.Bool.{Bool, true, false}
 use mathlib.Core.List.{List, [], ◌∷◌}
-use mathlib.Core.Option.{Option, none, some}
+use Rattle.std.specs.Prelude.{Option, None, Some}
 use borrow.Author.Tests.{ltb-false, leb-false}
 use lib.Dec.{eqb, ltb, leb}
 use lib.ListN.{length, take}
@@ -142,9 +142,9 @@ module _ (store : List ℕ) (opening : Opening) (good : GoodOpening opening) (pl
   include_fine true p d held before u f h = h
   include_fine false p d held before u f h = by (leads_to store held)
     where
-      by : (o : Option ℕ) → FineEnd d (elim o [ none ↦ stopped leads_nowhere p u | some i ↦ opening i p d before u ])
-      by none = h
-      by (some i) = good i p d before u f h
+      by : (o : Option ℕ) → FineEnd d (elim o [ None ↦ stopped leads_nowhere p u | Some i ↦ opening i p d before u ])
+      by None = h
+      by (Some i) = good i p d before u f h
 
   mutual
     place_fine : (r : Slot) (d : ℕ) (xs : List Sym) (before : Addresses) (u : ℕ) → WritableSymbols (slot_then r xs) → d + slot_levels r ≤ level_limit → Fine d before → u ≤ opening_limit

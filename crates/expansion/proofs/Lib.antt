@@ -8,7 +8,6 @@ pub mod WalkThrough
 pub mod WalkLaws
 pub mod StoreLaws
 pub mod SeekSteps
-pub mod PlaceCases
 pub mod LevelLaws
 pub mod AddressTexts
 pub mod Examples

@@ -26,19 +26,19 @@ use Rattle.addresses.proofs.WithinLaws.{within_listed, within_not}
 use Rattle.plain.specs.declared.places.Place.{Place}
 use Rattle.expansion.specs.Believed.Store.{list_in}
 use Rattle.expansion.specs.Ties.Walk.{Trail, halted, walk_within}
-use Rattle.expansion.specs.Ties.Steps.{Continuation, fault_in, walk_symbols, RecordOpens, VerdictIs}
-use Rattle.expansion.specs.declared.Around.TheVariants.{Inside}
-use Rattle.expansion.specs.declared.Verdict.{Verdict}
-use Rattle.expansion.specs.declared.Verdict.TheVariants.{Faulty}
+use Rattle.expansion.specs.Ties.Steps.{Continuation, spot, fault_in, walk_symbols, RecordOpens, VerdictIs}
+use Rattle.octets.specs.Believed.Answers.{fault}
+use Rattle.octets.specs.declared.answers.Fault.{Fault}
+use Rattle.std.specs.Prelude.{Some, Err}
 
 -- ---- the fault of a list, by what the reader answers
 
 module _ (i position : ℕ) (list table : List ℕ) where
-  pub fault_refused : (n p : ℕ) → Refused n p ≡ (outcome list 0 (length list) table).answer → Faulty n i ≡ fault_in list i position
-  fault_refused n p e = sym (refused_told list 0 (length list) table n p e Verdict (λ n p. Faulty n i) (λ k. Faulty too_many_levels position))
+  pub fault_refused : (n p : ℕ) → Refused n p ≡ (outcome list 0 (length list) table).answer → fault n i ≡ fault_in list i position
+  fault_refused n p e = sym (refused_told list 0 (length list) table n p e Fault (λ n p. fault n i) (λ k. fault too_many_levels position))
 
-  pub fault_levels : (r : Answer) → r ≡ (outcome list 0 (length list) table).answer → OneOf (0 ∷ 2 ∷ []) (tag_of answer-declared.the_type r) → Faulty too_many_levels position ≡ fault_in list i position
-  fault_levels r e o = sym (listed_read (some_list list 0 (length list) table r e o).body (λ n p. Faulty n i) (λ k. Faulty too_many_levels position))
+  pub fault_levels : (r : Answer) → r ≡ (outcome list 0 (length list) table).answer → OneOf (0 ∷ 2 ∷ []) (tag_of answer-declared.the_type r) → fault too_many_levels position ≡ fault_in list i position
+  fault_levels r e o = sym (listed_read (some_list list 0 (length list) table r e o).body (λ n p. fault n i) (λ k. fault too_many_levels position))
 
 -- ---- the record
 
@@ -49,10 +49,10 @@ module _ (store : List ℕ) (i position depth openings : ℕ) where
   abbrev derive : ℕ → Place → Continuation → Derivation → Trail
   derive deep place following k =
       pick (ltb level_limit (depth + levels k)) (halted too_many_levels position openings)
-      (walk_symbols store deep (Inside position depth) place [] (symbols_of (scan (list_in store i) 0)) (suc openings) following)
+      (walk_symbols store deep (Some (spot position depth)) place [] (symbols_of (scan (list_in store i) 0)) (suc openings) following)
 
   -- the 65th
-  pub too_many : opening_limit ≤ openings → VerdictIs store i position depth openings (Faulty too_many_openings position)
+  pub too_many : opening_limit ≤ openings → VerdictIs store i position depth openings (Err (fault too_many_openings position))
   too_many h zero place following n = refl
   too_many h (suc deep) place following n =
       ap (λ z. pick z (halted too_many_openings position openings) (body_read refuse (derive deep place following) (list_in store i) 0 (length (list_in store i)))) (le-leb opening_limit openings h)
@@ -74,8 +74,8 @@ module _ (store : List ℕ) (i position depth openings : ℕ) where
           low = low;
           walks = λ deep place following.
               reads deep place following ∙ listed_read body refuse (derive deep place following)
-              ∙ ap (λ z. pick z (halted too_many_levels position openings) (walk_symbols store deep (Inside position depth) place [] (symbols_of (scan (list_in store i) 0)) (suc openings) following)) (le-ltb level_limit (depth + levels k) (omega (arith, low, fits)))
-              ∙ ap (λ u. walk_symbols store deep (Inside position depth) place [] (symbols_of (scan (list_in store i) 0)) u following) (omega arith);
+              ∙ ap (λ z. pick z (halted too_many_levels position openings) (walk_symbols store deep (Some (spot position depth)) place [] (symbols_of (scan (list_in store i) 0)) (suc openings) following)) (le-ltb level_limit (depth + levels k) (omega (arith, low, fits)))
+              ∙ ap (λ u. walk_symbols store deep (Some (spot position depth)) place [] (symbols_of (scan (list_in store i) 0)) u following) (omega arith);
         }
 
     -- or its list is at fault
@@ -84,17 +84,17 @@ module _ (store : List ℕ) (i position depth openings : ℕ) where
     deeper k b false a e = omega (arith, leb-false depth level_limit a)
 
     halts : (n p : ℕ) → ((deep : ℕ) (place : Place) (following : Continuation) → body_read refuse (derive deep place following) (list_in store i) 0 (length (list_in store i)) ≡ halted n p openings)
-        → VerdictIs store i position depth openings (Faulty n p)
+        → VerdictIs store i position depth openings (Err (fault n p))
     halts n p f zero place following h = absurd (omega (arith, h, few))
     halts n p f (suc deep) place following h = reads deep place following ∙ f deep place following
 
-    pub at_fault : both (leb depth level_limit) (list_within (level_limit - depth) (list_in store i)) ≡ false → (r : Verdict) → r ≡ fault_in (list_in store i) i position → VerdictIs store i position depth openings r
+    pub at_fault : both (leb depth level_limit) (list_within (level_limit - depth) (list_in store i)) ≡ false → (r : Fault) → r ≡ fault_in (list_in store i) i position → VerdictIs store i position depth openings (Err r)
     at_fault e r g =
         elim (judged (list_in store i) 0 (length (list_in store i))) [
-          | refused_at n p f ↦ rw (g ∙ f Verdict (λ n p. Faulty n i) (λ k. Faulty too_many_levels position)) (halts n i (λ deep place following. f Trail refuse (derive deep place following)))
+          | refused_at n p f ↦ rw (g ∙ f Fault (λ n p. fault n i) (λ k. fault too_many_levels position)) (halts n i (λ deep place following. f Trail refuse (derive deep place following)))
           | listed k b ↦
-              rw (g ∙ listed_read b (λ n p. Faulty n i) (λ k. Faulty too_many_levels position))
+              rw (g ∙ listed_read b (λ n p. fault n i) (λ k. fault too_many_levels position))
               (halts too_many_levels position (λ deep place following.
               listed_read b refuse (derive deep place following)
-              ∙ ap (λ z. pick z (halted too_many_levels position openings) (walk_symbols store deep (Inside position depth) place [] (symbols_of (scan (list_in store i) 0)) (suc openings) following)) (lt-ltb level_limit (depth + levels k) (deeper k b _ refl e))))
+              ∙ ap (λ z. pick z (halted too_many_levels position openings) (walk_symbols store deep (Some (spot position depth)) place [] (symbols_of (scan (list_in store i) 0)) (suc openings) following)) (lt-ltb level_limit (depth + levels k) (deeper k b _ refl e))))
         ]

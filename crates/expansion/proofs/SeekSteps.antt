@@ -4,7 +4,7 @@ use native.Mathlib.Omega.{arith}
 use mathlib.Core.Path.{◌≡◌, refl, sym, ap, ◌∙◌}
 use mathlib.Core.Bool.{Bool, true, false, not}
 use mathlib.Core.List.{List, [], ◌∷◌}
-use mathlib.Core.Option.{Option, none, some}
+use Rattle.std.specs.Prelude.{Option, None, Some}
 use types.Run.{OneOf}
 use Rattle.octets.specs.Believed.Choice.{pick, both}
 use Rattle.scanner.specs.Believed.Scanning.{Scanned, ended, next, fault_at, symbols_of, scan_by, symbol, apart_from}
@@ -12,31 +12,57 @@ use Rattle.scanner.specs.Believed.Answers.{next_of}
 use Rattle.scanner.specs.declared.Class.{Class}
 use Rattle.scanner.specs.declared.Class.TheVariants.{At, LessThan, GreaterThan, Comma}
 use Rattle.scanner.specs.declared.Next.{Next}
+use Rattle.scanner.specs.declared.Next.TheVariants.{Found}
+use Rattle.scanner.specs.declared.Symbol.{Symbol}
 use Rattle.scanner.specs.Ties.Meanings.{meaning_at}
 use Rattle.scanner.proofs.Unfolding.{SymbolAt}
 use Rattle.grammar.specs.Believed.Rfc733.{same_class}
 use Rattle.grammar.proofs.Rfc733.Readers.{ends_address}
 use Rattle.addresses.specs.Ties.Steps.{symbols_from, is_word}
 use Rattle.addresses.proofs.ClassCases.{tag, by_class, by_class_not}
-use Rattle.plain.proofs.WalkSteps.{NoneComes}
 use Rattle.expansion.specs.Believed.Store.{or_else}
-use Rattle.expansion.specs.Ties.Walk.{Sym, inner_after, single, neither, angled, held_from, held_by, only_from, only, named_by, first_of, sought_by, sought}
+use Rattle.expansion.specs.Ties.Walk.{Sym, inner_after, single, neither, angled, held_from, held_by, only_from, only, word_seen, is_words, named_by, first_of, sought_by, sought}
 use Rattle.expansion.specs.Ties.Walk as seek
-use Rattle.expansion.specs.Ties.Steps.{as_held, skip_to, named_if, as_record}
-use Rattle.expansion.specs.declared.Record.{Record}
-use Rattle.expansion.specs.declared.Record.TheVariants.{Stored, Nowhere}
-use Rattle.expansion.specs.declared.Held.{Held}
-use Rattle.expansion.specs.declared.Held.TheVariants.{Single, Angled, Neither}
+use Rattle.expansion.specs.Ties.Steps.{as_held, skip_to, named_if}
+use Rattle.expansion.specs.declared.text.Seen.{Seen}
+use Rattle.expansion.specs.declared.text.Seen.TheVariants.{Nothing, Words, Nodes}
+use Rattle.expansion.specs.contracts.text.Seen as seen-declared
+use denote.Enum.Bare.{sameb}
+use Rattle.expansion.specs.declared.text.Held.{Held}
+use Rattle.expansion.specs.declared.text.Held.TheVariants.{Single, Angled}
 use Rattle.expansion.proofs.StoreLaws.{InStore, lowest_in, else_in, pick_in}
 
-none_of : (s : Scanned) → NoneComes (next_of s) → symbols_of s ≡ []
+-- no symbol comes
+abbrev pub NotFound : Next → Type 0
+NotFound coming = (x : Symbol) → coming ≡ Found x → ⊥
+
+none_of : (s : Scanned) → NotFound (next_of s) → symbols_of s ≡ []
 unfolding symbols_of
 none_of ended h = refl
-none_of (next x rest) h = absurd h
+none_of (next x rest) h = absurd (h _ refl)
 none_of (fault_at number p) h = refl
 
+-- what is read of an address, by the code's tests
+nothing_is : (seen : Seen) → sameb seen-declared.the_type seen Nothing ≡ true → seen ≡ Nothing
+nothing_is Nothing e = refl
+nothing_is Words e = cc
+nothing_is Nodes e = cc
+
+pub nothing_seen : (seen : Seen) → sameb seen-declared.the_type seen Nothing ≡ true → word_seen seen ≡ Words
+nothing_seen seen e = ap word_seen (nothing_is seen e)
+
+pub something_seen : (seen : Seen) → sameb seen-declared.the_type seen Nothing ≡ false → word_seen seen ≡ seen
+something_seen Nothing e = cc
+something_seen Words e = refl
+something_seen Nodes e = refl
+
+pub words_test : (seen : Seen) → sameb seen-declared.the_type seen Words ≡ is_words seen
+words_test Nothing = refl
+words_test Words = refl
+words_test Nodes = refl
+
 module _ (classes text : List ℕ) where
-  pub no_symbols : (coming : Next) (at : ℕ) → coming ≡ next_of (scan_by classes text at) → NoneComes coming → symbols_from classes text at ≡ []
+  pub no_symbols : (coming : Next) (at : ℕ) → coming ≡ next_of (scan_by classes text at) → NotFound coming → symbols_from classes text at ≡ []
   no_symbols coming at e h = none_of (scan_by classes text at) (rw e at h)
 
   pub next_symbol : {at : ℕ} {class : Class} {start end : ℕ} → SymbolAt classes text at class start end
@@ -47,7 +73,7 @@ module _ (classes text : List ℕ) where
   -- ---- what an Include holds
 
   module _ (at p : ℕ) (i : held_by (symbols_from classes text at) ≡ held_by (symbols_from classes text p)) where
-    pub held_none : (coming : Next) → coming ≡ next_of (scan_by classes text p) → NoneComes coming → held_by (symbols_from classes text at) ≡ neither
+    pub held_none : (coming : Next) → coming ≡ next_of (scan_by classes text p) → NotFound coming → held_by (symbols_from classes text at) ≡ neither
     held_none coming e h = i ∙ ap held_by (no_symbols coming p e h)
 
     module _ {class : Class} {start end : ℕ} (x : SymbolAt classes text p class start end) where
@@ -75,7 +101,7 @@ module _ (classes text : List ℕ) where
   pub skip_first : (at : ℕ) → Skipping at at false
   skip_first at = record { same = refl; from = omega arith }
 
-  pub skip_none : (at p : ℕ) (inner : Bool) → Skipping at p inner → (coming : Next) → coming ≡ next_of (scan_by classes text p) → NoneComes coming
+  pub skip_none : (at p : ℕ) (inner : Bool) → Skipping at p inner → (coming : Next) → coming ≡ next_of (scan_by classes text p) → NotFound coming
       → (symbols_from classes text p ≡ skip_to false (symbols_from classes text at)) × (at ≤ p)
   skip_none at p inner i coming e h = let f = no_symbols coming p e h in (f ∙ sym (i.same ∙ ap (skip_to inner) f), i.from)
 
@@ -119,30 +145,21 @@ module _ (classes text : List ℕ) where
 
   -- ---- mailboxes only
 
-  module _ (at p : ℕ) (words nodes : Bool) (i : only false false (symbols_from classes text at) ≡ only words nodes (symbols_from classes text p)) where
-    pub only_none : (coming : Next) → coming ≡ next_of (scan_by classes text p) → NoneComes coming → false ≡ only false false (symbols_from classes text at)
-    only_none coming e h = sym (i ∙ ap (only words nodes) (no_symbols coming p e h))
+  module _ (at p : ℕ) (seen : Seen) (i : only Nothing (symbols_from classes text at) ≡ only seen (symbols_from classes text p)) where
+    pub only_none : {coming : Next} → coming ≡ next_of (scan_by classes text p) → NotFound coming → false ≡ only Nothing (symbols_from classes text at)
+    only_none e h = sym (i ∙ ap (only seen) (no_symbols _ p e h))
 
     module _ {class : Class} {start end : ℕ} (x : SymbolAt classes text p class start end) where
-      pub only_as : (c : Class) → class ≡ c → only false false (symbols_from classes text at) ≡ only_from c words nodes (λ words' nodes'. only words' nodes' (symbols_from classes text end))
-      only_as c e = i ∙ ap (only words nodes) (next_symbol x) ∙ ap (λ z. only_from z words nodes (λ words' nodes'. only words' nodes' (symbols_from classes text end))) e
+      pub only_as : (c : Class) → class ≡ c → only Nothing (symbols_from classes text at) ≡ only_from c seen (λ seen'. only seen' (symbols_from classes text end))
+      only_as c e = i ∙ ap (only seen) (next_symbol x) ∙ ap (λ z. only_from z seen (λ seen'. only seen' (symbols_from classes text end))) e
 
-      pub only_word : OneOf (0 ∷ 1 ∷ []) (tag class) → only false false (symbols_from classes text at) ≡ only (not nodes) nodes (symbols_from classes text end)
-      only_word o = only_as class refl ∙ rw (by_class (0 ∷ 1 ∷ []) is_word tt class o)
+      pub only_word : OneOf (0 ∷ 1 ∷ []) (tag class) → {seen' : Seen} → word_seen seen ≡ seen' → only Nothing (symbols_from classes text at) ≡ only seen' (symbols_from classes text end)
+      only_word o e = only_as class refl ∙ rw (by_class (0 ∷ 1 ∷ []) is_word tt class o, e)
 
-      only_comma : (z : Bool) → class ≡ Comma → words ≡ z → only false false (symbols_from classes text at) ≡ both (not z) (only false false (symbols_from classes text end))
-      only_comma z e f = only_as Comma e ∙ ap (λ w. both (not w) (only false false (symbols_from classes text end))) f
+      pub only_comma : (z : Bool) → class ≡ Comma → z ≡ is_words seen → only Nothing (symbols_from classes text at) ≡ both (not z) (only Nothing (symbols_from classes text end))
+      only_comma z e f = only_as Comma e ∙ ap (λ w. both (not w) (only Nothing (symbols_from classes text end))) (sym f)
 
-      pub only_lone : class ≡ Comma → words ≡ true → false ≡ only false false (symbols_from classes text at)
-      only_lone e f = sym (only_comma true e f)
-
-      pub only_next : class ≡ Comma → words ≡ false → only false false (symbols_from classes text at) ≡ only words false (symbols_from classes text end)
-      only_next e f = only_comma false e f ∙ ap (λ w. only w false (symbols_from classes text end)) (sym f)
-
-      pub only_closed : class ≡ GreaterThan → not words ≡ only false false (symbols_from classes text at)
-      only_closed e = sym (only_as GreaterThan e)
-
-      pub only_other : OneOf (3 ∷ 6 ∷ 7 ∷ 8 ∷ 9 ∷ 10 ∷ []) (tag class) → false ≡ only false false (symbols_from classes text at)
+      pub only_other : OneOf (3 ∷ 6 ∷ 7 ∷ 8 ∷ 9 ∷ 10 ∷ []) (tag class) → false ≡ only Nothing (symbols_from classes text at)
       only_other o =
           sym
           (only_as class refl
@@ -155,28 +172,20 @@ module _ (classes text : List ℕ) where
 
 -- ---- the first that is stored
 
-pub stored_is : (o : Option ℕ) (i : ℕ) → as_record o ≡ Stored i → o ≡ some i
-stored_is none i e = absurd (let z : ◌≡◌ {A = ℕ} 0 1 = cc in omega arith)
-stored_is (some j) i e = let f : j ≡ i = cc in ap some f
-
-pub nowhere_is : (o : Option ℕ) → as_record o ≡ Nowhere → o ≡ none
-nowhere_is none e = refl
-nowhere_is (some j) e = absurd (let z : ◌≡◌ {A = ℕ} 0 1 = cc in omega arith)
-
 module _ (classes text store : List ℕ) (at p : ℕ) (starts : Bool) (i : first_of store true (symbols_from classes text at) ≡ first_of store starts (symbols_from classes text p)) where
-  pub first_none : (coming : Next) → coming ≡ next_of (scan_by classes text p) → NoneComes coming → Nowhere ≡ as_record (first_of store true (symbols_from classes text at))
-  first_none coming e h = ap as_record (sym (i ∙ ap (first_of store starts) (no_symbols classes text coming p e h)))
+  pub first_none : (coming : Next) → coming ≡ next_of (scan_by classes text p) → NotFound coming → None ≡ first_of store true (symbols_from classes text at)
+  first_none coming e h = sym (i ∙ ap (first_of store starts) (no_symbols classes text coming p e h))
 
   module _ {class : Class} {start end : ℕ} (x : SymbolAt classes text p class start end) where
     -- what is found, by the class of the symbol
     abbrev from : Class → List Sym → Option ℕ
-    from c ys = pick (same_class GreaterThan c) none (pick (same_class Comma c) (first_of store true (symbols_from classes text end)) (or_else (pick starts (named_by store ys) none) (first_of store false (symbols_from classes text end))))
+    from c ys = pick (same_class GreaterThan c) None (pick (same_class Comma c) (first_of store true (symbols_from classes text end)) (or_else (pick starts (named_by store ys) None) (first_of store false (symbols_from classes text end))))
 
     first_as : (c : Class) → class ≡ c → first_of store true (symbols_from classes text at) ≡ from c (symbols_from classes text p)
     first_as c e = let n = next_symbol classes text x in i ∙ ap (first_of store starts) n ∙ ap (from class) (sym n) ∙ ap (λ z. from z (symbols_from classes text p)) e
 
-    pub first_closed : class ≡ GreaterThan → Nowhere ≡ as_record (first_of store true (symbols_from classes text at))
-    first_closed e = ap as_record (sym (first_as GreaterThan e))
+    pub first_closed : class ≡ GreaterThan → None ≡ first_of store true (symbols_from classes text at)
+    first_closed e = sym (first_as GreaterThan e)
 
     pub first_parts : class ≡ Comma → first_of store true (symbols_from classes text at) ≡ first_of store true (symbols_from classes text end)
     first_parts e = first_as Comma e
@@ -186,49 +195,49 @@ module _ (classes text store : List ℕ) (at p : ℕ) (starts : Bool) (i : first
       within =
           first_as class refl ∙ rw (by_class_not (0 ∷ 1 ∷ 2 ∷ 3 ∷ 6 ∷ 7 ∷ 8 ∷ 9 ∷ 10 ∷ []) (same_class GreaterThan) tt class o, by_class_not (0 ∷ 1 ∷ 2 ∷ 3 ∷ 6 ∷ 7 ∷ 8 ∷ 9 ∷ 10 ∷ []) (same_class Comma) tt class o)
 
-      pub first_found : (q : Record) (j : ℕ) → q ≡ as_record (named_if classes text p store starts) → q ≡ Stored j → Stored j ≡ as_record (first_of store true (symbols_from classes text at))
-      first_found q j g h = ap as_record (sym (within ∙ ap (λ z. or_else z (first_of store false (symbols_from classes text end))) (stored_is (named_if classes text p store starts) j (sym g ∙ h))))
+      pub first_found : {q : Option ℕ} {j : ℕ} → q ≡ named_if classes text p store starts → q ≡ Some j → Some j ≡ first_of store true (symbols_from classes text at)
+      first_found g h = sym (within ∙ ap (λ z. or_else z (first_of store false (symbols_from classes text end))) (sym g ∙ h))
 
-      pub first_later : (q : Record) → q ≡ as_record (named_if classes text p store starts) → q ≡ Nowhere → first_of store true (symbols_from classes text at) ≡ first_of store false (symbols_from classes text end)
-      first_later q g h = within ∙ ap (λ z. or_else z (first_of store false (symbols_from classes text end))) (nowhere_is (named_if classes text p store starts) (sym g ∙ h))
+      pub first_later : {q : Option ℕ} → q ≡ named_if classes text p store starts → q ≡ None → first_of store true (symbols_from classes text at) ≡ first_of store false (symbols_from classes text end)
+      first_later g h = within ∙ ap (λ z. or_else z (first_of store false (symbols_from classes text end))) (sym g ∙ h)
 
 -- ---- what an Include leads to
 
-module _ (classes text store : List ℕ) (at : ℕ) (r : Held) (e : held_by (symbols_from classes text at) ≡ as_held classes text r) where
-  held_is : (h : Held) → r ≡ h → sought store (symbols_from classes text at) ≡ sought_by store (as_held classes text h) (symbols_from classes text at)
+module _ (classes text store : List ℕ) (at : ℕ) (r : Option Held) (e : held_by (symbols_from classes text at) ≡ as_held classes text r) where
+  held_is : (h : Option Held) → r ≡ h → sought store (symbols_from classes text at) ≡ sought_by store (as_held classes text h) (symbols_from classes text at)
   held_is h f = ap (λ z. sought_by store z (symbols_from classes text at)) (e ∙ ap (as_held classes text) f)
 
-  pub sought_none : r ≡ Neither → Nowhere ≡ as_record (sought store (symbols_from classes text at))
-  sought_none f = ap as_record (sym (held_is Neither f))
+  pub sought_none : r ≡ None → None ≡ sought store (symbols_from classes text at)
+  sought_none f = sym (held_is None f)
 
-  pub sought_single : (q : Record) → r ≡ Single → q ≡ as_record (named_by store (symbols_from classes text at)) → q ≡ as_record (sought store (symbols_from classes text at))
-  sought_single q f g = g ∙ ap as_record (sym (held_is Single f))
+  pub sought_single : {h : Held} {q : Option ℕ} → r ≡ Some h → h ≡ Single → q ≡ named_by store (symbols_from classes text at) → q ≡ sought store (symbols_from classes text at)
+  sought_single f s g = g ∙ sym (held_is (Some Single) (f ∙ ap Some s))
 
-  module _ (behind : ℕ) (f : r ≡ Angled behind) (z : Bool) (g : z ≡ only false false (symbols_from classes text behind)) where
-    angled_is : (b : Bool) → z ≡ b → sought store (symbols_from classes text at) ≡ pick b (first_of store true (symbols_from classes text behind)) none
-    angled_is b h = held_is (Angled behind) f ∙ ap (λ y. pick y (first_of store true (symbols_from classes text behind)) none) (sym g ∙ h)
+  module _ {h : Held} {behind : ℕ} (f : r ≡ Some h) (s : h ≡ Angled behind) {z : Bool} (g : z ≡ only Nothing (symbols_from classes text behind)) where
+    angled_is : (b : Bool) → z ≡ b → sought store (symbols_from classes text at) ≡ pick b (first_of store true (symbols_from classes text behind)) None
+    angled_is b h = held_is (Some (Angled behind)) (f ∙ ap Some s) ∙ ap (λ y. pick y (first_of store true (symbols_from classes text behind)) None) (sym g ∙ h)
 
-    pub sought_angled : (q : Record) → z ≡ true → q ≡ as_record (first_of store true (symbols_from classes text behind)) → q ≡ as_record (sought store (symbols_from classes text at))
-    sought_angled q h k = k ∙ ap as_record (sym (angled_is true h))
+    pub sought_angled : {q : Option ℕ} → z ≡ true → q ≡ first_of store true (symbols_from classes text behind) → q ≡ sought store (symbols_from classes text at)
+    sought_angled h k = k ∙ sym (angled_is true h)
 
-    pub sought_other : z ≡ false → Nowhere ≡ as_record (sought store (symbols_from classes text at))
-    sought_other h = ap as_record (sym (angled_is false h))
+    pub sought_other : z ≡ false → None ≡ sought store (symbols_from classes text at)
+    sought_other h = sym (angled_is false h)
 
 -- ---- .. is a record of the store
 
 first_in : (store : List ℕ) (starts : Bool) (xs : List Sym) → InStore store (first_of store starts xs)
 first_in store starts [] = tt
 first_in store starts (x ∷ xs) =
-    let here : Option ℕ = pick starts (named_by store (x ∷ xs)) none in
+    let here : Option ℕ = pick starts (named_by store (x ∷ xs)) None in
     let rest : Option ℕ = or_else here (first_of store false xs) in
-    pick_in store (same_class GreaterThan x.class) none (pick (same_class Comma x.class) (first_of store true xs) rest) tt
+    pick_in store (same_class GreaterThan x.class) None (pick (same_class Comma x.class) (first_of store true xs) rest) tt
     (pick_in store (same_class Comma x.class) (first_of store true xs) rest (first_in store true xs)
-    (else_in store here (first_of store false xs) (pick_in store starts (named_by store (x ∷ xs)) none (lowest_in store _) tt) (first_in store false xs)))
+    (else_in store here (first_of store false xs) (pick_in store starts (named_by store (x ∷ xs)) None (lowest_in store _) tt) (first_in store false xs)))
 
 sought_by_lem : (store : List ℕ) (h : seek.Held) (xs : List Sym) → InStore store (sought_by store h xs)
 sought_by_lem store single xs = lowest_in store _
 sought_by_lem store neither xs = tt
-sought_by_lem store (angled ys) xs = pick_in store (only false false ys) (first_of store true ys) none (first_in store true ys) tt
+sought_by_lem store (angled ys) xs = pick_in store (only Nothing ys) (first_of store true ys) None (first_in store true ys) tt
 
 pub sought_in : (store : List ℕ) (xs : List Sym) → InStore store (sought store xs)
 sought_in store xs = sought_by_lem store (held_by xs) xs

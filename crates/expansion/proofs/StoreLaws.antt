@@ -13,7 +13,7 @@ use Rattle.octets.specs.Believed.Text.{part}
 use Rattle.octets.specs.Believed.Numbers.{store_record_size, store_name_size}
 use Rattle.octets.specs.Believed.Stored.{room_for}
 use Rattle.octets.specs.Believed.Choice.{pick}
-use mathlib.Core.Option.{Option, none, some}
+use Rattle.std.specs.Prelude.{Option, None, Some, MatchOption, EachIndex, ◌≢◌}
 use Rattle.octets.specs.Believed.Letters.{same_bytes}
 use Rattle.expansion.specs.Believed.Store.{before_trimmed, without_zeros, name_in, first_named, lowest, or_else}
 
@@ -21,51 +21,42 @@ before_more : (b : ℕ) (bs : List ℕ) → (0 < length bs) → before_trimmed b
 before_more b [] h = absurd (omega (arith, h))
 before_more b (c ∷ cs) h = refl
 
--- a zero at the end does not count
-pub zero_last : (xs : List ℕ) (n : ℕ) → n < length xs → get_or xs n 0 ≡ 0 → without_zeros (take (suc n) xs) ≡ without_zeros (take n xs)
-zero_last [] n h e = absurd (omega (arith, h))
-zero_last (x ∷ xs) zero h e = rw (eq-eqb x 0 e)
-zero_last (x ∷ xs) (suc n) h e = ap (before_trimmed x) (zero_last xs n (omega (arith, h)) e)
+-- by the last byte that does count, if there is one
+abbrev pub past : Option ℕ → ℕ
+past None = 0
+past (Some i) = i + 1
 
--- another byte does
-pub other_last : (xs : List ℕ) (n : ℕ) → n < length xs → (get_or xs n 0 ≡ 0 → ⊥) → without_zeros (take (suc n) xs) ≡ take (suc n) xs
-other_last [] n h e = absurd (omega (arith, h))
-other_last (x ∷ xs) zero h e = rw (ne_eqb x 0 e)
-other_last (x ∷ xs) (suc n) h e =
-    ap (before_trimmed x) (other_last xs n (omega (arith, h)) e) ∙ before_more x (take (suc n) xs) (omega (arith, length-take-le (suc n) xs (omega (arith, h))))
+no_others : (xs : List ℕ) → ((k : ℕ) → k < length xs → get_or xs k 0 ≡ 0) → without_zeros xs ≡ []
+no_others [] z = refl
+no_others (x ∷ xs) z = ap (before_trimmed x) (no_others xs (λ k h. z (suc k) (omega (arith, h)))) ∙ rw (eq-eqb x 0 (z 0 (omega arith)))
 
--- by the number of bytes
-pub drops_zero : (xs : List ℕ) (n : ℕ) → 0 < n → n ≤ length xs → get_or xs (n - 1) 0 ≡ 0 → without_zeros (take n xs) ≡ without_zeros (take (n - 1) xs)
-drops_zero xs zero h i e = absurd (omega (arith, h))
-drops_zero xs (suc n) h i e = let q : suc n - 1 ≡ n = omega arith in rw q (zero_last xs n (omega (arith, i)) (rw q at e))
+ends_at : (xs : List ℕ) (n : ℕ) → n < length xs → (get_or xs n 0 ≡ 0 → ⊥) → ((k : ℕ) → n < k → k < length xs → get_or xs k 0 ≡ 0) → take (suc n) xs ≡ without_zeros xs
+ends_at [] n h e z = absurd (omega (arith, h))
+ends_at (x ∷ xs) zero h e z = sym (ap (before_trimmed x) (no_others xs (λ k g. z (suc k) (omega arith) (omega (arith, g)))) ∙ rw (ne_eqb x 0 e))
+ends_at (x ∷ xs) (suc n) h e z =
+    let f : take (suc n) xs ≡ without_zeros xs = ends_at xs n (omega (arith, h)) e (λ k g l. z (suc k) (omega (arith, g)) (omega (arith, l))) in
+    sym (ap (before_trimmed x) (sym f) ∙ before_more x (take (suc n) xs) (omega (arith, length-take-le (suc n) xs (omega (arith, h)))))
 
-pub keeps_other : (xs : List ℕ) (n : ℕ) → 0 < n → n ≤ length xs → (get_or xs (n - 1) 0 ≡ 0 → ⊥) → without_zeros (take n xs) ≡ take n xs
-keeps_other xs zero h i e = absurd (omega (arith, h))
-keeps_other xs (suc n) h i e = let q : suc n - 1 ≡ n = omega arith in other_last xs n (omega (arith, i)) (rw q at e)
-
-pub nothing_left : (xs : List ℕ) (n : ℕ) → n ≤ 0 → without_zeros xs ≡ without_zeros (take n xs) → take n xs ≡ without_zeros xs
-nothing_left xs n h e = let z : n ≡ 0 = omega (arith, h) in let f : without_zeros (take n xs) ≡ take n xs = rw z refl in sym (e ∙ f)
+pub trimmed_past : (xs : List ℕ) (o : Option ℕ)
+    → MatchOption o (EachIndex xs (λ k. get_or xs k 0 ≡ 0)) (λ i. (i < length xs) × (get_or xs i 0 ≢ 0) × ((k : ℕ) → i < k → k < length xs → get_or xs k 0 ≡ 0))
+    → (take (past o) xs ≡ without_zeros xs) × (past o ≤ length xs)
+trimmed_past xs None z = (sym (no_others xs z), omega arith)
+trimmed_past xs (Some i) (h, e, z) = let q : i + 1 ≡ suc i = omega arith in (rw q (ends_at xs i h e z), omega (arith, h))
 
 -- ---- the lowest record with a name
 
 module _ (store name : List ℕ) (many i : ℕ) where
-  next_record : i < many → first_named (many - i) store name i ≡ pick (same_bytes (name_in store i) name) (some i) (first_named (many - (i + 1)) store name (i + 1))
+  next_record : i < many → first_named (many - i) store name i ≡ pick (same_bytes (name_in store i) name) (Some i) (first_named (many - (i + 1)) store name (i + 1))
   next_record h =
       let e : many - i ≡ suc (many - (i + 1)) = omega (arith, h) in
       let f : suc i ≡ i + 1 = omega arith in
-      ap (λ n. first_named n store name i) e ∙ ap (λ j. pick (same_bytes (name_in store i) name) (some i) (first_named (many - (i + 1)) store name j)) f
+      ap (λ n. first_named n store name i) e ∙ ap (λ j. pick (same_bytes (name_in store i) name) (Some i) (first_named (many - (i + 1)) store name j)) f
 
-  pub named_here : i < many → same_bytes (name_in store i) name ≡ true → first_named (many - i) store name i ≡ some i
-  named_here h e = next_record h ∙ ap (λ z. pick z (some i) (first_named (many - (i + 1)) store name (i + 1))) e
+  pub named_here : i < many → same_bytes (name_in store i) name ≡ true → first_named (many - i) store name i ≡ Some i
+  named_here h e = next_record h ∙ ap (λ z. pick z (Some i) (first_named (many - (i + 1)) store name (i + 1))) e
 
   pub named_later : i < many → same_bytes (name_in store i) name ≡ false → first_named (many - i) store name i ≡ first_named (many - (i + 1)) store name (i + 1)
-  named_later h e = next_record h ∙ ap (λ z. pick z (some i) (first_named (many - (i + 1)) store name (i + 1))) e
-
-  pub none_named : many ≤ i → first_named (many - i) store name i ≡ none
-  none_named h = let e : many - i ≡ 0 = omega (arith, h) in ap (λ n. first_named n store name i) e
-
-pub from_first : (store name : List ℕ) (many : ℕ) → first_named many store name 0 ≡ first_named (many - 0) store name 0
-from_first store name many = let e : many ≡ many - 0 = omega arith in ap (λ n. first_named n store name 0) e
+  named_later h e = next_record h ∙ ap (λ z. pick z (Some i) (first_named (many - (i + 1)) store name (i + 1))) e
 
 -- ---- a text that is no name
 
@@ -88,12 +79,12 @@ name_short store i =
 pub no_name : (store name : List ℕ) (i : ℕ) → store_name_size < length name → same_bytes (name_in store i) name ≡ false
 no_name store name i h = lengths_differ (λ b. b) (name_in store i) name (λ e. omega (arith, e, name_short store i, h))
 
-never_named : (many : ℕ) (store text : List ℕ) (i : ℕ) → store_name_size < length text → first_named many store text i ≡ none
+never_named : (many : ℕ) (store text : List ℕ) (i : ℕ) → store_name_size < length text → first_named many store text i ≡ None
 never_named zero store text i h = refl
 never_named (suc many) store text i h =
-    ap (λ z. pick z (some i) (first_named many store text (suc i))) (no_name store text i h) ∙ never_named many store text (suc i) h
+    ap (λ z. pick z (Some i) (first_named many store text (suc i))) (no_name store text i h) ∙ never_named many store text (suc i) h
 
-pub too_long : (store text : List ℕ) (n : ℕ) → n ≡ length text → store_name_size < n → lowest store text ≡ none
+pub too_long : (store text : List ℕ) (n : ℕ) → n ≡ length text → store_name_size < n → lowest store text ≡ None
 too_long store text n e h = never_named (room_for store_record_size store) store text 0 (omega (arith, e, h))
 
 -- a text in a buffer of its own
@@ -145,8 +136,8 @@ module _ (whole name : List ℕ) where
 -- ---- what is found is a record of the store
 
 abbrev pub InStore : List ℕ → Option ℕ → Type 0
-InStore store none = Unit {0}
-InStore store (some i) = i * store_record_size + store_record_size ≤ length store
+InStore store None = Unit {0}
+InStore store (Some i) = i * store_record_size + store_record_size ≤ length store
 
 pub pick_in : (store : List ℕ) (z : Bool) (a b : Option ℕ) → InStore store a → InStore store b → InStore store (pick z a b)
 pick_in store true a b g h = g
@@ -155,11 +146,11 @@ pick_in store false a b g h = h
 named_in : (many : ℕ) (store name : List ℕ) (i : ℕ) → (i + many) * store_record_size ≤ length store → InStore store (first_named many store name i)
 named_in zero store name i h = tt
 named_in (suc many) store name i h =
-    pick_in store (same_bytes (name_in store i) name) (some i) (first_named many store name (suc i)) (omega (arith, h)) (named_in many store name (suc i) (omega (arith, h)))
+    pick_in store (same_bytes (name_in store i) name) (Some i) (first_named many store name (suc i)) (omega (arith, h)) (named_in many store name (suc i) (omega (arith, h)))
 
 pub lowest_in : (store name : List ℕ) → InStore store (lowest store name)
 lowest_in store name = named_in (room_for store_record_size store) store name 0 (omega arith)
 
 pub else_in : (store : List ℕ) (a b : Option ℕ) → InStore store a → InStore store b → InStore store (or_else a b)
-else_in store none b g h = h
-else_in store (some i) b g h = g
+else_in store None b g h = h
+else_in store (Some i) b g h = g

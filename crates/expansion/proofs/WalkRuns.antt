@@ -4,37 +4,34 @@ use native.Mathlib.Omega.{arith}
 use mathlib.Core.Path.{◌≡◌, refl, sym, ap, ◌∙◌}
 use mathlib.Core.Bool.{Bool, true, false}
 use mathlib.Core.List.{List, [], ◌∷◌}
-use mathlib.Core.Option.{Option, none, some}
+use Rattle.std.specs.Prelude.{Option, None, Some, Result, Ok, Err}
 use lib.ListN.{length}
 use Rattle.octets.specs.Believed.Choice.{pick}
 use Rattle.octets.specs.Believed.Classes.{class_table}
-use Rattle.octets.specs.Believed.Numbers.{message_limit, level_limit, opening_limit, store_record_size, leads_nowhere}
+use Rattle.octets.specs.Believed.Numbers.{message_limit, opening_limit, store_record_size, leads_nowhere}
 use Rattle.octets.proofs.Writes.{wrote_both}
 use Rattle.scanner.specs.Believed.Scanning.{scan, scan_by, symbols_of}
 use Rattle.scanner.specs.Believed.Answers.{found_at, next_of}
 use Rattle.scanner.specs.declared.Class.{Class}
 use Rattle.scanner.specs.declared.Next.{Next}
-use Rattle.scanner.specs.declared.Next.TheVariants.{Found, Ended, Fault}
+use Rattle.scanner.specs.declared.Next.TheVariants.{Found, Ended, Fault as fault_next}
 use Rattle.scanner.specs.Ties.Meanings.{meaning_at}
 use Rattle.scanner.proofs.Unfolding.{SymbolAt, found}
 use Rattle.grammar.proofs.Rfc733.Readers.{ends_address}
 use Rattle.plain.specs.Ties.Walking.{symbol_text, after, after_comma, colon_next}
 use Rattle.plain.specs.Ties.Writing.{is_colon}
 use Rattle.plain.specs.declared.places.Place.{Place}
-use Rattle.plain.proofs.WalkSteps.{colon_of, NoneComes, behind, behind_falls}
+use Rattle.plain.proofs.WalkSteps.{colon_of, behind, behind_falls}
 use Rattle.expansion.specs.Believed.Store.{list_in}
 use Rattle.expansion.specs.Ties.Walk.{Sym, Trail, halted, before, include_here, after_one, in_typed, levels_after, inner_after, WalkOpening, writing, skipping, sought, include_trail, walk, walk_within}
 use Rattle.addresses.specs.Ties.Steps.{symbols_from}
-use Rattle.expansion.specs.Ties.Steps.{LevelsAre, LevelsAfter, skip_to, IncludeBegins, OpenedIs, place_of, levels_around, joined_stage, WriteOnIs, Continuation, walk_symbols, RecordOpens, VerdictIs, Onward, symbol_share, text_share, Goes, Halts, RecordWalked, TextWalked}
-use Rattle.expansion.specs.declared.Around.{Around}
-use Rattle.expansion.specs.declared.Around.TheVariants.{Inside}
-use Rattle.expansion.specs.declared.Levels.{Levels}
-use Rattle.expansion.specs.declared.Verdict.TheVariants.{Faulty}
-use Rattle.expansion.specs.declared.Record.TheVariants.{Stored, Nowhere}
+use Rattle.expansion.specs.Ties.Steps.{LevelsAre, LevelsAfter, skip_to, IncludeBegins, OpenedIs, place_of, levels_around, spot, joined_stage, WriteOnIs, Continuation, walk_symbols, RecordOpens, VerdictIs, Onward, symbol_share, text_share, Goes, Halts, RecordWalked, TextWalked}
+use Rattle.expansion.specs.declared.Spot.{Spot}
+use Rattle.expansion.specs.declared.levels.Levels.{Levels}
+use Rattle.octets.specs.declared.answers.Fault.{Fault}
 use Rattle.expansion.specs.declared.Stage.{Stage}
-use Rattle.expansion.specs.declared.Walked.{Walked}
-use Rattle.expansion.specs.declared.Walked.TheVariants.{Went, Stopped}
-use Rattle.expansion.proofs.SeekSteps.{no_symbols, next_symbol, stored_is, nowhere_is, sought_in}
+use Rattle.expansion.specs.declared.Stopped.{Stopped}
+use Rattle.expansion.proofs.SeekSteps.{NotFound, no_symbols, next_symbol, sought_in}
 use Rattle.expansion.proofs.Seeking.{Ending, at_greater, at_comma, at_semicolon, ending}
 use Rattle.expansion.proofs.StoreLaws.{InStore}
 use Rattle.expansion.proofs.WalkThrough.{twice, unmoved}
@@ -57,7 +54,7 @@ no_include place xs at_comma = refl
 no_include place xs at_semicolon = refl
 
 outside : (inner e : Bool) → pick inner false e ≡ true → e ≡ true
-outside true e h = absurd (let o : ◌≡◌ {A = ℕ} 0 1 = cc in omega arith)
+outside true e h = cc
 outside false e h = h
 
 module _ (store : List ℕ) (opening : WalkOpening) (place_of : ℕ → ℕ) (base : ℕ) where
@@ -82,7 +79,7 @@ module _ (store : List ℕ) (opening : WalkOpening) (place_of : ℕ → ℕ) (ba
 -- ---- a record
 
 module _ (store : List ℕ) (i position depth : ℕ) (stage : Stage) (out : List ℕ) where
-  pub record_faulty : {n p : ℕ} → VerdictIs store i position depth stage.openings (Faulty n p) → RecordWalked store i position depth stage out out (Stopped n p stage.openings)
+  pub record_faulty : {f : Fault} → VerdictIs store i position depth stage.openings (Err f) → RecordWalked store i position depth stage out out (Err (record { fault = f; openings = stage.openings }))
   record_faulty f deep following h = f deep (after_comma stage.place) following h
 
   module _ (classes : List ℕ) (same : classes ≡ class_table) (o : RecordOpens store i position depth stage.openings) where
@@ -90,22 +87,22 @@ module _ (store : List ℕ) (i position depth : ℕ) (stage : Stage) (out : List
     symbols_are = ap (λ c. symbols_from c (list_in store i) 0) same
 
     steps : (deep : ℕ) (k : Continuation)
-        → walk_within store (suc deep) i position depth (after_comma stage.place) stage.openings k ≡ walk_symbols store deep (Inside position depth) (after_comma stage.place) [] (symbols_from classes (list_in store i) 0) (stage.openings + 1) k
-    steps deep k = o.walks deep (after_comma stage.place) k ∙ ap (λ xs. walk_symbols store deep (Inside position depth) (after_comma stage.place) [] xs (stage.openings + 1) k) (sym symbols_are)
+        → walk_within store (suc deep) i position depth (after_comma stage.place) stage.openings k ≡ walk_symbols store deep (Some (spot position depth)) (after_comma stage.place) [] (symbols_from classes (list_in store i) 0) (stage.openings + 1) k
+    steps deep k = o.walks deep (after_comma stage.place) k ∙ ap (λ xs. walk_symbols store deep (Some (spot position depth)) (after_comma stage.place) [] xs (stage.openings + 1) k) (sym symbols_are)
 
-    went : {out' : List ℕ} {r : Stage} (g : Goes (λ deep k. walk_symbols store deep (Inside position depth) (after_comma stage.place) [] (symbols_from classes (list_in store i) 0) (stage.openings + 1) k) 1 (joined_stage stage (stage.openings + 1)) out out' r) (deep : ℕ) → opening_limit ≤ deep + stage.openings
+    went : {out' : List ℕ} {r : Stage} (g : Goes (λ deep k. walk_symbols store deep (Some (spot position depth)) (after_comma stage.place) [] (symbols_from classes (list_in store i) 0) (stage.openings + 1) k) 1 (joined_stage stage (stage.openings + 1)) out out' r) (deep : ℕ) → opening_limit ≤ deep + stage.openings
         → Onward (λ k. walk_within store deep i position depth (after_comma stage.place) stage.openings k) (λ k. k r.place r.openings) out stage.written out' r.written
     went g zero h = absurd (omega (arith, h, o.few))
     went g (suc deep) h = let y = g.onward deep (omega (arith, h)) in record { put = y.put; same = λ k. steps deep k ∙ y.same k; wrote = y.wrote }
 
-    halts : (n p u : ℕ) → Halts (λ deep k. walk_symbols store deep (Inside position depth) (after_comma stage.place) [] (symbols_from classes (list_in store i) 0) (stage.openings + 1) k) (stage.openings + 1) n p u
+    halts : (n p u : ℕ) → Halts (λ deep k. walk_symbols store deep (Some (spot position depth)) (after_comma stage.place) [] (symbols_from classes (list_in store i) 0) (stage.openings + 1) k) (stage.openings + 1) n p u
         → Halts (λ deep k. walk_within store deep i position depth (after_comma stage.place) stage.openings k) stage.openings n p u
     halts n p u f zero k h = absurd (omega (arith, h, o.few))
     halts n p u f (suc deep) k h = steps deep k ∙ f deep k (omega (arith, h))
 
-    pub record_walked : (out' : List ℕ) (r : Walked) → TextWalked classes store (list_in store i) 0 (Inside position depth) (joined_stage stage (stage.openings + 1)) out out' r → RecordWalked store i position depth stage out out' r
-    record_walked out' (Went r) g = record { from = omega (arith, g.from); few = g.few; counted = omega (arith, g.counted); onward = went g }
-    record_walked out' (Stopped n p u) f = halts n p u f
+    pub record_walked : (out' : List ℕ) (r : Result Stage Stopped) → TextWalked classes store (list_in store i) 0 (Some (spot position depth)) (joined_stage stage (stage.openings + 1)) out out' r → RecordWalked store i position depth stage out out' r
+    record_walked out' (Ok r) g = record { from = omega (arith, g.from); few = g.few; counted = omega (arith, g.counted); onward = went g }
+    record_walked out' (Err s) f = halts s.fault.number s.fault.position s.openings f
 
 -- ---- the loop
 
@@ -113,9 +110,9 @@ module _ (store : List ℕ) (i position depth : ℕ) (stage : Stage) (out : List
 behind_low : (l : ℕ) (n : Next) → behind l n ≤ suc l
 behind_low l (Found symbol) = omega arith
 behind_low l Ended = omega arith
-behind_low l (Fault number p) = omega arith
+behind_low l (fault_next number p) = omega arith
 
-module _ (classes store text : List ℕ) (start : ℕ) (around : Around) (stage : Stage) (out₀ : List ℕ) where
+module _ (classes store text : List ℕ) (start : ℕ) (around : Option Spot) (stage : Stage) (out₀ : List ℕ) where
   abbrev trails : ℕ → Continuation → Trail
   trails deep k = walk_symbols store deep around stage.place [] (symbols_from classes text start) stage.openings k
 
@@ -132,13 +129,13 @@ module _ (classes store text : List ℕ) (start : ℕ) (around : Around) (stage 
     pub onward : (deep : ℕ) → opening_limit ≤ deep + stage.openings
         → Onward (trails deep) (λ k. walk_symbols store deep around here.place s (symbols_from classes text at) here.openings k) out₀ stage.written out here.written
 
-  pub walking_first : {coming : Next} (levels : Levels) → length text ≤ message_limit → stage.openings ≤ opening_limit → levels.many ≡ 0 → levels.typed ≡ 0 → coming ≡ next_of (scan_by classes text start) → Walking out₀ stage levels coming
-  walking_first {coming} levels short few m t e =
+  pub walking_first : {coming : Next} (levels : Levels) → length text ≤ message_limit → stage.openings ≤ opening_limit → LevelsAre levels [] → coming ≡ next_of (scan_by classes text start) → Walking out₀ stage levels coming
+  walking_first {coming} levels short few n e =
       record {
         at = start;
         is = e;
         s = [];
-        levels_are = record { many_is = m; typed_is = t; few = omega arith };
+        levels_are = n;
         from = omega arith;
         few = few;
         counted = omega (arith, behind_low (length text) coming, short);
@@ -148,7 +145,7 @@ module _ (classes store text : List ℕ) (start : ℕ) (around : Around) (stage 
 
   module _ {out : List ℕ} {here : Stage} {levels : Levels} {coming : Next} (l : Walking out here levels coming) where
     -- the walk ends
-    pub walking_none : NoneComes coming → Goes trails 1 stage out₀ out (joined_stage here here.openings)
+    pub walking_none : NotFound coming → Goes trails 1 stage out₀ out (joined_stage here here.openings)
     walking_none h =
         record {
           from = l.from;
@@ -160,9 +157,6 @@ module _ (classes store text : List ℕ) (start : ℕ) (around : Around) (stage 
     -- the symbol that comes
     pub comes : {class : Class} {first end size : ℕ} {apart : Bool} → coming ≡ found_at class first end size apart → SymbolAt classes text l.at class first end
     comes e = found classes text l.at (sym e ∙ l.is)
-
-    pub low : levels.many ≤ level_limit
-    low = omega (arith, l.levels_are.many_is, l.levels_are.few)
 
     -- what is written so far has room in a count
     pub room : stage.written ≤ text_share * stage.openings → here.written ≤ text_share * (here.openings + 1)
@@ -220,40 +214,40 @@ module _ (classes store text : List ℕ) (start : ℕ) (around : Around) (stage 
       -- an Include begins
       module _ {behind' position : ℕ} (b : IncludeBegins classes text class here.place end behind') (q : position ≡ place_of around first) where
         abbrev led : List Sym → Option ℕ
-        led xs = pick (in_typed l.s) none (sought store xs)
+        led xs = pick (in_typed l.s) None (sought store xs)
 
         at_include : (deep : ℕ) (k : Continuation) {o : Option ℕ} → led (symbols_from classes text behind') ≡ o
             → walk_symbols store deep around here.place l.s (symbols_from classes text l.at) here.openings k
             ≡ elim o [
-              | none ↦ halted leads_nowhere position here.openings
-              | some i ↦ walk_within store deep i position (levels_around around + length l.s) (after_comma here.place) here.openings
+              | None ↦ halted leads_nowhere position here.openings
+              | Some i ↦ walk_within store deep i position (levels_around around + length l.s) (after_comma here.place) here.openings
                   (λ p u. walk store (λ i p b q u n. walk_within store deep i p b q u n) (place_of around) (levels_around around) (skipping false) p l.s (symbols_from classes text end) u k)
             ]
         at_include deep k {o} g =
             at_symbol deep k true b.is
             ∙ ap
             (λ (z : Option ℕ × ℕ). elim z.0 [
-              | none ↦ halted leads_nowhere z.1 here.openings
-              | some i ↦ walk_within store deep i z.1 (levels_around around + length l.s) (after_comma here.place) here.openings
+              | None ↦ halted leads_nowhere z.1 here.openings
+              | Some i ↦ walk_within store deep i z.1 (levels_around around + length l.s) (after_comma here.place) here.openings
                   (λ p u. walk store (λ i p b q u n. walk_within store deep i p b q u n) (place_of around) (levels_around around) (skipping false) p l.s (symbols_from classes text end) u k)
             ])
             (ap (λ n. (led (after_one (after_one (symbols_from classes text end))), n)) (sym q) ∙ ap (λ n. (n, position)) (ap led (sym b.rest) ∙ g))
 
         -- it leads nowhere
-        pub walking_nowhere : OpenedIs classes text behind' levels store Nowhere → Halts trails stage.openings leads_nowhere position here.openings
+        pub walking_nowhere : OpenedIs classes text behind' levels store None → Halts trails stage.openings leads_nowhere position here.openings
         walking_nowhere o deep k d =
-            let g = nowhere_is (led (symbols_from classes text behind')) (sym (o l.s l.levels_are)) in
+            let g : led (symbols_from classes text behind') ≡ None = sym (o l.s l.levels_are) in
             (l.onward deep d).same k ∙ ap (before (l.onward deep d).put) (at_include deep k g)
 
         -- it leads to a record
-        module _ {i : ℕ} (o : OpenedIs classes text behind' levels store (Stored i)) where
-          leads : led (symbols_from classes text behind') ≡ some i
-          leads = stored_is (led (symbols_from classes text behind')) i (sym (o l.s l.levels_are))
+        module _ {i : ℕ} (o : OpenedIs classes text behind' levels store (Some i)) where
+          leads : led (symbols_from classes text behind') ≡ Some i
+          leads = sym (o l.s l.levels_are)
 
           pub record_inside : i * store_record_size + store_record_size ≤ length store
           record_inside = rw leads at (by (in_typed l.s))
             where
-              by : (z : Bool) → InStore store (pick z none (sought store (symbols_from classes text behind')))
+              by : (z : Bool) → InStore store (pick z None (sought store (symbols_from classes text behind')))
               by true = tt
               by false = sought_in store (symbols_from classes text behind')
 
@@ -270,7 +264,7 @@ module _ (classes store text : List ℕ) (start : ℕ) (around : Around) (stage 
             pub walking_stopped : {n p u : ℕ} → Halts (λ deep k. walk_within store deep i position depth (after_comma here.place) here.openings k) here.openings n p u → Halts trails stage.openings n p u
             walking_stopped f deep k d = (l.onward deep d).same k ∙ ap (before (l.onward deep d).put) (opened deep k ∙ f deep _ (omega (arith, d, l.from)))
 
-            pub walking_opened : {out' : List ℕ} {further : Stage} {r : ℕ} {later : Next} → RecordWalked store i position depth here out out' (Went further) → length out' ≡ length out
+            pub walking_opened : {out' : List ℕ} {further : Stage} {r : ℕ} {later : Next} → RecordWalked store i position depth here out out' (Ok further) → length out' ≡ length out
                 → (symbols_from classes text r ≡ skip_to false (symbols_from classes text end)) × (end ≤ r) → later ≡ next_of (scan_by classes text r) → Walking out' further levels later
             walking_opened {out'} {further} {r} {later} g q' (same, less) v =
                 let falls = behind_falls r (comes e) less e v in

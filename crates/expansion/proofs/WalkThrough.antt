@@ -4,7 +4,8 @@ use native.Mathlib.Omega.{arith}
 use mathlib.Core.Path.{◌≡◌, refl, sym, ap, ap₂, ◌∙◌}
 use mathlib.Core.Bool.{Bool, true, false}
 use mathlib.Core.List.{List, [], ◌∷◌, ◌++◌}
-use mathlib.Core.Option.{Option, none, some}
+use mathlib.Core.Option.{none, some}
+use Rattle.std.specs.Prelude.{Option, None, Some}
 use lib.Dec.{eqb}
 use borrow.Author.Tests.{lt-ltb}
 use lib.ListN.{length}
@@ -193,19 +194,19 @@ module _ (store : List ℕ) (opening : WalkOpening) (place_of : ℕ → ℕ) (ba
           ∙ skip_mailbox a xs (both_parts (only_mailboxes (slot_meaning r)) (is_mailbox (address_meaning a)) e).1
 
     -- what leads to a record
-    picked : (z : Bool) (o : Option ℕ) {i : ℕ} → pick z o none ≡ some i → z ≡ true
+    picked : (z : Bool) (o : Option ℕ) {i : ℕ} → pick z o None ≡ Some i → z ≡ true
     picked true o e = refl
-    picked false o e = absurd (let q : ◌≡◌ {A = ℕ} 0 1 = cc in omega arith)
+    picked false o e = cc
 
-    skip_held : (a : trees.Address) (xs : List Sym) {i : ℕ} → AddressEnds xs → leads_to store (and_address no_address (address_meaning a)) ≡ some i → skip false p s (address_then a xs) u k ≡ W p s xs u k
+    skip_held : (a : trees.Address) (xs : List Sym) {i : ℕ} → AddressEnds xs → leads_to store (and_address no_address (address_meaning a)) ≡ Some i → skip false p s (address_then a xs) u k ≡ W p s xs u k
     skip_held (mailbox n m) xs j e = skip_phrase n false _ ∙ skip_nodes m false xs ∙ joins_skip xs j p s u k
     skip_held (angle none t l c) xs j e = skip_list l (of GreaterThan c ∷ xs) (picked (only_mailboxes (list_meaning l)) _ e) ∙ joins_skip xs j p s u k
     skip_held (angle (some n) t l c) xs j e = skip_phrase n false _ ∙ skip_list l (of GreaterThan c ∷ xs) (picked (only_mailboxes (list_meaning l)) _ e) ∙ joins_skip xs j p s u k
-    skip_held (group o t l c) xs j e = absurd (let q : ◌≡◌ {A = ℕ} 0 1 = cc in omega arith)
-    skip_held (quoted t) xs j e = absurd (let q : ◌≡◌ {A = ℕ} 0 1 = cc in omega arith)
+    skip_held (group o t l c) xs j e = cc
+    skip_held (quoted t) xs j e = cc
     skip_held (typed t a c b) xs {i} j e =
-        let z : none ≡ some i = sym (leads_typed store a.meaning (address_meaning b)) ∙ e in
-        absurd (let q : ◌≡◌ {A = ℕ} 0 1 = cc in omega arith)
+        let z : None ≡ Some i = sym (leads_typed store a.meaning (address_meaning b)) ∙ e in
+        cc
 
   one_level : (s : List Bool) → length s < level_limit → with_list s ≡ false ∷ s
   one_level s h = ap (λ z. pick z (false ∷ s) s) (lt-ltb (length s) level_limit h)
@@ -269,12 +270,12 @@ module _ (store : List ℕ) (opening : WalkOpening) (place_of : ℕ → ℕ) (ba
     abbrev opened_at : ℕ → Place → List Sym → Option ℕ → Trail
     opened_at position place xs o =
         elim o [
-          | none ↦ halted leads_nowhere position u
-          | some i ↦ opening i position (base + length s) (after_comma place) u (λ place' u'. skip false place' s xs u' k)
+          | None ↦ halted leads_nowhere position u
+          | Some i ↦ opening i position (base + length s) (after_comma place) u (λ place' u'. skip false place' s xs u' k)
         ]
 
     walk_include : (place : Place) (t : Lexeme) (xs : List Sym) → Opens place → include_next xs ≡ true
-        → W place s (of Colon t ∷ xs) u k ≡ opened_at (place_of t.start) place xs (pick (in_typed s) none (sought store (after_one (after_one xs))))
+        → W place s (of Colon t ∷ xs) u k ≡ opened_at (place_of t.start) place xs (pick (in_typed s) None (sought store (after_one (after_one xs))))
     walk_include place t xs h e = rw (opens_true place h, e)
 
   -- ---- lists and addresses
@@ -325,7 +326,7 @@ module _ (store : List ℕ) (opening : WalkOpening) (place_of : ℕ → ℕ) (ba
   -- after a list that stands in no typed address
   untyped : (s : List Bool) → in_typed s ≡ false → without_typed s ≡ s
   untyped [] e = refl
-  untyped (true ∷ s) e = absurd (let o : ◌≡◌ {A = ℕ} 0 1 = cc in omega arith)
+  untyped (true ∷ s) e = cc
   untyped (false ∷ s) e = refl
 
   abbrev flag : Bool → trees.Slot → Bool
@@ -360,7 +361,7 @@ module _ (store : List ℕ) (opening : WalkOpening) (place_of : ℕ → ℕ) (ba
         by false = one_enclosed m (address_expansion store o place_of true (d + 1) b no_address u) (λ l. address (kind_number (typed_kind a.meaning)) (and_word no_word (atom a.meaning)) no_word l)
 
     one_of : (m : Addresses) (e : Expansion) {l : Addresses} {v : ℕ} → OneMore m e → e ≡ reached l v → (a : Address) × (l ≡ and_address m a)
-    one_of m (stopped n p u) h q = absurd (let z : ◌≡◌ {A = ℕ} 0 1 = cc in omega arith)
+    one_of m (stopped n p u) h q = cc
     one_of m (reached l' v') {l} {v} (a, h) q = let r : l ≡ l' = cc in (a, r ∙ h)
 
     -- an Include
@@ -370,21 +371,21 @@ module _ (store : List ℕ) (opening : WalkOpening) (place_of : ℕ → ℕ) (ba
         ≡ onward (expand_include store o y (place_of t.start) d (and_address no_address (address_meaning held)) m u) (After b s xs k)
     through_include t a c held y b m e d s xs u k j w q z =
         ap (before (listed b m)) (walk_include s u k (spot b m e) t ys (spot_opens b m e) z)
-        ∙ ap (λ f. before (listed b m) (opened_at s u k (place_of t.start) (spot b m e) ys f)) (ap₂ (λ x f. pick x none f) w (sought_address store held xs j))
-        ∙ by (pick y none (leads_to store (and_address no_address (address_meaning held)))) refl
+        ∙ ap (λ f. before (listed b m) (opened_at s u k (place_of t.start) (spot b m e) ys f)) (ap₂ (λ x f. pick x None f) w (sought_address store held xs j))
+        ∙ by (pick y None (leads_to store (and_address no_address (address_meaning held)))) refl
       where
         ys : List Sym
         ys = of Atom a ∷ of Colon c ∷ address_then held xs
 
-        lead : (x : Bool) (f : Option ℕ) {i : ℕ} → pick x none f ≡ some i → f ≡ some i
-        lead true f r = absurd (let z : ◌≡◌ {A = ℕ} 0 1 = cc in omega arith)
+        lead : (x : Bool) (f : Option ℕ) {i : ℕ} → pick x None f ≡ Some i → f ≡ Some i
+        lead true f r = cc
         lead false f r = r
 
-        by : (f : Option ℕ) → pick y none (leads_to store (and_address no_address (address_meaning held))) ≡ f
+        by : (f : Option ℕ) → pick y None (leads_to store (and_address no_address (address_meaning held))) ≡ f
             → before (listed b m) (opened_at s u k (place_of t.start) (spot b m e) ys f)
-            ≡ onward (elim f [ none ↦ stopped leads_nowhere (place_of t.start) u | some i ↦ o i (place_of t.start) d m u ]) (After b s xs k)
-        by none r = refl
-        by (some i) r =
+            ≡ onward (elim f [ None ↦ stopped leads_nowhere (place_of t.start) u | Some i ↦ o i (place_of t.start) d m u ]) (After b s xs k)
+        by None r = refl
+        by (Some i) r =
             ap₂ (λ n place. before (listed b m) (opening i (place_of t.start) n place u (λ place' u'. skip false place' s ys u' k))) (sym q) (comma_spot b m e)
             ∙ agree i (place_of t.start) d b m u (λ place' u'. skip false place' s ys u' k)
             ∙ onward_same (o i (place_of t.start) d m u)

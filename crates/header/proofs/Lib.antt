@@ -7,5 +7,5 @@ pub mod StepLaws
 pub mod SplitLaws
 pub mod NameLaws
 pub mod RowLaws
+pub mod CandidateLaws
 pub mod NameExamples
-pub mod KnownNameLoop

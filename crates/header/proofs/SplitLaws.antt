@@ -2,7 +2,8 @@
 use mathlib.Core.Path.{◌≡◌, refl, sym, ap, ◌∙◌}
 use mathlib.Core.Bool.{true, false}
 use mathlib.Core.List.{List}
-use Prim.Native.Nat.{ℕ, ◌+◌, ◌*◌, ◌≤◌, ◌<◌}
+use Rattle.std.specs.Prelude.{Result, Ok, Err}
+use Prim.Native.Nat.{ℕ, ◌+◌, ◌*◌, ◌/◌, ◌≤◌, ◌<◌}
 use native.Mathlib.Decide.{dec_lt}
 use native.Mathlib.Numerals.{add-one}
 use native.Mathlib.Omega.{arith}
@@ -10,6 +11,7 @@ use borrow.Author.Tests.{lt-ltb, le-ltb}
 use lib.Dec.{ltb}
 use lib.ListN.{length, take}
 use lib.Seq.{sets, length-sets}
+use Rattle.octets.specs.Believed.Choice.{pick}
 use Rattle.octets.specs.Believed.Numbers.{message_limit, message_too_long}
 use Rattle.octets.specs.Believed.Stored.{room_for}
 use Rattle.octets.specs.Believed.Answers.{Answered}
@@ -21,51 +23,62 @@ use Rattle.records.specs.Believed.FieldRecords.{field_of, field_layout, field_re
 use Rattle.records.proofs.TableLaws.{stored_first, length-table}
 use Rattle.header.specs.Believed.Fields.{Header, field, ended, fault, fields_of, line_start, header_at, header_of}
 use Rattle.header.specs.Believed.Split.{answer_in, answer_for, split_answer, table_after, split_table}
+use Rattle.header.specs.Ties.Steps.{count_in}
+use Rattle.records.specs.declared.field.FieldRecord.{FieldRecord}
+use Rattle.octets.specs.declared.answers.Fault.{Fault}
 use Rattle.header.proofs.StepLaws.{Gave}
 
 -- what is left at a position, after `count` fields
-pub record Left (message : List ℕ) (room : ℕ) (lent table : List ℕ) (at count : ℕ) : Type 0 where
+pub record Left (message lent table : List ℕ) (at count : ℕ) : Type 0 where
   pub within : at ≤ length message
   pub few : count ≤ at
   pub same_length : length table ≡ length lent
-  pub answer : answer_in room 0 (header_of message) ≡ answer_in room count (header_at message at line_start)
+  pub counts : count_in 0 (header_of message) ≡ count_in count (header_at message at line_start)
   pub stored : sets lent 0 (field_table (fields_of (header_of message))) ≡ sets table (count * field_record_size) (field_table (fields_of (header_at message at line_start)))
 
--- the whole header is answered and stored
-abbrev pub Done : List ℕ → ℕ → List ℕ → Answer → List ℕ → Type 0
-Done message room lent r table = (r ≡ answer_in room 0 (header_of message)) × (table ≡ sets lent 0 (field_table (fields_of (header_of message))))
+-- the fields are counted and stored
+pub record Done (message lent : List ℕ) (r : Result ℕ Fault) (table : List ℕ) : Type 0 where
+  pub many : r ≡ count_in 0 (header_of message)
+  pub stored : table ≡ sets lent 0 (field_table (fields_of (header_of message)))
 
-pub at_start : (message : List ℕ) (room : ℕ) (lent : List ℕ) → Left message room lent lent 0 0
-at_start message room lent = record { within = omega arith; few = omega arith; same_length = refl; answer = refl; stored = refl }
+pub at_start : (message lent : List ℕ) → Left message lent lent 0 0
+at_start message lent = record { within = omega arith; few = omega arith; same_length = refl; counts = refl; stored = refl }
 
-module _ {message : List ℕ} {room : ℕ} {lent table : List ℕ} {at count : ℕ} (left : Left message room lent table at count) where
+module _ {message lent table : List ℕ} {at count : ℕ} (left : Left message lent table at count) where
   -- a field is stored
-  pub after_field : {a b c d : ℕ} {next : List ℕ} → Gave message at a b c d (header_at message at line_start)
-      → next ≡ sets table (count * field_record_size) (field_bytes (field_of a b c d)) → Left message room lent next (d + 2) (count + 1)
-  unfolding answer_in
-  after_field {a} {b} {c} {d} gave e =
+  pub after_field : {f : FieldRecord} {next : List ℕ} → Gave message at f (header_at message at line_start)
+      → next ≡ sets table (count * field_record_size) (field_bytes (field_of f.name.start f.name.end f.body.start f.body.end)) → Left message lent next (f.body.end + 2) (count + 1)
+  unfolding count_in
+  after_field {f} gave e =
       record {
         within = gave.within;
         few = omega arith;
         same_length = ap length e ∙ simp length-sets left.same_length;
-        answer = left.answer ∙ ap (λ (h : Header). answer_in room count h) gave.is;
+        counts = left.counts ∙ ap (λ (h : Header). count_in count h) gave.is;
         stored =
             left.stored
-            ∙ rw (gave.is, add-one count) (stored_first field_layout table count (field_of a b c d) (fields_of (header_at message (d + 2) line_start)) ∙ rw (sym e));
+            ∙ rw (gave.is, add-one count) (stored_first field_layout table count (field_of f.name.start f.name.end f.body.start f.body.end) (fields_of (header_at message (f.body.end + 2) line_start)) ∙ rw (sym e));
       }
 
   -- nothing more is stored at the header's end and at a fault
-  pub at_no_room : header_at message at line_start ≡ ended → room < count → Done message room lent (NoRoom count) table
-  unfolding answer_in
-  at_no_room e h = (sym (left.answer ∙ rw (e, lt-ltb room count h)), sym (left.stored ∙ rw e))
+  pub at_ended : header_at message at line_start ≡ ended → Done message lent (Ok count) table
+  unfolding count_in
+  at_ended e = record { many = sym (left.counts ∙ rw e); stored = sym (left.stored ∙ rw e) }
 
-  pub at_accepted : header_at message at line_start ≡ ended → count ≤ room → Done message room lent (Accepted count) table
-  unfolding answer_in
-  at_accepted e h = (sym (left.answer ∙ rw (e, le-ltb room count h)), sym (left.stored ∙ rw e))
+  pub at_fault : {e : Fault} → header_at message at line_start ≡ fault e.number e.position → Done message lent (Err e) table
+  unfolding count_in
+  at_fault e = record { many = sym (left.counts ∙ rw e); stored = sym (left.stored ∙ rw e) }
 
-  pub at_fault : {n p : ℕ} → header_at message at line_start ≡ fault n p → Done message room lent (Refused n p) table
-  unfolding answer_in
-  at_fault e = (sym (left.answer ∙ rw e), sym (left.stored ∙ rw e))
+-- what is answered where `room` records fit, from the count or the fault
+abbrev pub answer_by : ℕ → Result ℕ Fault → Answer
+answer_by room (Ok count) = pick (ltb room count) (NoRoom count) (Accepted count)
+answer_by room (Err e) = Refused e.number e.position
+
+answer_counts : (room count : ℕ) (h : Header) → answer_in room count h ≡ answer_by room (count_in count h)
+unfolding answer_in count_in
+answer_counts room count (field f rest) = answer_counts room (count + 1) rest
+answer_counts room count ended = refl
+answer_counts room count (fault number position) = refl
 
 -- an accepted answer counts the fields, and they fit
 pub counted : (room count n : ℕ) (h : Header) → answer_in room count h ≡ Accepted n → (n ≡ count + length (fields_of h)) × (n ≤ room)
@@ -93,27 +106,31 @@ module _ (message table : List ℕ) where
   unfolding answer_for
   too_long h = settled (Refused message_too_long message_limit) (rw (lt-ltb _ _ h))
 
-  module _ (h : length message ≤ message_limit) where
-    within_limit : {r : Answer} → r ≡ answer_in (room_for field_record_size table) 0 (header_of message) → split_answer message table ≡ r
+  module _ (h : length message ≤ message_limit) {r : Result ℕ Fault} (e : r ≡ count_in 0 (header_of message)) where
+    within_limit : split_answer message table ≡ answer_by (room_for field_record_size table) r
     unfolding answer_for
-    within_limit e = rw (le-ltb _ _ h) (sym e)
+    within_limit = rw (le-ltb _ _ h, e) (answer_counts (room_for field_record_size table) 0 (header_of message))
 
-    pub refused : {n p : ℕ} → Refused n p ≡ answer_in (room_for field_record_size table) 0 (header_of message) → Split message table (Refused n p) table
-    refused {n} {p} e = settled (Refused n p) (within_limit e)
+    pub refused : {x : Fault} → r ≡ Err x → Split message table (Refused x.number x.position) table
+    refused {x} i = settled (Refused x.number x.position) (within_limit ∙ rw i)
 
-    pub no_room : {n : ℕ} → NoRoom n ≡ answer_in (room_for field_record_size table) 0 (header_of message) → Split message table (NoRoom n) table
-    no_room {n} e = settled (NoRoom n) (within_limit e)
+    module _ {n : ℕ} (i : r ≡ Ok n) where
+      pub no_room : length table / field_record_size < n → Split message table (NoRoom n) table
+      no_room less = settled (NoRoom n) (within_limit ∙ rw (i, lt-ltb _ _ less))
 
-    module _ {n : ℕ} (e : Accepted n ≡ answer_in (room_for field_record_size table) 0 (header_of message)) where
-      -- accepted by the first run, and stored by the second
-      pub stored_again : {after : List ℕ} → after ≡ sets table 0 (field_table (fields_of (header_of message))) → Split message table (Accepted n) after
-      stored_again same = let s = settled (Accepted n) (within_limit e) in answered s.answer_is (same ∙ s.bytes_are)
+      module _ (fits : n ≤ length table / field_record_size) where
+        accepted : split_answer message table ≡ Accepted n
+        accepted = within_limit ∙ rw (i, le-ltb _ _ fits)
 
-      -- accepted by the first run, and copied from where it stored
-      pub copied : (room : List ℕ) {front after : List ℕ} → n * field_record_size ≤ length room → front ≡ sets room 0 (field_table (fields_of (header_of message)))
-          → after ≡ sets table 0 (take (n * field_record_size) front) → Split message table (Accepted n) after
-      copied room large first second =
-          let fs = fields_of (header_of message) in
-          let c = counted (room_for field_record_size table) 0 n (header_of message) (sym e) in
-          let l : n * field_record_size ≡ length (field_table fs) = omega (arith, length-table field_layout fs) in
-          stored_again (second ∙ rw (first, l) (staged table room (field_table fs) (omega arith)))
+        -- accepted by the first run, and stored by the second
+        pub stored_again : {after : List ℕ} → after ≡ sets table 0 (field_table (fields_of (header_of message))) → Split message table (Accepted n) after
+        stored_again same = let s = settled (Accepted n) accepted in answered s.answer_is (same ∙ s.bytes_are)
+
+        -- accepted by the first run, and copied from where it stored
+        pub copied : (room : List ℕ) {front after : List ℕ} → n * field_record_size ≤ length room → front ≡ sets room 0 (field_table (fields_of (header_of message)))
+            → after ≡ sets table 0 (take (n * field_record_size) front) → Split message table (Accepted n) after
+        copied room large first second =
+            let fs = fields_of (header_of message) in
+            let c = counted (room_for field_record_size table) 0 n (header_of message) (answer_counts _ 0 (header_of message) ∙ rw (sym e, i, le-ltb _ _ fits)) in
+            let l : n * field_record_size ≡ length (field_table fs) = omega (arith, length-table field_layout fs) in
+            stored_again (second ∙ rw (first, l) (staged table room (field_table fs) (omega arith)))

@@ -1,52 +1,54 @@
 -- What finding one field, and passing the bytes of a body, tells of the header. Assumes nothing.
-use mathlib.Core.Path.{◌≡◌, refl, ◌∙◌}
+use mathlib.Core.Path.{◌≡◌, refl, ap, ◌∙◌}
+use mathlib.Core.Bool.{false}
 use mathlib.Core.List.{List}
-use Prim.Native.Nat.{ℕ, ◌+◌, ◌≤◌, ◌<◌}
+use Rattle.std.specs.Prelude.{Some, None, Ok, Err}
+use Rattle.octets.specs.Believed.Answers.{fault as fault_at}
+use Prim.Native.Nat.{ℕ, ◌+◌, ◌-◌, ◌≤◌, ◌<◌}
 use native.Mathlib.Omega.{arith}
-use lib.ListN.{length, get_or}
+use lib.ListN.{length, take, drop, get_or, length-drop}
+use lib.Seq.{take_all, get_or-drop, drop-drop}
 use Rattle.records.specs.Believed.FieldRecords.{field_of}
-use Rattle.header.specs.Believed.Fields.{Header, field, ended, fault, line_start, header_at}
-use Rattle.header.specs.Ties.Steps.{first_of, GoesOn}
-use Rattle.header.specs.declared.fields.Next.TheVariants.{Field, End, Fault}
-use Rattle.header.proofs.ByteLaws.{crlf_other, body_other}
+use Rattle.header.specs.Believed.Fields.{Header, field, ended, fault, line_start, ends_body, header_at}
+use Rattle.header.specs.Ties.Steps.{record_of, first_of, GoesOn}
+use Rattle.records.specs.declared.field.FieldRecord.{FieldRecord}
+use Rattle.octets.specs.declared.answers.Fault.{Fault}
+use Rattle.header.proofs.ByteLaws.{first_byte, crlf_other, body_other}
 use Rattle.header.proofs.HeaderLaws.{body_goes}
 use Rattle.header.proofs.FieldLaws.{First, first}
 
 -- a field was found
-pub record Gave (message : List ℕ) (at a b c d : ℕ) (h : Header) : Type 0 where
-  pub is : h ≡ field (field_of a b c d) (header_at message (d + 2) line_start)
-  pub past : at < d
-  pub within : d + 2 ≤ length message
+pub record Gave (message : List ℕ) (at : ℕ) (f : FieldRecord) (h : Header) : Type 0 where
+  pub is : h ≡ field (field_of f.name.start f.name.end f.body.start f.body.end) (header_at message (f.body.end + 2) line_start)
+  pub past : at < f.body.end
+  pub within : f.body.end + 2 ≤ length message
 
 module _ (message : List ℕ) (at : ℕ) where
-  gave_of : (a b c d : ℕ) (h : Header) → First message at h → Field a b c d ≡ first_of h → Gave message at a b c d h
+  gave_of : (f : FieldRecord) (h : Header) → First message at h → Ok (Some f) ≡ first_of h → Gave message at f h
   unfolding first_of
-  gave_of a b c d (field f rest) x e =
-      let p : a ≡ f.name_start = cc in
-      let q : b ≡ f.name_end = cc in
-      let r : c ≡ f.body_start = cc in
-      let s : d ≡ f.body_end = cc in
-      record { is = rw (p, q, r, s, x.goes_on); past = omega arith; within = omega arith }
-  gave_of a b c d ended x e = absurd (let z : ◌≡◌ {A = ℕ} 0 1 = cc in omega arith)
-  gave_of a b c d (fault n p) x e = absurd (let z : ◌≡◌ {A = ℕ} 0 1 = cc in omega arith)
+  gave_of f (field g rest) x e =
+      let p : f ≡ record_of g = cc in
+      rw p (record { is = rw x.goes_on; past = omega arith; within = omega arith })
+  gave_of f ended x e = absurd (let z : ◌≡◌ {A = ℕ} 0 1 = cc in omega arith)
+  gave_of f (fault n p) x e = absurd (let z : ◌≡◌ {A = ℕ} 0 1 = cc in omega arith)
 
-  pub gave : {a b c d : ℕ} → at ≤ length message → Field a b c d ≡ first_of (header_at message at line_start)
-      → Gave message at a b c d (header_at message at line_start)
-  gave l e = gave_of _ _ _ _ (header_at message at line_start) (first message at l) e
+  pub gave : {f : FieldRecord} → at ≤ length message → Ok (Some f) ≡ first_of (header_at message at line_start)
+      → Gave message at f (header_at message at line_start)
+  gave l e = gave_of _ (header_at message at line_start) (first message at l) e
 
 -- the header's end was found
-pub gave_end : (h : Header) → End ≡ first_of h → h ≡ ended
+pub gave_end : (h : Header) → Ok None ≡ first_of h → h ≡ ended
 unfolding first_of
 gave_end (field f rest) e = absurd (let z : ◌≡◌ {A = ℕ} 0 1 = cc in omega arith)
 gave_end ended e = refl
 gave_end (fault n p) e = absurd (let z : ◌≡◌ {A = ℕ} 0 1 = cc in omega arith)
 
 -- a fault was found
-pub gave_fault : (h : Header) {n p : ℕ} → Fault n p ≡ first_of h → h ≡ fault n p
+pub gave_fault : (h : Header) {e : Fault} → Err e ≡ first_of h → h ≡ fault e.number e.position
 unfolding first_of
 gave_fault (field f rest) e = absurd (let z : ◌≡◌ {A = ℕ} 0 1 = cc in omega arith)
 gave_fault ended e = absurd (let z : ◌≡◌ {A = ℕ} 0 1 = cc in omega arith)
-gave_fault (fault m q) e = cc
+gave_fault (fault m q) {e = x} e = let p : x ≡ fault_at m q = cc in rw p
 
 -- ---- a body that goes on
 
@@ -54,11 +56,15 @@ gave_fault (fault m q) e = cc
 pub goes_nowhere : (message : List ℕ) (at : ℕ) → at ≤ length message → GoesOn message at at
 goes_nowhere message at h = record { from = omega arith; within = h; same = λ name end start. refl }
 
+-- a byte is passed that is no fault and does not end the body
+pub goes_past : (message : List ℕ) (at : ℕ) → at < length message → get_or message at 0 ≤ 127 → ends_body (drop at message) ≡ false → GoesOn message at (at + 1)
+goes_past message at h high n =
+    record { from = omega arith; within = omega arith; same = λ name end start. body_goes message at h name end start high n }
+
 -- a plain byte is passed
 pub goes_plain : (message : List ℕ) (at : ℕ) → at < length message → 14 ≤ get_or message at 0 → get_or message at 0 ≤ 127 → GoesOn message at (at + 1)
 goes_plain message at h low high =
-    let n = body_other message at (crlf_other message at (λ e. omega arith)) in
-    record { from = omega arith; within = omega arith; same = λ name end start. body_goes message at h name end start high n }
+    goes_past message at h high (body_other message at (crlf_other message at (λ e. omega arith)))
 
 -- bytes are passed, and then others
 pub goes_both : {message : List ℕ} {at p q r : ℕ} → GoesOn message at p → GoesOn message p q → q ≡ r → GoesOn message at r
@@ -68,3 +74,41 @@ goes_both first second e =
       within = rw e at second.within;
       same = λ name end start. first.same name end start ∙ rw e at (second.same name end start);
     }
+
+-- what is left of a message after bytes of a body
+pub record LeftOf (message : List ℕ) (at : ℕ) (rest : List ℕ) : Type 0 where
+  pub is : rest ≡ drop (length message - length rest) message
+  pub fits : length rest ≤ length message
+  pub goes_on : GoesOn message at (length message - length rest)
+
+-- a byte is plain
+pub record Plain (b : ℕ) : Type 0 where
+  pub low : 14 ≤ b
+  pub high : b ≤ 127
+
+module _ {message : List ℕ} {at : ℕ} where
+  -- a plain byte is passed
+  one : {rest : List ℕ} → LeftOf message at rest → 1 ≤ length rest → Plain (get_or rest 0 0) → LeftOf message at (drop 1 rest)
+  one {rest} l h p =
+      let k : ℕ = length message - length rest in
+      let e : get_or rest 0 0 ≡ get_or message k 0 = ap (λ r. get_or r 0 0) l.is ∙ first_byte message k in
+      let m : length (drop 1 rest) ≡ length rest - 1 = length-drop 1 rest in
+      let n : length message - length (drop 1 rest) ≡ k + 1 = omega (arith, l.fits) in
+      record {
+        is = rw n (ap (λ r. drop 1 r) l.is ∙ drop-drop 1 k message ∙ ap (λ i. drop i message) (omega arith));
+        fits = omega (arith, l.fits);
+        goes_on = rw n (goes_both l.goes_on (goes_plain message k (omega (arith, l.fits)) (omega (arith, p.low)) (omega (arith, p.high))) refl);
+      }
+
+  pub one_passed : {rest : List ℕ} {n : ℕ} → n ≡ length rest → LeftOf message at rest → 1 ≤ n → Plain (get_or rest 0 0) → LeftOf message at (take (n - 1) (drop 1 rest))
+  one_passed {rest} {n} e l h p = rw (take_all (n - 1) (drop 1 rest) (simp length-drop (omega arith))) (one l (omega arith) p)
+
+  -- four are
+  pub four_passed : {rest : List ℕ} {n : ℕ} → n ≡ length rest → LeftOf message at rest → 4 ≤ n
+      → Plain (get_or rest 0 0) → Plain (get_or rest 1 0) → Plain (get_or rest 2 0) → Plain (get_or rest 3 0) → LeftOf message at (take (n - 4) (drop 4 rest))
+  four_passed {rest} {n} q l h a b c d =
+      let x = one l (omega arith) a in
+      let y = rw drop-drop at (one x (simp length-drop (omega arith)) (rw get_or-drop b)) in
+      let z = rw drop-drop at (one y (simp length-drop (omega arith)) (rw get_or-drop c)) in
+      let w = rw drop-drop at (one z (simp length-drop (omega arith)) (rw get_or-drop d)) in
+      rw (take_all (n - 4) (drop 4 rest) (simp length-drop (omega arith))) w

@@ -1,3 +1,3 @@
 -- Ties between code and definitions: what the functions below the entry points do. Nothing here needs to be believed.
 pub mod Steps
-pub mod Rows
+pub mod Candidates

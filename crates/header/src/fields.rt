@@ -1,14 +1,14 @@
 // Splitting a message into its header fields.
-ghost use Rattle.std.specs.Prelude.{◌≡◌, false, ◌+◌, ◌*◌, ◌≤◌, ◌<◌, length, drop};
+ghost use Rattle.std.specs.Prelude.{◌≡◌, ◌+◌, ◌*◌, ◌≤◌, ◌<◌, length, drop};
 ghost use Rattle.std.proofs.lemmas.List.Edits.{sets};
+ghost use Rattle.octets.specs.Believed.Answers.{Answered, fault as fault_at};
 ghost use Rattle.octets.specs.Believed.Numbers.{message_limit};
-ghost use Rattle.header.specs.Believed.Fields.{name_holds, name_starts_with, ends_body, line_start, in_name, in_body, fields_of, header_at, header_of};
-ghost use Rattle.octets.specs.Believed.Answers.{Answered};
 ghost use Rattle.records.specs.Believed.FieldRecords.{field_record_size, field_table};
-ghost use Rattle.header.specs.Believed.Split.{answer_in, split_answer, split_table};
-ghost use Rattle.header.specs.Ties.Steps.{first_of, GoesOn, staged_fields};
+ghost use Rattle.header.specs.Believed.Fields.{name_holds, name_starts_with, ends_body, line_start, in_name, in_body, fields_of, header_at, header_of};
+ghost use Rattle.header.specs.Believed.Split.{split_answer, split_table};
+ghost use Rattle.header.specs.Ties.Steps.{first_of, given, count_in, GoesOn, staged_fields};
 
-use octets::answers::Answer;
+use octets::answers::{Answer, Fault};
 use octets::lines::{is_crlf, is_white};
 use octets::numbers::{
     BYTE_ABOVE_127, HEADER_NOT_ENDED, MESSAGE_LIMIT, MESSAGE_TOO_LONG, NAME_FAULT,
@@ -17,201 +17,132 @@ use octets::writing::copy_front;
 use records::Span;
 use records::field::{FIELD_RECORD_SIZE, FieldRecord, store};
 
-// What stands at a line start.
-#[derive(Clone, Copy)]
-enum Next {
-    // A field: name start, name end, body start, body end.
-    Field(usize, usize, usize, usize),
-    // The header's end.
-    End,
-    // A fault: its number and position.
-    Fault(u8, usize),
+// A fault at a position, by its number.
+fn fault(number: u8, position: usize) -> Fault
+    ensures { result ≡ fault_at number position }
+{
+    Fault { number, position }
 }
 
 // Whether a name may hold a byte.
+#[tactic(auto, unfolding(crate::specs::Believed::Fields::name_holds))]
 fn name_holds(b: u8) -> bool
     ensures { result ≡ name_holds b }
 {
-    if is_white(b) {
-        return true;
-    }
-    if b < 33 {
-        return false;
-    }
-    if 126 < b {
-        return false;
-    }
-    b != b':'
+    is_white(b) || matches!(b, 33..=126) && b != b':'
 }
 
 // Whether a name may start with a byte.
+#[tactic(auto, unfolding(crate::specs::Believed::Fields::name_starts_with))]
 fn name_starts_with(b: u8) -> bool
     ensures { result ≡ name_starts_with b }
 {
-    if is_white(b) {
-        return false;
-    }
-    name_holds(b)
+    name_holds(b) && !is_white(b)
 }
 
 // Whether CR and LF stand there that SPACE or HTAB does not follow.
+#[tactic(auto, using(std::proofs::lemmas::Option::gets), unfolding(crate::specs::Believed::Fields::ends_body, crate::specs::Believed::Fields::crlf))]
 fn ends_body(message: &[u8], at: usize) -> bool
     requires { at < length message.now }
     ensures { result ≡ ends_body (drop at message.now) }
 {
-    if is_crlf(message, at) {
-        if message.len() - at <= 2 {
-            return true;
-        }
-        return !is_white(message[at + 2]);
-    }
-    false
+    is_crlf(message, at) && !message.get(at + 2).is_some_and(|b| is_white(*b))
 }
 
-// Whether the byte there may end a body or be a fault in it. A byte from 14 to 127 is plain: it does neither.
-fn may_stop(message: &[u8], at: usize) -> bool
-    requires { at < length message.now }
-    ensures { result ≡ false → GoesOn message.now at (at + 1) }
-{
-    if message[at] < 14 {
-        return true;
-    }
-    127 < message[at]
-}
-
-// The first byte at or after a position that is not plain, one byte at a time.
-fn past_plain_singly(message: &[u8], at: usize) -> usize
+// Past bytes of a body by fours: one by one takes twice the instructions. A byte from 14 to 127 is plain: it neither ends a
+// body nor is a fault in it.
+fn past_fours(message: &[u8], at: usize) -> usize
     requires { at ≤ length message.now }
     ensures { GoesOn message.now at result }
 {
-    let mut p = at;
-    while p < message.len() {
-        if may_stop(message, p) {
-            return p;
-        }
-        p += 1;
+    let mut rest = &message[at..];
+    while let [14..=127, 14..=127, 14..=127, 14..=127, more @ ..] = rest {
+        rest = more;
     }
-    p
+    message.len() - rest.len()
 }
 
-// .. four bytes at a time.
+// The first byte at or after a position that is not plain.
 fn past_plain(message: &[u8], at: usize) -> usize
     requires { at ≤ length message.now }
     ensures { GoesOn message.now at result }
 {
-    let mut p = at;
-    while 4 <= message.len() - p {
-        if may_stop(message, p) {
-            return p;
-        }
-        if may_stop(message, p + 1) {
-            return p + 1;
-        }
-        if may_stop(message, p + 2) {
-            return p + 2;
-        }
-        if may_stop(message, p + 3) {
-            return p + 3;
-        }
-        p += 4;
+    let mut rest = &message[past_fours(message, at)..];
+    while let [14..=127, more @ ..] = rest {
+        rest = more;
     }
-    past_plain_singly(message, p)
+    message.len() - rest.len()
 }
 
 // The field whose body starts at a position.
-fn body_rest(message: &[u8], name_start: usize, name_end: usize, body_start: usize) -> Next
-    requires { body_start ≤ length message.now }
-    ensures { result ≡ first_of (header_at message.now body_start (in_body name_start name_end body_start)) }
+fn body_rest(message: &[u8], name: Span, start: usize) -> Result<FieldRecord, Fault>
+    requires { start ≤ length message.now }
+    ensures { given result ≡ first_of (header_at message.now start (in_body name.start name.end start)) }
 {
-    let mut at = body_start;
-    loop {
-        at = past_plain(message, at);
-        if message.len() <= at {
-            return Next::Fault(HEADER_NOT_ENDED, at);
+    let mut end = past_plain(message, start);
+    while end < message.len() {
+        if 127 < message[end] {
+            return Err(fault(BYTE_ABOVE_127, end));
         }
-        if 127 < message[at] {
-            return Next::Fault(BYTE_ABOVE_127, at);
+        if ends_body(message, end) {
+            let body = Span { start, end };
+            return Ok(FieldRecord { name, body });
         }
-        if ends_body(message, at) {
-            return Next::Field(name_start, name_end, body_start, at);
-        }
-        at += 1;
+        end = past_plain(message, end + 1);
     }
+    Err(fault(HEADER_NOT_ENDED, end))
 }
 
 // The field whose name starts at a position.
-fn name_rest(message: &[u8], start: usize) -> Next
+fn name_rest(message: &[u8], start: usize) -> Result<FieldRecord, Fault>
     requires { start < length message.now }
-    ensures { result ≡ first_of (header_at message.now (start + 1) (in_name start (start + 1))) }
+    ensures { given result ≡ first_of (header_at message.now (start + 1) (in_name start (start + 1))) }
 {
-    let mut at = start + 1;
-    let mut end = at;
-    while at < message.len() {
+    let mut end = start + 1;
+    for at in start + 1..message.len() {
         let b = message[at];
         if b == b':' {
-            return body_rest(message, start, end, at + 1);
+            return body_rest(message, Span { start, end }, at + 1);
         }
         if !name_holds(b) {
-            return Next::Fault(NAME_FAULT, at);
+            return Err(fault(NAME_FAULT, at));
         }
-        at += 1;
         if !is_white(b) {
-            end = at;
+            end = at + 1;
         }
     }
-    Next::Fault(HEADER_NOT_ENDED, at)
+    Err(fault(HEADER_NOT_ENDED, message.len()))
 }
 
-// What stands at a line start.
-fn next_field(message: &[u8], at: usize) -> Next
+// The field at a line start; none at the header's end.
+fn next_field(message: &[u8], at: usize) -> Result<Option<FieldRecord>, Fault>
     requires { at ≤ length message.now }
     ensures { result ≡ first_of (header_at message.now at line_start) }
 {
-    if message.len() <= at {
-        return Next::End;
+    if message.len() <= at || is_crlf(message, at) {
+        return Ok(None);
     }
-    if is_crlf(message, at) {
-        return Next::End;
+    if !name_starts_with(message[at]) {
+        return Err(fault(NAME_FAULT, at));
     }
-    if name_starts_with(message[at]) {
-        return name_rest(message, at);
-    }
-    Next::Fault(NAME_FAULT, at)
+    let field = name_rest(message, at)?;
+    Ok(Some(field))
 }
 
-// Store the records of the fields up to the header's end or its fault, and answer as for a table in which `room` records fit.
-fn store_fields(message: &[u8], room: usize, table: &mut [u8]) -> Answer
+// Store the records of the fields up to the header's end or its fault, and count them.
+fn store_fields(message: &[u8], table: &mut [u8]) -> Result<usize, Fault>
     requires { length message.now ≤ message_limit }
-    ensures { (result ≡ answer_in room 0 (header_of message.now)) × (table.new ≡ sets table.old 0 (field_table (fields_of (header_of message.now)))) }
+    ensures many { result ≡ count_in 0 (header_of message.now) }
+    ensures stored { table.new ≡ sets table.old 0 (field_table (fields_of (header_of message.now))) }
 {
     let mut at: usize = 0;
     let mut count: usize = 0;
-    loop {
-        match next_field(message, at) {
-            Next::Field(name_start, name_end, body_start, body_end) => {
-                let name = Span {
-                    start: name_start,
-                    end: name_end,
-                };
-                let body = Span {
-                    start: body_start,
-                    end: body_end,
-                };
-                store(table, count, FieldRecord { name, body });
-                count += 1;
-                at = body_end + 2;
-            }
-            Next::End => {
-                if room < count {
-                    return Answer::NoRoom(count);
-                }
-                return Answer::Accepted(count);
-            }
-            Next::Fault(number, position) => {
-                return Answer::Refused(number, position);
-            }
-        }
+    while let Some(field) = next_field(message, at)? {
+        store(table, count, field);
+        count += 1;
+        at = field.body.end + 2;
     }
+    Ok(count)
 }
 
 // The fields whose records are stored beside the table first, and the bytes of these records.
@@ -235,16 +166,16 @@ pub fn split(message: &[u8], table: &mut [u8]) -> Answer
     }
     let room = table.len() / FIELD_RECORD_SIZE;
     let mut staged = staged_room();
-    match store_fields(message, room, &mut staged) {
-        Answer::Accepted(many) => {
+    match store_fields(message, &mut staged) {
+        Ok(many) if room < many => Answer::NoRoom(many),
+        Ok(many) => {
             if many <= STAGED_FIELDS {
                 copy_front(table, &staged, many * FIELD_RECORD_SIZE);
-                return Answer::Accepted(many);
+            } else {
+                let _ = store_fields(message, table);
             }
-            store_fields(message, room, table);
             Answer::Accepted(many)
         }
-        Answer::Refused(number, position) => Answer::Refused(number, position),
-        Answer::NoRoom(needed) => Answer::NoRoom(needed),
+        Err(fault) => Answer::Refused(fault.number, fault.position),
     }
 }

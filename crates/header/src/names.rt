@@ -1,21 +1,22 @@
 // The known field names.
-ghost use Rattle.std.specs.Prelude.{◌≡◌, ◌<◌, length, get_or};
+ghost use Rattle.std.specs.Prelude.{◌≡◌, ◌<◌, ◌↔◌, IsTrue, length, get_or, map, drop};
+ghost use Rattle.std.specs.Option.{option_map};
 ghost use Rattle.octets.specs.Believed.Letters.{lower as lower_of};
 ghost use Rattle.header.specs.Believed.Names.{known_names, known_of, known_number, compared_of, holds_addresses};
-ghost use Rattle.header.specs.Ties.Rows.{entry_of, in_row, row_left};
+ghost use Rattle.header.specs.Ties.Candidates.{candidate, in_small};
 
 use octets::letters::lower;
 
-// Which known name a name is.
-#[derive(Clone, Copy)]
+// Which known name a name is: its number is its place in their order, from 1, and 0 for any other.
+#[derive(Clone, Copy, PartialEq, Eq)]
 pub enum Known {
-    Date,
-    From,
-    ReplyTo,
-    To,
-    Cc,
-    Bcc,
-    Other,
+    Date = 1,
+    From = 2,
+    ReplyTo = 3,
+    To = 4,
+    Cc = 5,
+    Bcc = 6,
+    Other = 0,
 }
 
 // A name looked up: which known name it is, and how many known names were compared with it letter by letter.
@@ -25,122 +26,84 @@ pub struct LookedUp {
     pub compared: usize,
 }
 
-// How many names are known.
-const COUNT: usize = 6;
-
-// An entry of the table of known names: the name, and its text in small letters, padded with spaces to the longest.
-#[derive(Clone, Copy)]
-struct Entry(Known, [u8; 8]);
-
-// What a row holds: the known names in their order, from 0.
-fn in_row(row: usize) -> Entry
-    ensures { result ≡ entry_of (in_row row) }
+// The first letter of a name, made small.
+fn first_letter(name: &[u8]) -> u8
+    requires { 0 < length name.now }
+    ensures { result ≡ lower_of (get_or name.now 0 0) }
 {
-    match row {
-        0 => Entry(Known::Date, *b"date    "),
-        1 => Entry(Known::From, *b"from    "),
-        2 => Entry(Known::ReplyTo, *b"reply-to"),
-        3 => Entry(Known::To, *b"to      "),
-        4 => Entry(Known::Cc, *b"cc      "),
-        5 => Entry(Known::Bcc, *b"bcc     "),
-        _ => Entry(Known::Other, *b"        "),
-    }
+    lower(name[0])
 }
 
-// The letter at a place of a name, made small.
-fn letter(name: &[u8], place: usize) -> u8
-    requires { place < length name.now }
-    ensures { result ≡ lower_of (get_or name.now place 0) }
-{
-    lower(name[place])
-}
-
-// The row of the known name with a name's length and, case ignored, first letter; COUNT if there is none.
-fn row_left(name: &[u8]) -> usize
-    ensures { result ≡ row_left known_names name.now }
+// The known name with a name's length and, case ignored, first letter, and its text in small letters. A match on both at once,
+// one on slice patterns, and a search of an array take more instructions.
+fn candidate(name: &[u8]) -> Option<(Known, &'static [u8])>
+    ensures { option_map (λ k. (k.0, k.1.now)) result ≡ option_map in_small (candidate known_names name.now) }
 {
     match name.len() {
-        2 => match letter(name, 0) {
-            b't' => 3,
-            b'c' => 4,
-            _ => COUNT,
+        2 => match first_letter(name) {
+            b't' => Some((Known::To, b"to")),
+            b'c' => Some((Known::Cc, b"cc")),
+            _ => None,
         },
-        3 => match letter(name, 0) {
-            b'b' => 5,
-            _ => COUNT,
+        3 => match first_letter(name) {
+            b'b' => Some((Known::Bcc, b"bcc")),
+            _ => None,
         },
-        4 => match letter(name, 0) {
-            b'd' => 0,
-            b'f' => 1,
-            _ => COUNT,
+        4 => match first_letter(name) {
+            b'd' => Some((Known::Date, b"date")),
+            b'f' => Some((Known::From, b"from")),
+            _ => None,
         },
-        8 => match letter(name, 0) {
-            b'r' => 2,
-            _ => COUNT,
+        8 => match first_letter(name) {
+            b'r' => Some((Known::ReplyTo, b"reply-to")),
+            _ => None,
         },
-        _ => COUNT,
+        _ => None,
     }
 }
 
-// Which known name a name is, case ignored: of those that its length and first letter leave, the first that agrees; and how
-// many were compared.
+// Whether a name agrees with a text of its length in small letters, case ignored, past the first letter.
+fn agrees(name: &[u8], text: &[u8]) -> bool
+    requires { length name.now ≡ length text.now }
+    ensures { IsTrue result ↔ (map lower_of (drop 1 name.now) ≡ drop 1 text.now) }
+{
+    name.iter().zip(text).skip(1).all(|(a, b)| lower(*a) == *b)
+}
+
+// Which known name a name is, case ignored: the one that its length and first letter leave, if it agrees; and how many were
+// compared.
 pub fn known_name(name: &[u8]) -> LookedUp
     ensures { (result.known ≡ known_of name.now) × (result.compared ≡ compared_of name.now) }
 {
-    let mut i = row_left(name);
-    let mut compared: usize = 0;
-    let found = 'names: loop {
-        if i == COUNT {
-            return LookedUp {
-                known: Known::Other,
-                compared,
+    match candidate(name) {
+        None => LookedUp {
+            known: Known::Other,
+            compared: 0,
+        },
+        Some((known, text)) => {
+            let known = if agrees(name, text) {
+                known
+            } else {
+                Known::Other
             };
+            LookedUp { known, compared: 1 }
         }
-        compared += 1;
-        let entry = in_row(i);
-        let text = entry.1;
-        let mut j: usize = 1;
-        while j < name.len() {
-            if letter(name, j) != text[j] {
-                // No other known name has this length and first letter.
-                i = COUNT;
-                continue 'names;
-            }
-            j += 1;
-        }
-        break i;
-    };
-    let entry = in_row(found);
-    let known = entry.0;
-    LookedUp { known, compared }
+    }
 }
 
-// The number of a known name: its place in their order, from 1; 0 for any other.
+// The number of a known name.
 pub fn known_number(known: Known) -> u8
     ensures { result ≡ known_number known }
 {
-    match known {
-        Known::Date => 1,
-        Known::From => 2,
-        Known::ReplyTo => 3,
-        Known::To => 4,
-        Known::Cc => 5,
-        Known::Bcc => 6,
-        Known::Other => 0,
-    }
+    known as u8
 }
 
 // Whether a field of this name holds an address list.
 pub fn holds_addresses(known: Known) -> bool
     ensures { result ≡ holds_addresses known }
 {
-    match known {
-        Known::Date => false,
-        Known::From => true,
-        Known::ReplyTo => true,
-        Known::To => true,
-        Known::Cc => true,
-        Known::Bcc => true,
-        Known::Other => false,
-    }
+    matches!(
+        known,
+        Known::From | Known::ReplyTo | Known::To | Known::Cc | Known::Bcc
+    )
 }

@@ -11,6 +11,7 @@ use lib.Dec.{ltb}
 use lib.ListN.{length}
 use lib.Seq.{sets}
 use lib.IntN.{ℤ}
+use Rattle.std.specs.Prelude.{Result, Ok, Err}
 use Rattle.octets.specs.Believed.Numbers.{table_records, too_little_room}
 use Rattle.octets.specs.Believed.Octets.{line_feed_byte}
 use Rattle.octets.specs.Believed.Text.{bytes, part}
@@ -18,6 +19,7 @@ use Rattle.octets.specs.Ties.Writing.{WroteBy}
 use Rattle.octets.proofs.Writes.{wrote_as, wrote_both, wrote_three}
 use Rattle.octets.specs.declared.answers.Answer.{Answer}
 use Rattle.octets.specs.declared.answers.Answer.TheVariants.{Accepted, Refused, NoRoom}
+use Rattle.octets.specs.declared.answers.Fault.{Fault}
 use Rattle.records.specs.Believed.AddressRecords.{address_record_size, no_record, table_bytes, record_in}
 use Rattle.records.specs.Believed.FieldRecords.{Field}
 use Rattle.header.specs.Believed.Names.{known_of, holds_addresses}
@@ -32,8 +34,6 @@ use Rattle.grammar.proofs.Any.Positions.{ReadBack}
 use Rattle.addresses.specs.Believed.Outcome.{Outcome, refusal, derived, outcome_by}
 use Rattle.editions.specs.Believed.Outcome.{outcome_of}
 use Rattle.editions.proofs.Judgements.{AnsweredBy, JudgedOf, refused_at, listed as list_of, judged_of, unchanged_733}
-use Rattle.dates.specs.declared.DateAnswer.{DateAnswer}
-use Rattle.dates.specs.declared.DateAnswer.TheVariants as date
 use Rattle.listing.specs.Believed.Lines.{signed, field_line, address_line, refused_line}
 use Rattle.listing.specs.Believed.Listing.{each, listed, unless_refused, address_body, date_text, other_body, body, field_text}
 use Rattle.listing.specs.Ties.Putting.{tabulate}
@@ -91,11 +91,11 @@ pub body_733 : (message : List ℕ) (start end : ℕ) (rest : List ℕ) → addr
 body_733 message start end rest = ap (λ (o : Outcome). unless_refused o.answer o.table) (unchanged_733 (refusal rest) (λ N k. listed rest k) message start end)
 
 -- a date, and a body that is none
-pub accepted_date : {store : List ℕ → ℕ → List ℕ → List ℕ} (s : ℤ) {r : DateAnswer} {o p q z : List ℕ} {n a b c : ℕ} → r ≡ date.Accepted s
+pub accepted_date : {store : List ℕ → ℕ → List ℕ → List ℕ} (s : ℤ) {r : Result ℤ Fault} {o p q z : List ℕ} {n a b c : ℕ} → r ≡ Ok s
     → WroteBy store (λ rest. bytes "date " ++ rest) o n p a → WroteBy store (signed s) p a q b → WroteBy store (λ rest. line_feed_byte ∷ rest) q b z c → WroteBy store (date_text r) o n z c
 accepted_date s e w x y = rw e (wrote_three {f = λ rest. bytes "date " ++ rest} {g = signed s} {h = λ rest. line_feed_byte ∷ rest} w x y)
 
-pub refused_date : {store : List ℕ → ℕ → List ℕ → List ℕ} {r : DateAnswer} {number position : ℕ} {o p : List ℕ} {n a : ℕ} → r ≡ date.Refused number position → WroteBy store (refused_line number position) o n p a → WroteBy store (date_text r) o n p a
+pub refused_date : {store : List ℕ → ℕ → List ℕ → List ℕ} {r : Result ℤ Fault} {f : Fault} {o p : List ℕ} {n a : ℕ} → r ≡ Err f → WroteBy store (refused_line f.number f.position) o n p a → WroteBy store (date_text r) o n p a
 refused_date e w = rw e w
 
 -- the lines of a body, by what its name holds

@@ -3,20 +3,18 @@
 // The lent part is a window on the text: of each byte put, its place in the text is counted, and it is stored if it lies in the window.
 #![tactic(auto)]
 
-ghost use Rattle.std.specs.Prelude.{◌≡◌, ◌∷◌, ◌++◌, ◌+◌, ◌*◌, ◌≤◌, ◌<◌, length, drop};
+ghost use Rattle.std.specs.Prelude.{◌≡◌, ◌∷◌, ◌++◌, ◌+◌, ◌≤◌, ◌<◌, length, drop};
 ghost use Rattle.std.proofs.lemmas.List.Edits.{sets};
 ghost use Rattle.octets.specs.Believed.Numbers.{table_records};
-ghost use Rattle.octets.specs.Believed.Text.{part};
-ghost use Rattle.records.specs.Believed.AddressRecords.{address_record_size, record_in};
-ghost use Rattle.records.specs.Believed.FieldRecords.{field_record_size, field_in};
+ghost use Rattle.records.specs.Believed.AddressRecords.{record_in};
+ghost use Rattle.records.specs.Believed.FieldRecords.{field_in};
 ghost use Rattle.octets.specs.Ties.Writing.{count_limit, WroteBy, in_window};
-ghost use Rattle.header.specs.Believed.Names.{known_of};
 ghost use Rattle.listing.specs.Believed.Lines.{decimal, signed as signed_text, address_line, refused_line};
 ghost use Rattle.listing.specs.Believed.Listing.{each, address_body, date_text, body as body_text, field_text, header_text, listing};
 ghost use Rattle.listing.specs.Ties.Putting.{line_limit, body_limit, field_limit, tabulate, number as number_text, four, Named, AllNamed, Fits};
 ghost use Rattle.dates.specs.Believed.Outcome.{date_answer};
 
-use dates::{DateAnswer, read_date};
+use dates::read_date;
 use editions::read_addresses;
 use header::fields::split;
 use header::names::{Known, holds_addresses, known_name};
@@ -33,20 +31,6 @@ pub mod reading;
 const FIELD_TABLE_SIZE: usize = TABLE_RECORDS * FIELD_RECORD_SIZE;
 
 const ADDRESS_TABLE_SIZE: usize = TABLE_RECORDS * ADDRESS_RECORD_SIZE;
-
-// A table of field records.
-fn field_table() -> [u8; FIELD_TABLE_SIZE]
-    ensures { table_records * field_record_size ≡ length result }
-{
-    [0; FIELD_TABLE_SIZE]
-}
-
-// A table of address records.
-fn address_table() -> [u8; ADDRESS_TABLE_SIZE]
-    ensures { table_records * address_record_size ≡ length result }
-{
-    [0; ADDRESS_TABLE_SIZE]
-}
 
 // One byte of the text, at its place in it.
 fn put(from: usize, out: &mut [u8], n: usize, b: u8) -> usize
@@ -71,7 +55,7 @@ fn put_decimal(x: u64, from: usize, out: &mut [u8], n: usize) -> usize
     requires { n + 20 ≤ count_limit }
     ensures { WroteBy (in_window from) (decimal x) out.old n out.new result × (result ≤ n + 20) }
 {
-    let mut digits: [u8; 20] = [0; 20];
+    let mut digits = [0; 20];
     let k = io::decimal(x, &mut digits);
     put_bytes(&digits[..k], from, out, n)
 }
@@ -129,12 +113,11 @@ fn put_address(table: &[u8], i: usize, from: usize, out: &mut [u8], n: usize) ->
     let b = put_number(address.kind as usize, from, out, a);
     let c = put_number(address.depth as usize, from, out, b);
     let d = put_number(address.parent, from, out, c);
-    let name = address.name;
     let e = put_four(
         address.start,
         address.end,
-        name.start,
-        name.end,
+        address.name.start,
+        address.name.end,
         from,
         out,
         d,
@@ -147,11 +130,9 @@ fn put_addresses(table: &[u8], many: usize, from: usize, out: &mut [u8], n: usiz
     requires { (many ≤ table_records) × (n + body_limit ≤ count_limit) }
     ensures { WroteBy (in_window from) (each address_line (tabulate (record_in table.now) many 0)) out.old n out.new result × (result ≤ n + body_limit) }
 {
-    let mut i: usize = 0;
     let mut m = n;
-    while i < many {
+    for i in 0..many {
         m = put_address(table, i, from, out, m);
-        i += 1;
     }
     m
 }
@@ -169,7 +150,7 @@ fn put_address_body(
     requires { n + body_limit ≤ count_limit }
     ensures { WroteBy (in_window from) (address_body edition message.now start end) out.old n out.new result × (result ≤ n + body_limit) }
 {
-    let mut table = address_table();
+    let mut table = [0; ADDRESS_TABLE_SIZE];
     match read_addresses(message, start, end, edition, &mut table) {
         Answer::Accepted(many) => put_addresses(&table, many, from, out, n),
         Answer::Refused(number, position) => put_refused(number, position, from, out, n),
@@ -190,22 +171,13 @@ fn put_date_body(
     ensures { WroteBy (in_window from) (date_text (date_answer message.now start end)) out.old n out.new result × (result ≤ n + line_limit) }
 {
     match read_date(message, start, end) {
-        DateAnswer::Accepted(seconds) => {
+        Ok(seconds) => {
             let a = put_bytes(b"date ", from, out, n);
             let b = put_signed(seconds, from, out, a);
             put(from, out, b, b'\n')
         }
-        DateAnswer::Refused(number, position) => put_refused(number, position, from, out, n),
+        Err(fault) => put_refused(fault.number, fault.position, from, out, n),
     }
-}
-
-// Which known name stands in a message from one position up to another.
-fn name_at(message: &[u8], start: usize, end: usize) -> Known
-    requires { (start ≤ end) × (end ≤ length message.now) }
-    ensures { result ≡ known_of (part message.now start end) }
-{
-    let looked_up = known_name(&message[start..end]);
-    looked_up.known
 }
 
 // The lines of a body, by the name of its field.
@@ -246,11 +218,10 @@ fn put_field(
 {
     let field = records::field::load(fields, i);
     let a = put_bytes(b"field", from, out, n);
-    let name = field.name;
-    let body = field.body;
+    let (name, body) = (field.name, field.body);
     let b = put_four(name.start, name.end, body.start, body.end, from, out, a);
     let c = put(from, out, b, b'\n');
-    let known = name_at(message, name.start, name.end);
+    let known = known_name(&message[name.start..name.end]).known;
     put_body(message, edition, known, body.start, body.end, from, out, c)
 }
 
@@ -266,11 +237,9 @@ fn put_fields(
     requires { (many ≤ table_records) × AllNamed message.now fields.now many }
     ensures { WroteBy (in_window from) (each (field_text edition message.now) (tabulate (field_in fields.now) many 0)) out.old 0 out.new result }
 {
-    let mut i: usize = 0;
     let mut m: usize = 0;
-    while i < many {
+    for i in 0..many {
         m = put_field(message, edition, fields, i, from, out, m);
-        i += 1;
     }
     m
 }
@@ -299,7 +268,7 @@ fn put_header(
 pub fn write_listing(message: &[u8], edition: usize, from: usize, text: &mut [u8]) -> usize
     ensures { (result ≡ length (listing edition message.now)) × (text.new ≡ sets text.old 0 (drop from (listing edition message.now))) }
 {
-    let mut fields = field_table();
+    let mut fields = [0; FIELD_TABLE_SIZE];
     let answer = split(message, &mut fields);
     put_header(message, edition, &fields, answer, from, text)
 }

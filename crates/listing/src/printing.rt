@@ -7,12 +7,8 @@ use crate::write_listing;
 use std::io;
 use std::io::Write;
 
-// Room for a window.
-fn window_room() -> [u8; 65536]
-    ensures { 65536 ≡ length result }
-{
-    [0; 65536]
-}
+// The bytes of a window.
+const WINDOW_SIZE: usize = 65536;
 
 // Write a text from its start on, up to a write that fails. A write that a signal cut off is made again, and one that takes no byte is an error.
 fn write_text<W: Write>(text: &[u8], output: &mut W) -> io::Result<()>
@@ -74,6 +70,6 @@ pub fn print_listing<W: Write>(
     ensures printed { OnOk result.1 (Appends (W.contents output.old) (W.contents output.new) (listing edition message.now)) }
     ensures left { OnErr result.1 ((n : ℕ) × Appends (W.contents output.old) (W.contents output.new) (take n (listing edition message.now))) }
 {
-    let mut window = window_room();
+    let mut window = [0; WINDOW_SIZE];
     print_windows(message, edition, &mut window, output)
 }

@@ -1,30 +1,20 @@
 -- The laws of comparing two texts. Assumes nothing.
 use mathlib.Core.Path.{◌≡◌, refl, sym, ap, ap₂, ◌∙◌}
-use mathlib.Core.Bool.{true, false}
+use mathlib.Core.Bool.{Bool, true, false, ◌&&◌, true≢false}
+use mathlib.Core.Logic.{◌↔◌}
 use mathlib.Core.List.{List, [], ◌∷◌, map, map-id}
-use Prim.Native.Nat.{ℕ, suc, ◌+◌, ◌≤◌, ◌<◌}
+use Prim.Native.Nat.{ℕ, suc, ◌≤◌}
 use native.Mathlib.Omega.{arith}
-use native.Mathlib.Numerals.{add-one}
-use borrow.Author.Tests.{le-leb, lt-leb, eq-eqb, ne_eqb, eqb-true}
+use borrow.Author.Tests.{eq-eqb, eqb-true}
 use lib.Dec.{eqb}
-use lib.ListN.{length, drop, get_or, drop_of_length-le}
-use lib.Seq.{drop-cons}
+use lib.Pointwise.{pointwise}
+use Rattle.std.specs.Prelude.{IsTrue}
+use Rattle.std.specs.Char.{to_ascii_lowercase}
+use Rattle.std.proofs.lemmas.Bool.Decides.{nat_tests}
+use lib.ListN.{length, drop, drop_of_length-le}
 use Rattle.octets.specs.Believed.Choice.{both}
-use Rattle.octets.specs.Believed.Letters.{lower, same, same_bytes}
+use Rattle.octets.specs.Believed.Letters.{lower, same, same_bytes, same_letters}
 use Rattle.octets.proofs.ChoiceLaws.{both_false, both_parts}
-
--- only a capital letter has another small letter
-pub lower_below : (b : ℕ) → b < 65 → lower b ≡ b
-unfolding lower
-lower_below b h = rw (lt-leb 65 b h)
-
-pub lower_above : (b : ℕ) → 90 < b → lower b ≡ b
-unfolding lower
-lower_above b h = rw (le-leb 65 b (omega arith), lt-leb b 90 h)
-
-pub lower_capital : (b : ℕ) → 65 ≤ b → b ≤ 90 → lower b ≡ b + 32
-unfolding lower
-lower_capital b h k = rw (le-leb 65 b h, le-leb b 90 k)
 
 module _ (f : ℕ → ℕ) where
   -- texts of different lengths differ
@@ -59,20 +49,7 @@ module _ (f : ℕ → ℕ) where
   same_by_map (a ∷ x) [] = refl
   same_by_map (a ∷ x) (b ∷ y) = ap (λ t. both (eqb (f a) (f b)) t) (same_by_map x y)
 
-  module _ (x y : List ℕ) (i : ℕ) (h : i < length x) (k : i < length y) where
-    next : same f (drop i x) (drop i y) ≡ both (eqb (f (get_or x i 0)) (f (get_or y i 0))) (same f (drop (i + 1) x) (drop (i + 1) y))
-    unfolding same
-    next = rw (drop-cons x i 0 h, drop-cons y i 0 k, add-one)
-
-    -- from a byte that agrees the comparison goes on
-    pub byte_same : f (get_or x i 0) ≡ f (get_or y i 0) → same f (drop i x) (drop i y) ≡ same f (drop (i + 1) x) (drop (i + 1) y)
-    byte_same e = next ∙ rw (eq-eqb _ _ e)
-
-    -- at a byte that does not it ends
-    pub byte_differs : (f (get_or x i 0) ≡ f (get_or y i 0) → ⊥) → same f (drop i x) (drop i y) ≡ false
-    byte_differs n = next ∙ rw (ne_eqb _ _ n)
-
-  -- and at the end of both texts
+  -- at the end of both texts they agree
   pub both_end : (x y : List ℕ) (i : ℕ) → length x ≤ i → length y ≤ i → same f (drop i x) (drop i y) ≡ true
   unfolding same
   both_end x y i h k = rw (drop_of_length-le x h, drop_of_length-le y k)
@@ -80,3 +57,37 @@ module _ (f : ℕ → ℕ) where
 -- the same bytes are the same text
 pub same_bytes_lem : (x y : List ℕ) → same_bytes x y ≡ true → x ≡ y
 same_bytes_lem x y e = sym (map-id x) ∙ same_true (λ b. b) x y e ∙ map-id y
+
+-- ---- std's words
+
+-- its small letter is this one
+pub lower_ascii : (b : ℕ) → to_ascii_lowercase b ≡ lower b
+unfolding lower
+lower_ascii b = grind (arith, nat_tests)
+
+pub lowers_ascii : (x : List ℕ) → map to_ascii_lowercase x ≡ map lower x
+lowers_ascii [] = refl
+lowers_ascii (b ∷ x) = ap₂ (λ c z. c ∷ z) (lower_ascii b) (lowers_ascii x)
+
+both_and : (a b : Bool) → (a && b) ≡ both a b
+both_and true b = refl
+both_and false b = refl
+
+-- its equality of texts is this one
+pub equal_bytes : (x y : List ℕ) → pointwise eqb x y ≡ same_bytes x y
+unfolding same
+equal_bytes [] [] = refl
+equal_bytes [] (b ∷ y) = refl
+equal_bytes (a ∷ x) [] = refl
+equal_bytes (a ∷ x) (b ∷ y) = both_and (eqb a b) (pointwise eqb x y) ∙ ap (λ t. both (eqb a b) t) (equal_bytes x y)
+
+-- a test of equal small letters is this one
+pub decided : (r : Bool) (x y : List ℕ) → IsTrue r ↔ (map to_ascii_lowercase x ≡ map to_ascii_lowercase y) → r ≡ same_letters x y
+decided true x y i =
+    let e : map lower x ≡ map lower y = sym (lowers_ascii x) ∙ i.0 refl ∙ lowers_ascii y in
+    sym (same_by_map lower x y ∙ rw e (same_self (λ b. b) (map lower y)))
+decided false x y i = of (same_letters x y) refl
+  where
+    of : (t : Bool) → same_letters x y ≡ t → false ≡ same_letters x y
+    of false e = sym e
+    of true e = absurd (true≢false (sym (i.1 (lowers_ascii x ∙ same_true lower x y e ∙ sym (lowers_ascii y)))))

@@ -6,7 +6,7 @@ use native.Mathlib.Nat.{div-add-mod', div-lt_iff_lt-mul, pow-suc}
 use native.Mathlib.Numerals.{add-one}
 use native.Mathlib.Omega.{arith}
 use lib.Dec.{lit<}
-use lib.ListN.{length, take, drop, set, length-append, get_or-eq_default}
+use lib.ListN.{length, take, drop, length-append, get_or-eq_default}
 use lib.Seq.{sets, length-sets, drop-cons}
 use Rattle.octets.proofs.Parts.{part-sets}
 use Rattle.octets.specs.Believed.Stored.{bytes_of, bytes_at, number_from, number_at}
@@ -15,11 +15,6 @@ use Rattle.octets.specs.Believed.Stored.{bytes_of, bytes_at, number_from, number
 pub length-bytes_of : (width x : ℕ) → length (bytes_of width x) ≡ width
 length-bytes_of zero x = refl
 length-bytes_of (suc width) x = simp length-append (omega (arith, length-bytes_of width (x / 256)))
-
--- two stores are those of a number of two bytes
-pub two_stored : (table : List ℕ) (at x : ℕ) {after-high after-low : List ℕ} → after-high ≡ set table at (x / 256 % 256)
-    → after-low ≡ set after-high (at + 1) (x % 256) → after-low ≡ sets table at (bytes_of 2 x)
-two_stored table at x h l = l ∙ rw (h, add-one at)
 
 -- the last byte counts one
 pub number_last : (high : ℕ) (bytes : List ℕ) (b : ℕ) → number_from high (bytes ++ (b ∷ [])) ≡ number_from high bytes * 256 + b

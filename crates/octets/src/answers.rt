@@ -4,6 +4,13 @@ ghost use Rattle.octets.specs.Believed.Answers.{number_of, position_of, count_of
 
 use crate::numbers::{ACCEPTED, TOO_LITTLE_ROOM};
 
+// What is wrong, by document 01's number, and where.
+#[derive(Clone, Copy, PartialEq, Eq)]
+pub struct Fault {
+    pub number: u8,
+    pub position: usize,
+}
+
 #[derive(Clone, Copy)]
 pub enum Answer {
     // Accepted: the records or bytes written.

@@ -7,24 +7,12 @@ ghost use Rattle.octets.specs.Believed.Text.{crlf_at};
 pub fn is_white(b: u8) -> bool
     ensures { result ≡ is_white b }
 {
-    if b == b' ' {
-        return true;
-    }
-    b == b'\t'
+    matches!(b, b' ' | b'\t')
 }
 
 // Whether CR and LF stand at a position.
 pub fn is_crlf(text: &[u8], at: usize) -> bool
     ensures { result ≡ crlf_at text.now at }
 {
-    if text.len() <= at {
-        return false;
-    }
-    if text.len() - at < 2 {
-        return false;
-    }
-    if text[at] != b'\r' {
-        return false;
-    }
-    text[at + 1] == b'\n'
+    text.get(at) == Some(&b'\r') && text.get(at + 1) == Some(&b'\n')
 }

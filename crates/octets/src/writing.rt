@@ -1,49 +1,29 @@
 // Texts written into a lent part, and into one that is a window on a longer text.
-ghost use Rattle.std.specs.Prelude.{◌≡◌, [], ◌∷◌, min, take};
+ghost use Rattle.std.specs.Prelude.{◌≡◌, [], ◌∷◌, take};
 ghost use Rattle.std.proofs.lemmas.List.Edits.{sets};
 ghost use Rattle.octets.specs.Ties.Writing.{in_window};
 
 use crate::stored::store_byte;
 
-// Store the bytes of a text from a place on; past the end nothing is stored.
-pub fn store_bytes(out: &mut [u8], at: usize, text: &[u8])
-    ensures { out.new ≡ sets out.old at text.now }
-{
-    if out.len() <= at {
-        return;
-    }
-    let room = out.len() - at;
-    let mut i: usize = 0;
-    while i < text.len() {
-        if room <= i {
-            return;
-        }
-        out[at + i] = text[i];
-        i += 1;
-    }
-}
-
-// The smaller of two numbers.
-fn smaller(a: usize, b: usize) -> usize
-    ensures { result ≡ min a b }
-{
-    if a < b { a } else { b }
-}
-
 // Copy the first bytes of a slice to the front of a table; past the end of either nothing is copied.
 pub fn copy_front(table: &mut [u8], from: &[u8], many: usize)
     ensures { table.new ≡ sets table.old 0 (take many from.now) }
 {
-    let both = smaller(table.len(), from.len());
-    let end = smaller(many, both);
-    let mut i: usize = 0;
-    while i < end {
-        table[i] = from[i];
-        i += 1;
+    let end = many.min(table.len()).min(from.len());
+    table[..end].copy_from_slice(&from[..end]);
+}
+
+// Store the bytes of a text from a place on; past the end nothing is stored.
+pub fn store_bytes(out: &mut [u8], at: usize, text: &[u8])
+    ensures { out.new ≡ sets out.old at text.now }
+{
+    if at < out.len() {
+        copy_front(&mut out[at..], text, text.len());
     }
 }
 
 // Store the byte at place n of a text, if it lies in the window that starts at from.
+#[tactic(auto, unfolding(crate::specs::Ties::Writing::in_window))]
 pub fn store_byte_in(from: usize, out: &mut [u8], n: usize, b: u8)
     ensures { out.new ≡ in_window from out.old n (b ∷ []) }
 {

@@ -100,7 +100,7 @@ unfolding class_table class_of kind_of
 every_fits = tt
 
 no_other : (x y : Bool) → T (either x y) → x ≡ false → T y
-no_other true y t e = absurd (let z : ◌≡◌ {A = ℕ} 0 1 = cc in omega arith)
+no_other true y t e = absurd cc
 no_other false y t e = t
 
 -- past the table's end stands white space

@@ -1,6 +1,5 @@
 -- Symbols with the marks of a writable list have a derivation with its meaning. Assumes nothing.
 use Prim.Native.Nat.{ℕ}
-use native.Mathlib.Omega.{arith}
 use mathlib.Core.Path.{◌≡◌, refl, sym, ap, ap₂, ◌∙◌}
 use mathlib.Core.Bool.{Bool, true, false}
 use mathlib.Core.List.{List, [], ◌∷◌}
@@ -28,7 +27,7 @@ record Popped (c : Class) (bs : List ℕ) (xs : List Sym) (ms : List Mark) : Typ
   left : marks rest ≡ ms
 
 pop : (c : Class) (bs : List ℕ) (xs : List Sym) (ms : List Mark) → marks xs ≡ mark c bs ∷ ms → Popped c bs xs ms
-pop c bs [] ms e = absurd (let o : ◌≡◌ {A = ℕ} 0 1 = cc in omega arith)
+pop c bs [] ms e = absurd cc
 pop c bs (x ∷ xs) ms e =
     let q : x.class ≡ c = cc in
     record { lexeme = x.lexeme; rest = xs; is = ap (λ d. of d x.lexeme ∷ xs) q; text = cc; left = cc }
@@ -130,7 +129,7 @@ grow_gap : (name : Words) (l : Addresses) (xs : List Sym) (ms : List Mark) → m
 grow_gap no_word no_address xs ms e = no_lead no_word no_address xs ms e (λ z. refl)
 grow_gap (and_word before w) no_address xs ms e = no_lead (and_word before w) no_address xs ms e (λ z. refl)
 grow_gap no_word (and_address l a) xs ms e = pick_lead (first_atom_group (and_address l a)) (and_address l a) xs ms refl e
-grow_gap (and_word before w) (and_address l a) xs ms e = no_lead (and_word before w) (and_address l a) xs ms e (λ z. absurd (let o : ◌≡◌ {A = ℕ} 0 1 = cc in omega arith))
+grow_gap (and_word before w) (and_address l a) xs ms e = no_lead (and_word before w) (and_address l a) xs ms e (λ z. absurd cc)
 
 record GrownList (l : Addresses) (r : Slot) (xs : List Sym) (ms : List Mark) : Type 0 where
   tree : AddressList
@@ -266,7 +265,7 @@ mutual
 
 no_marks : (xs : List Sym) → marks xs ≡ [] → xs ≡ []
 no_marks [] e = refl
-no_marks (x ∷ xs) e = absurd (let o : ◌≡◌ {A = ℕ} 0 1 = cc in omega arith)
+no_marks (x ∷ xs) e = absurd cc
 
 -- a derivation of the symbols with the meaning and its levels
 pub grown : (l : WritableList) (xs : List Sym) → marks xs ≡ list_marks l [] → (t : AddressList) × DerivedTree t xs × (list_meaning t ≡ list_of l) × (list_levels t ≡ addresses_depth (list_of l))

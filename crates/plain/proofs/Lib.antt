@@ -12,3 +12,4 @@ pub mod WalkSteps
 pub mod TextBounds
 pub mod PlainLaws
 pub mod CanWrite
+pub mod Sinks

@@ -1,6 +1,5 @@
 -- The plain text of a writable meaning scans without fault to the symbols that it is to have. Assumes nothing.
 use Prim.Native.Nat.{ℕ, ◌+◌}
-use native.Mathlib.Omega.{arith}
 use mathlib.Core.Path.{◌≡◌, refl, sym, ap, ◌∙◌}
 use mathlib.Core.Bool.{Bool, true, false}
 use mathlib.Core.List.{List, [], ◌∷◌, ◌++◌, append_assoc, append-nil}
@@ -157,7 +156,7 @@ atom_ends (b ∷ r) p s e t (by_byte v h n) =
 
 not_return : (x : Bool) (class : ℕ) → pick x (kind_of [] 13) (kind_of_class class) ≡ kind_of_class letter → x ≡ false
 unfolding kind_of
-not_return true class e = absurd (let o : ◌≡◌ {A = ℕ} 0 1 = cc in omega arith)
+not_return true class e = absurd cc
 not_return false class e = refl
 
 plain_no_fold : (b : ℕ) (r : List ℕ) → IsPlain b → fold_at (b ∷ r) 0 ≡ false

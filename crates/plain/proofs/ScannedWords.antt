@@ -1,6 +1,5 @@
 -- The words among the symbols of any text are writable, and so is the meaning of a derivation of them. Assumes nothing.
 use Prim.Native.Nat.{ℕ, zero, suc, ◌+◌}
-use native.Mathlib.Omega.{arith}
 use mathlib.Core.Path.{◌≡◌, refl, ap, ap₂}
 use mathlib.Core.Bool.{Bool, true, false}
 use mathlib.Core.List.{List, [], ◌∷◌, ◌++◌}
@@ -65,8 +64,8 @@ KnownAll (character b p folded ∷ cs) = Known b (character_kind class_table b f
 -- SPACE and HTAB
 white_byte : (b : ℕ) → (b ≡ 32) ⊎ (b ≡ 9) → Known b (kind_of_class white)
 unfolding kind_of class_table class_of
-white_byte b (inl e) = record { view = is_white; plain = λ q. absurd (let o : ◌≡◌ {A = ℕ} 0 1 = cc in omega arith); data_is = λ q. rw e tt }
-white_byte b (inr e) = record { view = is_white; plain = λ q. absurd (let o : ◌≡◌ {A = ℕ} 0 1 = cc in omega arith); data_is = λ q. rw e tt }
+white_byte b (inl e) = record { view = is_white; plain = λ q. absurd cc; data_is = λ q. rw e tt }
+white_byte b (inr e) = record { view = is_white; plain = λ q. absurd cc; data_is = λ q. rw e tt }
 
 white_known : (b : ℕ) → classes.is_white b ≡ true → Known b (kind_of_class white)
 white_known b e = white_byte b (⊎_elim (λ z. inl (eqb-true _ _ z)) (λ z. inr (eqb-true _ _ z)) (either_parts (eqb b 32) (eqb b 9) e))

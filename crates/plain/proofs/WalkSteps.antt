@@ -4,31 +4,29 @@ use mathlib.Core.Bool.{Bool, false}
 use mathlib.Core.List.{List, [], ◌∷◌}
 use Prim.Native.Nat.{ℕ, suc, ◌+◌, ◌*◌, ◌-◌, ◌≤◌, ◌<◌}
 use native.Mathlib.Omega.{arith}
-use lib.ListN.{length, get_or}
+use lib.ListN.{length}
 use lib.Seq.{sets}
 use types.Run.{OneOf, miss}
 use denote.Enum.Declared.{tag_of}
 use Rattle.octets.specs.Ties.Writing.{Wrote}
-use Rattle.octets.proofs.Writes.{wrote_nothing, wrote_both}
 use Rattle.scanner.specs.contracts.Class.{the_type as class-type}
 use Rattle.scanner.specs.contracts.Next.{the_type as next-type}
-use Rattle.scanner.specs.contracts.cursor.Ahead.{the_type as ahead-type}
 use Rattle.grammar.specs.Believed.Rfc733.{same_class}
 use Rattle.addresses.proofs.ClassCases.{by_class_not}
 use Rattle.scanner.specs.Believed.Scanning.{Scanned, ended, next, fault_at, symbols_of, scan_by}
 use Rattle.scanner.specs.Believed.Answers.{found_at, next_of}
 use Rattle.scanner.specs.declared.Class.{Class}
-use Rattle.scanner.specs.declared.Class.TheVariants.{Atom, Quoted, At, LessThan, GreaterThan, Comma, Semicolon, Colon, Stray, Dot, Literal}
+use Rattle.scanner.specs.declared.Class.TheVariants.{Colon}
 use Rattle.scanner.specs.declared.Next.{Next}
 use Rattle.scanner.specs.declared.Next.TheVariants.{Found, Ended, Fault}
+use Rattle.scanner.specs.declared.cursor.Cursor.{Cursor}
 use Rattle.scanner.specs.declared.cursor.Ahead.{Ahead}
 use Rattle.scanner.specs.declared.cursor.Ahead.TheVariants.{Symbol, End, Faulty}
-use Rattle.scanner.specs.Ties.Cursors.{ahead_of, next_from, apart_in, next_in}
+use Rattle.scanner.specs.Ties.Cursors.{next_from, apart_in, next_in}
 use Rattle.scanner.specs.Ties.Meanings.{meaning_at}
 use Rattle.scanner.proofs.Unfolding.{SymbolAt, Unfolded, no_symbol, a_symbol, a_fault, unfolded, found}
-use Rattle.plain.specs.Ties.Walking.{gap_text, symbol_text, after, colon_next, walk_text, text_from, written_text}
+use Rattle.plain.specs.Ties.Walking.{symbol_text, after, colon_next, walk_text, text_from, written_text}
 use Rattle.plain.specs.Ties.Writing.{text_limit, is_colon, colon_ahead}
-use Rattle.plain.specs.declared.places.Gap.{Gap}
 use Rattle.plain.specs.declared.places.Place.{Place}
 use Rattle.plain.specs.declared.places.Place.TheVariants.{Start}
 
@@ -44,21 +42,6 @@ colon_of (fault_at number p) = refl
 pub not_colon : (class : Class) → OneOf (0 ∷ 1 ∷ 2 ∷ 3 ∷ 4 ∷ 5 ∷ 6 ∷ 8 ∷ 9 ∷ 10 ∷ []) (tag_of class-type class) → false ≡ same_class Colon class
 not_colon class o = sym (by_class_not (0 ∷ 1 ∷ 2 ∷ 3 ∷ 4 ∷ 5 ∷ 6 ∷ 8 ∷ 9 ∷ 10 ∷ []) (same_class Colon) tt class o)
 
--- what fits no rule is not written, and the place stays
-pub unwritten : (class : Class) → OneOf (8 ∷ 9 ∷ 10 ∷ []) (tag_of class-type class) → (meaning : List ℕ) (place : Place) (colon : Bool) (out : List ℕ) (n : ℕ)
-    → Wrote (symbol_text class meaning place colon) out n out n × (place ≡ after class place colon)
-unwritten Atom o meaning place colon out n = absurd (miss (8 ∷ 9 ∷ 10 ∷ []) 0 tt o)
-unwritten Quoted o meaning place colon out n = absurd (miss (8 ∷ 9 ∷ 10 ∷ []) 1 tt o)
-unwritten At o meaning place colon out n = absurd (miss (8 ∷ 9 ∷ 10 ∷ []) 2 tt o)
-unwritten LessThan o meaning place colon out n = absurd (miss (8 ∷ 9 ∷ 10 ∷ []) 3 tt o)
-unwritten GreaterThan o meaning place colon out n = absurd (miss (8 ∷ 9 ∷ 10 ∷ []) 4 tt o)
-unwritten Comma o meaning place colon out n = absurd (miss (8 ∷ 9 ∷ 10 ∷ []) 5 tt o)
-unwritten Semicolon o meaning place colon out n = absurd (miss (8 ∷ 9 ∷ 10 ∷ []) 6 tt o)
-unwritten Colon o meaning place colon out n = absurd (miss (8 ∷ 9 ∷ 10 ∷ []) 7 tt o)
-unwritten Stray o meaning place colon out n = (wrote_nothing _ _, refl)
-unwritten Dot o meaning place colon out n = (wrote_nothing _ _, refl)
-unwritten Literal o meaning place colon out n = (wrote_nothing _ _, refl)
-
 -- no symbol comes
 abbrev pub NoneComes : Next → Type 0
 NoneComes (Found symbol) = ⊥
@@ -70,35 +53,24 @@ none_comes (Found symbol) o = absurd (miss (1 ∷ 2 ∷ []) 0 tt o)
 none_comes Ended o = tt
 none_comes (Fault number p) o = tt
 
-pub not_found : (coming : Next) → OneOf (1 ∷ 2 ∷ []) (tag_of next-type coming) → false ≡ is_colon coming
-not_found (Found symbol) o = absurd (miss (1 ∷ 2 ∷ []) 0 tt o)
-not_found Ended o = refl
-not_found (Fault number p) o = refl
-
--- .. ahead of a cursor
-pub not_ahead : (a : Ahead) → OneOf (1 ∷ 2 ∷ []) (tag_of ahead-type a) → false ≡ colon_ahead a
-not_ahead (Symbol class) o = absurd (miss (1 ∷ 2 ∷ []) 0 tt o)
-not_ahead End o = refl
-not_ahead Faulty o = refl
-
-none_from : (a : Ahead) → OneOf (1 ∷ 2 ∷ []) (tag_of ahead-type a) → (start end size : ℕ) (apart : Bool) → NoneComes (next_from a start end size apart)
-none_from (Symbol class) o start end size apart = absurd (miss (1 ∷ 2 ∷ []) 0 tt o)
+-- no symbol stands ahead of a cursor
+none_from : (a : Ahead) → ((class : Class) → a ≡ Symbol class → ⊥) → (start end size : ℕ) (apart : Bool) → NoneComes (next_from a start end size apart)
+none_from (Symbol class) o start end size apart = absurd (o class refl)
 none_from End o start end size apart = tt
-none_from Faulty o start end size apart = tt
+none_from (Faulty number) o start end size apart = tt
 
 colon_from : (a : Ahead) (start end size : ℕ) (apart : Bool) → colon_ahead a ≡ is_colon (next_from a start end size apart)
 colon_from (Symbol class) start end size apart = refl
 colon_from End start end size apart = refl
-colon_from Faulty start end size apart = refl
+colon_from (Faulty number) start end size apart = refl
 
-module _ (cursor : List ℕ) {a : Ahead} (e : a ≡ ahead_of (get_or cursor 0 0)) where
-  pub none_ahead : OneOf (1 ∷ 2 ∷ []) (tag_of ahead-type a) → NoneComes (next_in cursor)
-  unfolding next_in
-  none_ahead o = rw (sym e) (none_from a o (get_or cursor 1 0) (get_or cursor 2 0) (get_or cursor 3 0) (apart_in cursor))
+pub none_ahead : (cursor : Cursor) → ((class : Class) → cursor.ahead ≡ Symbol class → ⊥) → NoneComes (next_in cursor)
+unfolding next_in
+none_ahead cursor o = none_from cursor.ahead o cursor.start cursor.end cursor.length (apart_in cursor)
 
-  pub colon_in : {colon : Bool} → colon ≡ colon_ahead a → colon ≡ is_colon (next_in cursor)
-  unfolding next_in
-  colon_in c = rw (sym e) (c ∙ colon_from a (get_or cursor 1 0) (get_or cursor 2 0) (get_or cursor 3 0) (apart_in cursor))
+pub colon_in : (cursor : Cursor) {colon : Bool} → colon ≡ colon_ahead cursor.ahead → colon ≡ is_colon (next_in cursor)
+unfolding next_in
+colon_in cursor e = e ∙ colon_from cursor.ahead cursor.start cursor.end cursor.length (apart_in cursor)
 
 nothing_of : (place : Place) (s : Scanned) → NoneComes (next_of s) → walk_text place (symbols_of s) ≡ []
 unfolding symbols_of
@@ -133,11 +105,6 @@ pub behind_less : {classes text : List ℕ} {at : ℕ} {class : Class} {first en
     → later ≡ next_of (scan_by classes text end) → behind (length text) later < behind (length text) coming
 behind_less {end = end} x e k = behind_falls end x (omega arith) e k
 
--- ---- a gap, and what stands after it
-
-pub wrote_gap : {gap gap' : Gap} {g : List ℕ → List ℕ} {o p q : List ℕ} {n m k : ℕ} → gap ≡ gap' → Wrote (gap_text gap) o n p m → Wrote g p m q k → Wrote (λ rest. gap_text gap' (g rest)) o n q k
-wrote_gap {gap} {gap'} {g} e a b = wrote_both {f = gap_text gap'} {g = g} (rw e at a) b
-
 -- ---- the loop
 
 -- the walk has come to a position from which `coming` is next: n bytes are written, and the text from there on is left
@@ -145,12 +112,11 @@ pub record Coming (classes text : List ℕ) (start : ℕ) (out₀ out : List ℕ
   pub at : ℕ
   pub is : coming ≡ next_of (scan_by classes text at)
   pub counted : n ≤ 4294967296 * at
-  pub same_length : length out ≡ length out₀
   pub same : sets out₀ 0 (written_text classes text start) ≡ sets out n (text_from classes text place at)
   pub count : length (written_text classes text start) ≡ n + length (text_from classes text place at)
 
 pub coming_first : (classes text : List ℕ) (start : ℕ) (out : List ℕ) {coming : Next} → coming ≡ next_of (scan_by classes text start) → Coming classes text start out out 0 Start coming
-coming_first classes text start out e = record { at = start; is = e; counted = omega arith; same_length = refl; same = refl; count = omega arith }
+coming_first classes text start out e = record { at = start; is = e; counted = omega arith; same = refl; count = omega arith }
 
 module _ {classes text : List ℕ} {start : ℕ} {out₀ out : List ℕ} {n : ℕ} {place : Place} {coming : Next} (l : Coming classes text start out₀ out n place coming) where
   -- the symbol that comes
@@ -159,10 +125,10 @@ module _ {classes text : List ℕ} {start : ℕ} {out₀ out : List ℕ} {n : �
 
   -- it is written
   pub coming_next : {class : Class} {first end size : ℕ} {apart : Bool} {later : Next} {colon : Bool} {out' : List ℕ} {n' : ℕ} {place' : Place} → coming ≡ found_at class first end size apart → length text ≤ text_limit
-      → later ≡ next_of (scan_by classes text end) → colon ≡ is_colon later → length out' ≡ length out
+      → later ≡ next_of (scan_by classes text end) → colon ≡ is_colon later
       → Wrote (symbol_text class (meaning_at classes text class first end) place colon) out n out' n' → n' ≤ n + 2 * length text + 3 → place' ≡ after class place colon
       → Coming classes text start out₀ out' n' place' later
-  coming_next {class} {first} {end} {colon = colon} {place' = place'} e h k c s w b p =
+  coming_next {class} {first} {end} {colon = colon} {place' = place'} e h k c w b p =
       let x = comes e in
       let q : colon ≡ colon_next (symbols_of (scan_by classes text end)) = c ∙ ap is_colon k ∙ colon_of (scan_by classes text end) in
       let t : text_from classes text place l.at ≡ symbol_text class (meaning_at classes text class first end) place colon (text_from classes text place' end) =
@@ -171,7 +137,6 @@ module _ {classes text : List ℕ} {start : ℕ} {out₀ out : List ℕ} {n : �
         at = end;
         is = k;
         counted = omega (arith, l.counted, x.from, x.starts);
-        same_length = s ∙ l.same_length;
         same = l.same ∙ ap (sets out n) t ∙ w.same (text_from classes text place' end);
         count = l.count ∙ ap (λ u. n + length u) t ∙ w.count (text_from classes text place' end);
       }

@@ -1,6 +1,5 @@
 -- The walk over the symbols of a derived list writes its plain text. Assumes nothing.
 use Prim.Native.Nat.{ℕ}
-use native.Mathlib.Omega.{arith}
 use mathlib.Core.Path.{◌≡◌, refl, sym, ap, ◌∙◌}
 use mathlib.Core.Bool.{Bool, true, false}
 use mathlib.Core.List.{List, [], ◌∷◌, ◌++◌}
@@ -178,7 +177,7 @@ clear_word namely trees.empty x h = refl
 clear_word k (comma l t) x h = spot_word k (list_meaning l) x
 
 bare_word : (x : Bool) (r : List ℕ) → pick x Typing Word ≡ Word → gap_text (gap_before Bare x) r ≡ pick x (bytes ", ") (bytes " ") ++ r
-bare_word true r h = absurd (let o : ◌≡◌ {A = ℕ} 0 1 = cc in omega arith)
+bare_word true r h = absurd cc
 bare_word false r h = refl
 
 bare_comma : (x : Bool) (r : List ℕ) → gap_text (gap_before BareComma x) r ≡ pick x (bytes ", ") (bytes " ") ++ r

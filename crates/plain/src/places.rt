@@ -4,7 +4,7 @@ ghost use Rattle.plain.specs.Ties.Walking.{gap_before, gap_before_colon, after_a
 
 use scanner::Class;
 
-#[derive(Clone, Copy)]
+#[derive(Clone, Copy, PartialEq, Eq)]
 pub enum Place {
     // At the start of a list, or after "<", and commas.
     Start,
@@ -27,93 +27,58 @@ pub enum Place {
 }
 
 // What stands before a symbol.
-#[derive(Clone, Copy)]
+#[derive(Clone, Copy, PartialEq, Eq)]
 pub enum Gap {
     Nothing,
     Space,
     CommaSpace,
 }
 
-// What stands before a word or "<"; colon: the word is an atom and ":" comes next.
-pub(crate) fn gap_before(place: Place, colon: bool) -> Gap
-    ensures { result ≡ gap_before place colon }
-{
-    match place {
-        Place::Start => Gap::Nothing,
-        Place::Bare => {
-            if colon {
-                return Gap::Nothing;
-            }
-            Gap::Space
+impl Place {
+    // What stands before a word or "<"; colon: the word is an atom and ":" comes next.
+    pub(crate) fn gap_before(self, colon: bool) -> Gap
+        ensures { result ≡ gap_before self colon }
+    {
+        match self {
+            Place::Bare if colon => Gap::Nothing,
+            Place::BareComma if colon => Gap::CommaSpace,
+            Place::Start | Place::Typing | Place::Closed => Gap::Nothing,
+            Place::Bare | Place::BareComma | Place::Named | Place::Word | Place::Node => Gap::Space,
+            Place::Parted => Gap::CommaSpace,
         }
-        Place::BareComma => {
-            if colon {
-                return Gap::CommaSpace;
-            }
-            Gap::Space
+    }
+
+    // What stands before ":".
+    pub(crate) fn gap_before_colon(self) -> Gap
+        ensures { result ≡ gap_before_colon self }
+    {
+        match self {
+            Place::Bare | Place::BareComma | Place::Named => Gap::Space,
+            Place::Parted => Gap::CommaSpace,
+            _ => Gap::Nothing,
         }
-        Place::Named => Gap::Space,
-        Place::Typing => Gap::Nothing,
-        Place::Word => Gap::Space,
-        Place::Node => Gap::Space,
-        Place::Closed => Gap::Nothing,
-        Place::Parted => Gap::CommaSpace,
+    }
+
+    // The place after ":".
+    pub(crate) fn after_colon(self) -> Place
+        ensures { result ≡ after_colon self }
+    {
+        match self {
+            Place::Typing | Place::Word => Place::Named,
+            _ => Place::Bare,
+        }
     }
 }
 
-// What stands before ":".
-pub(crate) fn gap_before_colon(place: Place) -> Gap
-    ensures { result ≡ gap_before_colon place }
-{
-    match place {
-        Place::Start => Gap::Nothing,
-        Place::Bare => Gap::Space,
-        Place::BareComma => Gap::Space,
-        Place::Named => Gap::Space,
-        Place::Typing => Gap::Nothing,
-        Place::Word => Gap::Nothing,
-        Place::Node => Gap::Nothing,
-        Place::Closed => Gap::Nothing,
-        Place::Parted => Gap::CommaSpace,
-    }
-}
+// ---- what `expansion` calls, too: these names and parameters stay
 
 // The place after an atom.
 pub fn after_atom(place: Place, colon: bool) -> Place
     ensures { result ≡ after_atom place colon }
 {
     match place {
-        Place::Start => Place::Word,
-        Place::Bare => {
-            if colon {
-                return Place::Typing;
-            }
-            Place::Word
-        }
-        Place::BareComma => Place::Word,
-        Place::Named => Place::Word,
-        Place::Typing => Place::Word,
-        Place::Word => Place::Word,
-        Place::Node => Place::Word,
-        Place::Closed => Place::Word,
-        Place::Parted => Place::Word,
-    }
-}
-
-// The place after ":".
-pub(crate) fn after_colon(place: Place) -> Place
-    ensures { result ≡ after_colon place }
-{
-    match place {
-        Place::Start => Place::Bare,
-        Place::Bare => Place::Bare,
-        Place::BareComma => Place::Bare,
-        Place::Named => Place::Bare,
-        Place::Typing => Place::Named,
-        Place::Word => Place::Named,
-        Place::Node => Place::Bare,
-        Place::Closed => Place::Bare,
-        Place::Parted => Place::Bare,
+        Place::Bare if colon => Place::Typing,
+        _ => Place::Word,
     }
 }
 
@@ -122,15 +87,9 @@ pub fn after_comma(place: Place) -> Place
     ensures { result ≡ after_comma place }
 {
     match place {
-        Place::Start => Place::Start,
-        Place::Bare => Place::BareComma,
-        Place::BareComma => Place::BareComma,
-        Place::Named => Place::Named,
-        Place::Typing => Place::Parted,
-        Place::Word => Place::Parted,
-        Place::Node => Place::Parted,
-        Place::Closed => Place::Parted,
-        Place::Parted => Place::Parted,
+        Place::Start | Place::Named => place,
+        Place::Bare | Place::BareComma => Place::BareComma,
+        Place::Typing | Place::Word | Place::Node | Place::Closed | Place::Parted => Place::Parted,
     }
 }
 
@@ -143,10 +102,9 @@ pub fn after(class: Class, place: Place, colon: bool) -> Place
         Class::Quoted => Place::Word,
         Class::At => Place::Node,
         Class::LessThan => Place::Start,
-        Class::GreaterThan => Place::Closed,
+        Class::GreaterThan | Class::Semicolon => Place::Closed,
         Class::Comma => after_comma(place),
-        Class::Semicolon => Place::Closed,
-        Class::Colon => after_colon(place),
+        Class::Colon => place.after_colon(),
         Class::Stray | Class::Dot | Class::Literal => place,
     }
 }

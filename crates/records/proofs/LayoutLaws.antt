@@ -1,14 +1,12 @@
--- The bytes of a record: how many they are, how they are stored part by part, and that numbers which fit their parts are read back from
--- them. Assumes nothing.
+-- The bytes of a record: how many they are, and that numbers which fit their parts are read back from them. Assumes nothing.
 use mathlib.Core.Path.{◌≡◌, refl, sym, ap, ap₂, ◌∙◌}
 use mathlib.Core.List.{List, [], ◌∷◌, ◌++◌, append_assoc}
 use Prim.Native.Nat.{ℕ, zero, suc, ◌+◌, ◌^◌, ◌≤◌, ◌<◌}
 use native.Mathlib.Omega.{arith}
 use lib.ListN.{length, length-append, get_or-append}
-use lib.Seq.{sets, get_or-append-add}
+use lib.Seq.{get_or-append-add}
 use Rattle.octets.specs.Believed.Stored.{bytes_at, number_from}
-use Rattle.octets.proofs.Parts.{sets-append}
-use Rattle.octets.proofs.StoredLaws.{length-bytes_of, number_bytes_of, number_out}
+use Rattle.octets.proofs.StoredLaws.{length-bytes_of, number_bytes_of}
 use Rattle.records.specs.Believed.Layout.{Part, byte, number, width_of, part_bytes, size_of, bytes_by, numbers_from}
 
 -- ---- how many bytes
@@ -21,26 +19,6 @@ pub length_by : (parts : List Part) (xs : List ℕ) → length (bytes_by parts x
 length_by [] xs = refl
 length_by (part ∷ parts) [] = omega (arith, length-append (part_bytes part 0) (bytes_by parts []), length_part part 0, length_by parts [])
 length_by (part ∷ parts) (x ∷ xs) = omega (arith, length-append (part_bytes part x) (bytes_by parts xs), length_part part x, length_by parts xs)
-
--- ---- stored part by part
-
--- the numbers are stored one after the other, from an offset on, each at the place of its part
-abbrev pub Stores : List Part → List ℕ → ℕ → List ℕ → ℕ → List ℕ → Type 0
-Stores [] xs offset before at after = after ≡ before
-Stores (part ∷ parts) [] offset before at after = ⊥
-Stores (part ∷ parts) (x ∷ xs) offset before at after =
-    (next : List ℕ) × (next ≡ sets before (at + offset) (part_bytes part x)) × Stores parts xs (offset + width_of part) next at after
-
-stores_from : (parts : List Part) (xs : List ℕ) (offset : ℕ) (before : List ℕ) (at : ℕ) (after : List ℕ) → Stores parts xs offset before at after → after ≡ sets before (at + offset) (bytes_by parts xs)
-stores_from [] xs offset before at after e = e
-stores_from (part ∷ parts) [] offset before at after e = absurd e
-stores_from (part ∷ parts) (x ∷ xs) offset before at after (next, e, more) =
-    let q : at + (offset + width_of part) ≡ at + offset + length (part_bytes part x) = omega (arith, length_part part x) in
-    stores_from parts xs (offset + width_of part) next at after more ∙ rw (e, q) (sym (sets-append (part_bytes part x) (bytes_by parts xs) before (at + offset)))
-
--- .. so the bytes of all of them are stored
-pub stored_by : (parts : List Part) (xs before : List ℕ) (at : ℕ) (after : List ℕ) → Stores parts xs 0 before at after → after ≡ sets before at (bytes_by parts xs)
-stored_by parts xs before at after s = let z : at + 0 ≡ at = omega arith in rw z at (stores_from parts xs 0 before at after s)
 
 -- ---- read back
 
@@ -100,19 +78,3 @@ module _ (table run : List ℕ) (at : ℕ) (same : (width k : ℕ) → k + width
   -- the numbers of a record whose bytes stand at a place of a table
   pub numbers_back : (parts : List Part) (xs : List ℕ) → Fit parts xs → run ≡ bytes_by parts xs → numbers_from parts 0 table at ≡ xs
   numbers_back parts xs f e = back_from [] parts xs f e 0 refl
-
--- ---- past the end of a table
-
-abbrev pub zeros : List Part → List ℕ
-zeros [] = []
-zeros (part ∷ parts) = 0 ∷ zeros parts
-
--- stand zeros
-pub numbers_out : (parts : List Part) (table : List ℕ) (at offset : ℕ) → length table ≤ at → numbers_from parts offset table at ≡ zeros parts
-numbers_out [] table at offset h = refl
-numbers_out (part ∷ parts) table at offset h =
-    ap₂ (λ y ys. y ∷ ys) (number_out (width_of part) table (at + offset) (omega arith)) (numbers_out parts table at (offset + width_of part) h)
-
--- .. so at two places past it stands the same
-pub same_out : (parts : List Part) (table : List ℕ) (at at' : ℕ) → length table ≤ at → length table ≤ at' → numbers_from parts 0 table at ≡ numbers_from parts 0 table at'
-same_out parts table at at' h h' = numbers_out parts table at 0 h ∙ sym (numbers_out parts table at' 0 h')

@@ -6,7 +6,7 @@ pub mod field;
 pub mod positions;
 
 // Where a name, a body or an address starts and ends.
-#[derive(Clone, Copy)]
+#[derive(Clone, Copy, Default)]
 pub struct Span {
     pub start: usize,
     pub end: usize,

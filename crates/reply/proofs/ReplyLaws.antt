@@ -1,14 +1,14 @@
 -- When a Reply-To body is left for From's. Assumes nothing.
 use borrow.Author.Tests.{le-leb, lt-leb}
-use mathlib.Core.Path.{◌≡◌}
+use mathlib.Core.Path.{◌≡◌, refl}
 use mathlib.Core.Bool.{true, false}
 use mathlib.Core.List.{List}
 use Prim.Native.Nat.{ℕ, ◌≤◌, ◌<◌}
 use lib.ListN.{length}
 use Rattle.octets.specs.Believed.Numbers.{message_limit}
-use Rattle.scanner.specs.Believed.Symbols.{Symbol}
 use Rattle.scanner.specs.Believed.Scanning.{Scanned, ended, next, fault_at, scan}
-use Rattle.scanner.specs.declared.Class.{Class}
+use Rattle.scanner.specs.Believed.Answers.{next_of}
+use Rattle.scanner.specs.declared.Next.TheVariants.{Ended}
 use Rattle.reply.specs.Believed.Reply.{left_for_from}
 
 module _ (reply : List ℕ) where
@@ -18,8 +18,8 @@ module _ (reply : List ℕ) where
   pub nothing : length reply ≤ message_limit → scan reply 0 ≡ ended → left_for_from reply ≡ true
   nothing h e = rw (le-leb (length reply) message_limit h, e)
 
-  pub a_symbol : length reply ≤ message_limit → {x : Symbol Class} {rest : Scanned} → scan reply 0 ≡ next x rest → left_for_from reply ≡ false
-  a_symbol h e = rw (le-leb (length reply) message_limit h, e)
-
-  pub a_fault : length reply ≤ message_limit → {number p : ℕ} → scan reply 0 ≡ fault_at number p → left_for_from reply ≡ false
-  a_fault h e = rw (le-leb (length reply) message_limit h, e)
+  -- a symbol or a fault
+  pub something : length reply ≤ message_limit → (s : Scanned) → scan reply 0 ≡ s → (next_of s ≡ Ended → ⊥) → left_for_from reply ≡ false
+  something h ended e n = absurd (n refl)
+  something h (next x rest) e n = rw (le-leb (length reply) message_limit h, e)
+  something h (fault_at number p) e n = rw (le-leb (length reply) message_limit h, e)

@@ -13,23 +13,12 @@ use scanner::Next;
 pub fn left_for_from(reply: &[u8]) -> bool
     ensures { result ≡ left_for_from reply.now }
 {
-    if MESSAGE_LIMIT < reply.len() {
-        return false;
-    }
-    let classes = &CLASSES;
-    match scanner::next_by(classes, reply, 0) {
-        Next::Ended => true,
-        Next::Found(_) => false,
-        Next::Fault(_, _) => false,
-    }
+    reply.len() <= MESSAGE_LIMIT && matches!(scanner::next_by(&CLASSES, reply, 0), Next::Ended)
 }
 
 // One of the two lent bodies itself, whole: From's where Reply-To's is left for it, else Reply-To's. It refuses nothing.
 pub fn reply_body<'a>(reply: &'a [u8], from: &'a [u8]) -> &'a [u8]
     ensures { result ≡ pick (left_for_from reply.now) from.entry reply.entry }
 {
-    if left_for_from(reply) {
-        return from;
-    }
-    reply
+    if left_for_from(reply) { from } else { reply }
 }

@@ -22,9 +22,13 @@ use Rattle.scanner.specs.Believed.Scanning.{in_atom, in_quoted, go, scan_from, a
 use Rattle.scanner.specs.Ties.Steps.{outside_at, FirstCharacter, ReturnIsControl, plain_at, PlainEnds, DataPasses}
 use Rattle.scanner.specs.declared.ByteKind.{ByteKind}
 use Rattle.scanner.specs.declared.ByteKind.TheVariants.{Plain}
-use Rattle.scanner.proofs.KindLaws.{class_kind}
 use Rattle.scanner.proofs.CharacterLaws.{no_character, no_return, plain_first, fold_first}
 use Rattle.scanner.proofs.MoveLaws.{tag, moves, NotPlain, Data, quoted_data, part_more, atom_on, atom_ends, atom_last}
+
+-- a byte other than CR has the kind of its class
+class_kind : (classes : List ℕ) (b : ℕ) {class : ℕ} {kind : ByteKind} → (b ≡ return_byte → ⊥) → class ≡ get_or classes b 0 → kind ≡ kind_of_class class → kind ≡ kind_of classes b
+unfolding kind_of
+class_kind classes b n e k = k ∙ rw (ne_eqb b return_byte n, ← e)
 
 -- the kind of a class of the bytes of atoms
 pub plain_class : (class : ℕ) → letter ≤ class → Plain ≡ kind_of_class class

@@ -1,15 +1,12 @@
 -- What a byte is: by the symbol in which it lies, and between symbols by what scanning passes. Assumes nothing.
 use mathlib.Core.Path.{◌≡◌, refl, sym, ◌∙◌}
-use mathlib.Core.Bool.{Bool, false}
-use mathlib.Core.List.{List, [], ◌∷◌}
+use mathlib.Core.List.{List, []}
 use Prim.Native.Nat.{ℕ, ◌+◌, ◌-◌, ◌≤◌, ◌<◌}
 use native.Mathlib.Numerals.{add-one}
 use native.Mathlib.Omega.{arith}
 use borrow.Author.Tests.{lt-ltb, le-ltb, lt-leb, le-leb}
 use lib.Dec.{leb}
 use lib.ListN.{get_or, take}
-use types.Run.{OneOf, miss}
-use denote.Enum.Declared.{tag_of}
 use Rattle.octets.specs.Believed.Classes.{class_table}
 use Rattle.octets.specs.Believed.Text.{part}
 use Rattle.octets.specs.declared.answers.Answer.TheVariants.{Refused}
@@ -22,47 +19,19 @@ use Rattle.scanner.specs.Ties.Steps.{FirstCharacter}
 use Rattle.scanner.specs.Ties.Gaps.{state_of, GapCategoryIs, PassedIs}
 use Rattle.scanner.specs.declared.Gap.{Gap}
 use Rattle.scanner.specs.declared.Gap.TheVariants.{Outside, Comment, Taking}
-use Rattle.scanner.specs.declared.Passed.TheVariants.{To, Over}
+use Rattle.std.specs.Prelude.{None, Some}
 use Rattle.scanner.specs.declared.Class.{Class}
 use Rattle.scanner.specs.declared.Class.TheVariants.{Atom, Quoted, At, LessThan, GreaterThan, Comma, Semicolon, Colon, Stray, Dot, Literal}
 use Rattle.scanner.specs.declared.ByteKind.{ByteKind}
-use Rattle.scanner.specs.declared.ByteKind.TheVariants.{White, Control, Return, Plain, Open, Close, Quote, Backslash, Mark, Above, OpenBracket, CloseBracket}
+use Rattle.scanner.specs.declared.ByteKind.TheVariants.{Open, Close, Backslash}
 use Rattle.scanner.specs.declared.Category.{Category}
 use Rattle.scanner.specs.declared.Category.TheVariants as category
-use Rattle.scanner.specs.contracts.Class.{the_type}
 use Rattle.scanner.specs.Ties.Meanings.{meaning_at}
-use Rattle.scanner.specs.contracts.Gap as gap-declared
-use Rattle.scanner.proofs.MoveLaws.{tag, Text, Taken, taken, comment_text, closed_inner}
+use Rattle.scanner.proofs.MoveLaws.{Text, Taken, taken, comment_text, closed_inner}
 use Rattle.scanner.proofs.Unfolding.{SymbolAt}
 use Rattle.scanner.proofs.BodyChecks.{Clean, when_clean, when_refused}
 
--- ---- in a symbol: the classes that an arm of the code stands for
-
-pub word_symbol_lem : (class : Class) (t : List ℕ) → OneOf (0 ∷ 1 ∷ []) (tag_of the_type class) → category.Word ≡ of_symbol class t
-word_symbol_lem Atom t o = refl
-word_symbol_lem Quoted t o = refl
-word_symbol_lem At t o = absurd (miss (0 ∷ 1 ∷ []) 2 tt o)
-word_symbol_lem LessThan t o = absurd (miss (0 ∷ 1 ∷ []) 3 tt o)
-word_symbol_lem GreaterThan t o = absurd (miss (0 ∷ 1 ∷ []) 4 tt o)
-word_symbol_lem Comma t o = absurd (miss (0 ∷ 1 ∷ []) 5 tt o)
-word_symbol_lem Semicolon t o = absurd (miss (0 ∷ 1 ∷ []) 6 tt o)
-word_symbol_lem Colon t o = absurd (miss (0 ∷ 1 ∷ []) 7 tt o)
-word_symbol_lem Stray t o = absurd (miss (0 ∷ 1 ∷ []) 8 tt o)
-word_symbol_lem Dot t o = absurd (miss (0 ∷ 1 ∷ []) 9 tt o)
-word_symbol_lem Literal t o = absurd (miss (0 ∷ 1 ∷ []) 10 tt o)
-
-pub mark_symbol : (class : Class) (t : List ℕ) → OneOf (3 ∷ 4 ∷ 5 ∷ 6 ∷ 7 ∷ 9 ∷ 10 ∷ []) (tag_of the_type class) → category.Mark ≡ of_symbol class t
-mark_symbol Atom t o = absurd (miss (3 ∷ 4 ∷ 5 ∷ 6 ∷ 7 ∷ 9 ∷ 10 ∷ []) 0 tt o)
-mark_symbol Quoted t o = absurd (miss (3 ∷ 4 ∷ 5 ∷ 6 ∷ 7 ∷ 9 ∷ 10 ∷ []) 1 tt o)
-mark_symbol At t o = absurd (miss (3 ∷ 4 ∷ 5 ∷ 6 ∷ 7 ∷ 9 ∷ 10 ∷ []) 2 tt o)
-mark_symbol LessThan t o = refl
-mark_symbol GreaterThan t o = refl
-mark_symbol Comma t o = refl
-mark_symbol Semicolon t o = refl
-mark_symbol Colon t o = refl
-mark_symbol Stray t o = absurd (miss (3 ∷ 4 ∷ 5 ∷ 6 ∷ 7 ∷ 9 ∷ 10 ∷ []) 8 tt o)
-mark_symbol Dot t o = refl
-mark_symbol Literal t o = refl
+-- ---- in a symbol
 
 -- the bytes of a symbol tell as much as its meaning
 by_place : (classes text : List ℕ) (class : Class) (start end : ℕ) → of_symbol class (meaning_at classes text class start end) ≡ of_symbol class (part text start end)
@@ -77,26 +46,6 @@ by_place classes text Colon start end = refl
 by_place classes text Stray start end = refl
 by_place classes text Dot start end = refl
 by_place classes text Literal start end = refl
-
--- ---- between symbols
-
--- a byte that begins a symbol or is a fault
-abbrev pub NoGap : ByteKind → Type 0
-NoGap kind = OneOf (1 ∷ 2 ∷ 3 ∷ 5 ∷ 6 ∷ 7 ∷ 8 ∷ 9 ∷ 10 ∷ 11 ∷ []) (tag kind)
-
-leads_nowhere : (kind : ByteKind) (b p : ℕ) (folded : Bool) (rest : State → Category) → NoGap kind → (taken_in outside kind ≡ category.Nothing) × (behind (move outside kind b p folded) rest ≡ category.Nothing)
-leads_nowhere White b p folded rest o = absurd (miss (1 ∷ 2 ∷ 3 ∷ 5 ∷ 6 ∷ 7 ∷ 8 ∷ 9 ∷ 10 ∷ 11 ∷ []) 0 tt o)
-leads_nowhere Control b p folded rest o = (refl, refl)
-leads_nowhere Return b p folded rest o = (refl, refl)
-leads_nowhere Plain b p folded rest o = (refl, refl)
-leads_nowhere Open b p folded rest o = absurd (miss (1 ∷ 2 ∷ 3 ∷ 5 ∷ 6 ∷ 7 ∷ 8 ∷ 9 ∷ 10 ∷ 11 ∷ []) 4 tt o)
-leads_nowhere Close b p folded rest o = (refl, refl)
-leads_nowhere Quote b p folded rest o = (refl, refl)
-leads_nowhere Backslash b p folded rest o = (refl, refl)
-leads_nowhere (Mark class) b p folded rest o = (refl, refl)
-leads_nowhere Above b p folded rest o = (refl, refl)
-leads_nowhere OpenBracket b p folded rest o = (refl, refl)
-leads_nowhere CloseBracket b p folded rest o = (refl, refl)
 
 -- ---- one character on
 
@@ -124,9 +73,6 @@ pub record Walked (classes text : List ℕ) (place at p : ℕ) (gap : Gap) : Typ
   pub outermost : ℕ
   pub same : between classes place (characters_at text at) outside ≡ between classes place (characters_at text p) (state_of gap outermost)
 
-pub walked_none : (classes text : List ℕ) (place at : ℕ) → Walked classes text place at at Outside
-walked_none classes text place at = record { outermost = 0; same = refl }
-
 module _ {classes text : List ℕ} {place at p : ℕ} {gap : Gap} (w : Walked classes text place at p gap) where
   pub walk_over : characters_at text p ≡ [] → category.Nothing ≡ between classes place (characters_at text at) outside
   walk_over e = sym (w.same ∙ over classes text p place (state_of gap w.outermost) e)
@@ -134,72 +80,35 @@ module _ {classes text : List ℕ} {place at p : ℕ} {gap : Gap} (w : Walked cl
   pub walk_tells : {kind : ByteKind} {here q : ℕ} {r : Category} → FirstCharacter classes text p kind here q → place < q → GapCategoryIs gap kind r → r ≡ between classes place (characters_at text at) outside
   walk_tells x h e = e w.outermost ∙ sym (w.same ∙ tells x (state_of gap w.outermost) place h)
 
-  pub walk_ends : {kind : ByteKind} {here q : ℕ} → FirstCharacter classes text p kind here q → q ≤ place → PassedIs gap kind Over → category.Nothing ≡ between classes place (characters_at text at) outside
+  pub walk_ends : {kind : ByteKind} {here q : ℕ} → FirstCharacter classes text p kind here q → q ≤ place → PassedIs gap kind None → category.Nothing ≡ between classes place (characters_at text at) outside
   walk_ends {here = here} x h e = sym (w.same ∙ moves_on x (state_of gap w.outermost) place h ∙ e w.outermost (get_or text here 0) here x.folded _)
 
-  pub walk_on : {kind : ByteKind} {here q : ℕ} {next : Gap} → FirstCharacter classes text p kind here q → q ≤ place → PassedIs gap kind (To next) → Walked classes text place at q next
+  pub walk_on : {kind : ByteKind} {here q : ℕ} {next : Gap} → FirstCharacter classes text p kind here q → q ≤ place → PassedIs gap kind (Some next) → Walked classes text place at q next
   walk_on {here = here} x h e =
       let l = e w.outermost (get_or text here 0) here x.folded in
       record { outermost = l.outermost; same = w.same ∙ moves_on x (state_of gap w.outermost) place h ∙ l.same _ }
 
 -- ---- where each character leads
 
--- outside: white space, a comment, or no longer between symbols
-pub white_passed : PassedIs Outside White (To Outside)
-white_passed start b p folded = record { outermost = start; same = λ rest. refl }
-
-pub open_passed : PassedIs Outside Open (To (Comment 0))
+-- outside
+pub open_passed : PassedIs Outside Open (Some (Comment 0))
 open_passed start b p folded = record { outermost = p; same = λ rest. refl }
 
-pub none_passed : (kind : ByteKind) → NoGap kind → PassedIs Outside kind Over
-none_passed kind o start b p folded rest = (leads_nowhere kind b p folded rest o).1
-
 -- in a comment
-pub deeper : (depth : ℕ) → PassedIs (Comment depth) Open (To (Comment (depth + 1)))
+pub deeper : (depth : ℕ) → PassedIs (Comment depth) Open (Some (Comment (depth + 1)))
 deeper depth start b p folded = record { outermost = start; same = λ rest. rw add-one }
 
-pub closes_all : (depth : ℕ) → depth ≡ 0 → PassedIs (Comment depth) Close (To Outside)
-closes_all depth e start b p folded = record { outermost = start; same = λ rest. rw e }
-
-pub closes_one : (depth : ℕ) → (depth ≡ 0 → ⊥) → PassedIs (Comment depth) Close (To (Comment (depth - 1)))
+pub closes_one : (depth : ℕ) → (depth ≡ 0 → ⊥) → PassedIs (Comment depth) Close (Some (Comment (depth - 1)))
 closes_one depth n start b p folded = record { outermost = start; same = λ rest. rw (closed_inner depth start n) }
 
-pub takes_next : (depth : ℕ) → PassedIs (Comment depth) Backslash (To (Taking depth))
+pub takes_next : (depth : ℕ) → PassedIs (Comment depth) Backslash (Some (Taking depth))
 takes_next depth start b p folded = record { outermost = start; same = λ rest. refl }
 
-pub text_passed : (depth : ℕ) (kind : ByteKind) → Text kind → PassedIs (Comment depth) kind (To (Comment depth))
+pub text_passed : (depth : ℕ) (kind : ByteKind) → Text kind → PassedIs (Comment depth) kind (Some (Comment depth))
 text_passed depth kind o start b p folded = record { outermost = start; same = λ rest. rw (comment_text kind depth start b p folded o) }
 
-pub taken_passed : (depth : ℕ) (kind : ByteKind) → Taken kind → PassedIs (Taking depth) kind (To (Comment depth))
+pub taken_passed : (depth : ℕ) (kind : ByteKind) → Taken kind → PassedIs (Taking depth) kind (Some (Comment depth))
 taken_passed depth kind o start b p folded = record { outermost = start; same = λ rest. rw (taken kind (in_comment depth start) p o) }
-
-pub above_passed : (depth : ℕ) → PassedIs (Taking depth) Above Over
-above_passed depth start b p folded rest = refl
-
--- a CR or a byte above 127 is a fault there
-pub fault_passed : (depth : ℕ) (kind : ByteKind) → OneOf (2 ∷ 9 ∷ []) (tag kind) → PassedIs (Comment depth) kind Over
-fault_passed depth White o start b p folded rest = absurd (miss (2 ∷ 9 ∷ []) 0 tt o)
-fault_passed depth Control o start b p folded rest = absurd (miss (2 ∷ 9 ∷ []) 1 tt o)
-fault_passed depth Return o start b p folded rest = refl
-fault_passed depth Plain o start b p folded rest = absurd (miss (2 ∷ 9 ∷ []) 3 tt o)
-fault_passed depth Open o start b p folded rest = absurd (miss (2 ∷ 9 ∷ []) 4 tt o)
-fault_passed depth Close o start b p folded rest = absurd (miss (2 ∷ 9 ∷ []) 5 tt o)
-fault_passed depth Quote o start b p folded rest = absurd (miss (2 ∷ 9 ∷ []) 6 tt o)
-fault_passed depth Backslash o start b p folded rest = absurd (miss (2 ∷ 9 ∷ []) 7 tt o)
-fault_passed depth (Mark class) o start b p folded rest = absurd (miss (2 ∷ 9 ∷ []) 8 tt o)
-fault_passed depth Above o start b p folded rest = refl
-fault_passed depth OpenBracket o start b p folded rest = absurd (miss (2 ∷ 9 ∷ []) 10 tt o)
-fault_passed depth CloseBracket o start b p folded rest = absurd (miss (2 ∷ 9 ∷ []) 11 tt o)
-
--- what it is outside, where it is no white space and opens no comment
-pub none_told : (kind : ByteKind) → NoGap kind → GapCategoryIs Outside kind category.Nothing
-none_told kind o start = sym (leads_nowhere kind 0 0 false (λ state. category.Nothing) o).0
-
--- .. and in a comment
-pub comment_told : (gap : Gap) (kind : ByteKind) → OneOf (1 ∷ 2 ∷ []) (tag_of gap-declared.the_type gap) → GapCategoryIs gap kind category.Comment
-comment_told Outside kind o start = absurd (miss (1 ∷ 2 ∷ []) 0 tt o)
-comment_told (Comment depth) kind o start = refl
-comment_told (Taking depth) kind o start = refl
 
 -- ---- in a text
 

@@ -11,7 +11,6 @@ use borrow.Author.Tests.{eq-eqb, ne_eqb, eqb-true}
 use lib.Dec.{eqb}
 use lib.ListN.{length, drop, get_or, drop_of_length-le, get_or-eq_default}
 use lib.Seq.{get_or-drop}
-use Rattle.octets.specs.Believed.Classes.{is_white}
 use Rattle.octets.specs.Believed.Octets.{return_byte}
 use Rattle.octets.specs.Believed.Text.{crlf_at}
 use Rattle.octets.proofs.ChoiceLaws.{both_false, both_parts, either_parts}
@@ -85,12 +84,6 @@ return_kind classes b e = rw (eq-eqb b return_byte e)
 
 pub no_return : (text : List ℕ) (i : ℕ) → (get_or text i 0 ≡ 13 → ⊥) → fold_at text i ≡ false
 no_return text i n = rw (ne_eqb (get_or text i 0) 13 n)
-
-pub no_crlf : (text : List ℕ) (i : ℕ) → crlf_at text i ≡ false → fold_at text i ≡ false
-no_crlf text i e = rw e
-
-pub line_end : (text : List ℕ) (i : ℕ) → crlf_at text i ≡ true → fold_at text i ≡ is_white (get_or text (i + 2) 0)
-line_end text i e = rw e
 
 -- ---- the first character
 

@@ -4,78 +4,69 @@ use mathlib.Core.Bool.{true}
 use mathlib.Core.List.{List, [], ◌∷◌}
 use Prim.Native.Nat.{ℕ, ◌+◌, ◌-◌, ◌≤◌, ◌<◌}
 use native.Mathlib.Omega.{arith}
-use borrow.Author.Tests.{lt-leb, ltb-true, eqb-true}
-use lib.Dec.{eqb, leb, ltb, eqb→eq}
+use borrow.Author.Tests.{ltb-true, eqb-true}
+use lib.Dec.{ltb}
 use lib.ListN.{length, get_or}
 use types.Run.{hit}
-use Rattle.octets.specs.Believed.Choice.{either}
-use Rattle.octets.specs.Believed.Classes.{quote, white, close_bracket, letter, backslash}
+use Rattle.octets.specs.Believed.Classes.{quote, white, close_bracket, letter}
 use Rattle.octets.specs.Believed.Text.{part}
 use Rattle.octets.proofs.ChoiceLaws.{both_parts}
 use Rattle.octets.proofs.Parts.{part_length}
 use Rattle.octets.proofs.Tables.{at}
 use Rattle.scanner.specs.Believed.Kinds.{kind_of_class}
-use Rattle.scanner.specs.Believed.Scanning.{Scanned, outside, in_quoted, go, symbol, atom_class, parted, scan_by}
-use Rattle.scanner.specs.Believed.Answers.{next_of}
+use Rattle.scanner.specs.Believed.Scanning.{Scanned, ended, next, fault_at, outside, in_quoted, go, symbol, atom_class, parted}
+use Rattle.scanner.specs.Believed.Answers.{found_at, next_of}
 use Rattle.scanner.specs.Ties.Steps.{outside_at, FirstCharacter, ReturnIsControl, PlainEnds, DataPasses, quote_at}
-use Rattle.scanner.specs.Ties.Cursors.{class_number, end_number, placed, moved}
+use Rattle.scanner.specs.Ties.Cursors.{IsSingle, next_in, comes_at, MovesOn}
 use Rattle.scanner.specs.declared.Class.{Class}
 use Rattle.scanner.specs.declared.Class.TheVariants.{Quoted}
+use Rattle.scanner.specs.declared.cursor.Cursor.{Cursor}
+use Rattle.scanner.specs.declared.Next.{Next}
+use Rattle.scanner.specs.declared.Next.TheVariants.{Found, Ended, Fault}
 use Rattle.scanner.specs.declared.ByteKind.{ByteKind}
 use Rattle.scanner.specs.declared.ByteKind.TheVariants.{White, Control, Return, Plain, Open, Close, Quote, Backslash, Mark, Above, OpenBracket, CloseBracket}
 use Rattle.scanner.proofs.CharacterLaws.{no_character}
-use Rattle.scanner.proofs.PartedLaws.{moved_parted}
 use Rattle.scanner.proofs.MoveLaws.{at_end_lem, moves, atom_begins, mark_next, stray_next}
-use Rattle.scanner.proofs.ByteLaws.{classes_below, class_first, plain_byte}
+use Rattle.scanner.proofs.ByteLaws.{class_first, plain_byte}
 
--- a cursor stands as it did, and scanning outside has come from a position to another
-pub record Passing (classes text before cursor : List ℕ) (at p : ℕ) : Type 0 where
-  pub cursor_is : cursor ≡ before
+-- what is looked for from a position is looked for there, and scanning outside has come from it to another
+pub record Passing (classes text : List ℕ) (from at p : ℕ) : Type 0 where
+  pub looked : from ≡ at
   pub same : outside_at classes text at ≡ outside_at classes text p
 
--- it moves on to what comes next there
-pub moves_on : {classes text before cursor after : List ℕ} {at p : ℕ} → Passing classes text before cursor at p
-    → after ≡ moved (next_of (scan_by classes text p)) cursor → after ≡ moved (next_of (scan_by classes text at)) before
-moves_on {classes} {text} {before} {at = at} {p = p} w e = e ∙ rw (w.cursor_is, w.same) (moved_parted at p (outside_at classes text p) before)
+-- what comes next there comes next
+pub moves_on : {classes text : List ℕ} (before held : Cursor) {after : Cursor} {p : ℕ} → Passing classes text held.from before.end p → (next_in after ≡ comes_at classes text held.from p) × (after.from ≡ held.from) → MovesOn classes text before after
+moves_on before held w e = record { ahead = e.0 ∙ rw (w.looked, w.same); from = e.1 ∙ w.looked }
+
+-- what was looked for from a position, told as looked for from another
+abbrev pub told_from : ℕ → Next → Next
+told_from from (Found symbol) = found_at symbol.class symbol.start symbol.end symbol.length (ltb from symbol.start)
+told_from from Ended = Ended
+told_from from (Fault number p) = Fault number p
+
+pub looked_from : (from at : ℕ) (s : Scanned) {coming : Next} → coming ≡ next_of (parted at s) → told_from from coming ≡ next_of (parted from s)
+unfolding parted
+looked_from from at ended e = ap (told_from from) e
+looked_from from at (next x rest) e = ap (told_from from) e
+looked_from from at (fault_at number p) e = ap (told_from from) e
 
 -- ---- symbols of one byte
 
--- the number of the symbol that a byte of a kind is by itself, and 0 where it is none
-abbrev single_number : ByteKind → ℕ
-single_number White = 0
-single_number Control = 0
-single_number Return = 0
-single_number Plain = 0
-single_number Open = 0
-single_number Close = backslash
-single_number Quote = 0
-single_number Backslash = backslash
-single_number (Mark class) = class_number class
-single_number Above = 0
-single_number OpenBracket = 0
-single_number CloseBracket = backslash
-
--- a class above that of "]" that is none of atoms is this number itself, tested over all of them
-single_class : (class : ℕ) → close_bracket < class → class < letter → single_number (kind_of_class class) ≡ class
-single_class class h l =
-    eqb→eq (single_number (kind_of_class class)) class
-    (rw (lt-leb class close_bracket h) at (at (λ c n. either (leb c close_bracket) (eqb (single_number (kind_of_class c)) c)) classes_below 0 tt class (omega arith)))
-
-module _ {classes text : List ℕ} {p q : ℕ} (cursor : List ℕ) where
-  single_moves : (kind : ByteKind) → FirstCharacter classes text p kind p q → 0 < single_number kind → placed (single_number kind) p q 1 cursor ≡ moved (next_of (scan_by classes text p)) cursor
+module _ {classes text : List ℕ} {p q : ℕ} (from : ℕ) where
+  single_comes : (kind : ByteKind) {class : Class} → FirstCharacter classes text p kind p q → IsSingle kind class → found_at class p q 1 (ltb from p) ≡ comes_at classes text from p
   unfolding parted
-  single_moves White x h = absurd (omega arith)
-  single_moves Control x h = absurd (omega arith)
-  single_moves Return x h = absurd (omega arith)
-  single_moves Plain x h = absurd (omega arith)
-  single_moves Open x h = absurd (omega arith)
-  single_moves Close x h = ap (λ (s : Scanned). moved (next_of (parted p s)) cursor) (sym (stray_next x (hit (5 ∷ 7 ∷ 11 ∷ []) 5 tt)))
-  single_moves Quote x h = absurd (omega arith)
-  single_moves Backslash x h = ap (λ (s : Scanned). moved (next_of (parted p s)) cursor) (sym (stray_next x (hit (5 ∷ 7 ∷ 11 ∷ []) 7 tt)))
-  single_moves (Mark class) x h = ap (λ (s : Scanned). moved (next_of (parted p s)) cursor) (sym (mark_next x))
-  single_moves Above x h = absurd (omega arith)
-  single_moves OpenBracket x h = absurd (omega arith)
-  single_moves CloseBracket x h = ap (λ (s : Scanned). moved (next_of (parted p s)) cursor) (sym (stray_next x (hit (5 ∷ 7 ∷ 11 ∷ []) 11 tt)))
+  single_comes White x h = absurd h
+  single_comes Control x h = absurd h
+  single_comes Return x h = absurd h
+  single_comes Plain x h = absurd h
+  single_comes Open x h = absurd h
+  single_comes Close x h = rw h (ap (λ (s : Scanned). next_of (parted from s)) (sym (stray_next x (hit (5 ∷ 7 ∷ 11 ∷ []) 5 tt))))
+  single_comes Quote x h = absurd h
+  single_comes Backslash x h = rw h (ap (λ (s : Scanned). next_of (parted from s)) (sym (stray_next x (hit (5 ∷ 7 ∷ 11 ∷ []) 7 tt))))
+  single_comes (Mark mark) x h = rw h (ap (λ (s : Scanned). next_of (parted from s)) (sym (mark_next x)))
+  single_comes Above x h = absurd h
+  single_comes OpenBracket x h = absurd h
+  single_comes CloseBracket x h = rw h (ap (λ (s : Scanned). next_of (parted from s)) (sym (stray_next x (hit (5 ∷ 7 ∷ 11 ∷ []) 11 tt))))
 
 -- ---- by the byte at a position
 
@@ -84,29 +75,27 @@ module _ {classes : List ℕ} (cr : ReturnIsControl classes) (text : List ℕ) (
   pub white_passes : get_or classes (get_or text p 0) 0 ≡ white → outside_at classes text p ≡ outside_at classes text (p + 1)
   white_passes e = moves (class_first cr text p h {kind = White} (λ z. omega arith) (rw e)) outside (go [] outside) refl
 
-  -- a mark, or a stray backslash, has its class as its number
-  pub mark_moves : (cursor : List ℕ) → close_bracket < get_or classes (get_or text p 0) 0 → get_or classes (get_or text p 0) 0 < letter
-      → placed (get_or classes (get_or text p 0) 0) p (p + 1) 1 cursor ≡ moved (next_of (scan_by classes text p)) cursor
-  mark_moves cursor l m =
-      let e = single_class (get_or classes (get_or text p 0) 0) l m in
-      ap (λ (n : ℕ). placed n p (p + 1) 1 cursor) (sym e) ∙ single_moves cursor (kind_of_class (get_or classes (get_or text p 0) 0)) (class_first cr text p h (λ z. omega arith) refl) (rw e (omega arith))
+  -- a mark, or a stray backslash, is a symbol by itself
+  pub mark_comes : (from : ℕ) {class : Class} → close_bracket < get_or classes (get_or text p 0) 0 → IsSingle (kind_of_class (get_or classes (get_or text p 0) 0)) class
+      → found_at class p (p + 1) 1 (ltb from p) ≡ comes_at classes text from p
+  mark_comes from l s = single_comes from (kind_of_class (get_or classes (get_or text p 0) 0)) (class_first cr text p h (λ z. omega arith) refl) s
 
   -- an atom
-  pub atom_moves : (cursor : List ℕ) {end number : ℕ} {class : Class} → letter ≤ get_or classes (get_or text p 0) 0 → PlainEnds classes text (p + 1) end → class ≡ atom_class (part text p end) → number ≡ class_number class
-      → placed number p end (end - p) cursor ≡ moved (next_of (scan_by classes text p)) cursor
+  pub atom_comes : (from : ℕ) {end : ℕ} {class : Class} → letter ≤ get_or classes (get_or text p 0) 0 → PlainEnds classes text (p + 1) end → class ≡ atom_class (part text p end)
+      → found_at class p end (end - p) (ltb from p) ≡ comes_at classes text from p
   unfolding parted
-  atom_moves cursor {end} {number} l x e n =
-      ap (λ (size : ℕ). placed number p end size cursor) (sym (part_length text p end x.within))
-      ∙ rw (n, e) (ap (λ (s : Scanned). moved (next_of (parted p s)) cursor) (sym (atom_begins (plain_byte cr text p h l) ∙ (x.atom_from p (omega arith)).same)))
+  atom_comes from {end} {class} l x e =
+      ap (λ (size : ℕ). found_at class p end size (ltb from p)) (sym (part_length text p end x.within))
+      ∙ rw e (ap (λ (s : Scanned). next_of (parted from s)) (sym (atom_begins (plain_byte cr text p h l) ∙ (x.atom_from p (omega arith)).same)))
 
   -- a quoted-string whose data stand for themselves
-  pub quoted_moves : (cursor : List ℕ) {end : ℕ} → get_or classes (get_or text p 0) 0 ≡ quote → DataPasses classes text (p + 1) end → end < length text → get_or classes (get_or text end 0) 0 ≡ quote
-      → placed quote p (end + 1) (end - p - 1) cursor ≡ moved (next_of (scan_by classes text p)) cursor
+  pub quoted_comes : (from : ℕ) {end : ℕ} → get_or classes (get_or text p 0) 0 ≡ quote → DataPasses classes text (p + 1) end → end < length text → get_or classes (get_or text end 0) 0 ≡ quote
+      → found_at Quoted p (end + 1) (end - p - 1) (ltb from p) ≡ comes_at classes text from p
   unfolding parted
-  quoted_moves cursor {end} e x k f =
+  quoted_comes from {end} e x k f =
       let n : end - p - 1 ≡ length (part text (p + 1) end) = sym (part_length text (p + 1) end x.within ∙ omega arith) in
       rw n
-      (ap (λ (s : Scanned). moved (next_of (parted p s)) cursor)
+      (ap (λ (s : Scanned). next_of (parted from s))
       (sym
       (moves (class_first cr text p h {kind = Quote} (λ z. omega arith) (rw e)) outside (go [] (in_quoted p [])) refl
       ∙ x.same p
@@ -119,6 +108,6 @@ quote_there classes text i e =
     (ltb-true i (length text) two.0, eqb-true (get_or classes (get_or text i 0) 0) quote two.1)
 
 -- the text ends
-pub end_moves : (classes text : List ℕ) (p : ℕ) (cursor : List ℕ) → length text ≤ p → placed end_number 0 0 0 cursor ≡ moved (next_of (scan_by classes text p)) cursor
+pub end_comes : (classes text : List ℕ) (from p : ℕ) → length text ≤ p → Ended ≡ comes_at classes text from p
 unfolding parted
-end_moves classes text p cursor h = ap (λ (s : Scanned). moved (next_of (parted p s)) cursor) (sym (at_end_lem classes text p outside (no_character text p h)))
+end_comes classes text from p h = ap (λ (s : Scanned). next_of (parted from s)) (sym (at_end_lem classes text p outside (no_character text p h)))

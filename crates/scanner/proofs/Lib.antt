@@ -1,14 +1,15 @@
 -- Laws of scanning.
-pub mod KindLaws
 pub mod CharacterLaws
 pub mod MoveLaws
 pub mod PartedLaws
+pub mod InsideLaws
 pub mod ByteLaws
 pub mod CursorMoves
 pub mod Meanings
 pub mod OnlyMeanings
 pub mod Unfolding
 pub mod Spans
+pub mod FirstLaws
 pub mod BodyChecks
 pub mod Examples
 pub mod SymbolExamples
@@ -18,4 +19,3 @@ pub mod CategoryLaws
 pub mod EveryCategory
 pub mod ApartLaws
 pub mod CategoryExamples
-pub mod CursorLaws

@@ -6,19 +6,18 @@ use Prim.Native.Nat.{ℕ, ◌+◌, ◌≤◌, ◌<◌}
 use native.Mathlib.Decide.{dec_lt}
 use native.Mathlib.Omega.{arith}
 use lib.ListN.{length, get_or}
-use types.Run.{OneOf, miss}
 use Rattle.octets.specs.Believed.Octets.{return_byte, line_feed_byte}
 use Rattle.scanner.specs.Believed.Characters.{Character, character, fold_at, characters_at}
 use Rattle.scanner.specs.Believed.Scanning.{taken_data}
 use Rattle.scanner.specs.Ties.Steps.{FirstCharacter}
 use Rattle.scanner.specs.Ties.Meanings.{inside, taking, over, Walk, data_of, walked, data_from, data_at, taken_datum, first_or, datum_from, datum_at}
 use Rattle.scanner.specs.declared.Datum.{Datum}
-use Rattle.scanner.specs.declared.Datum.TheVariants.{Byte, LineEnd, Over}
+use Rattle.scanner.specs.declared.Datum.TheVariants.{Byte, LineEnd}
+use Rattle.std.specs.Prelude.{Option, None, Some}
 use Rattle.scanner.specs.declared.ByteKind.{ByteKind}
 use Rattle.scanner.specs.declared.ByteKind.TheVariants.{White, Control, Return, Plain, Open, Close, Quote, Backslash, Mark, Above, OpenBracket, CloseBracket}
 use Rattle.scanner.proofs.CharacterLaws.{no_character, plain_at, fold_within, fold_at_lem, View, one, view}
 use Rattle.scanner.proofs.CharacterLaws as characters
-use Rattle.scanner.proofs.MoveLaws.{tag}
 
 -- ---- one step of the walk
 
@@ -27,19 +26,19 @@ abbrev pub AsData : ByteKind → Type 0
 AsData kind = (b : ℕ) (folded : Bool) → (data_of inside kind b folded ≡ b ∷ []) × (walked inside kind ≡ inside)
 
 -- any but the closing quote and a backslash
-pub as_data : (kind : ByteKind) → OneOf (0 ∷ 1 ∷ 2 ∷ 3 ∷ 4 ∷ 5 ∷ 8 ∷ 9 ∷ 10 ∷ 11 ∷ []) (tag kind) → AsData kind
-as_data White o b folded = (refl, refl)
-as_data Control o b folded = (refl, refl)
-as_data Return o b folded = (refl, refl)
-as_data Plain o b folded = (refl, refl)
-as_data Open o b folded = (refl, refl)
-as_data Close o b folded = (refl, refl)
-as_data Quote o b folded = absurd (miss (0 ∷ 1 ∷ 2 ∷ 3 ∷ 4 ∷ 5 ∷ 8 ∷ 9 ∷ 10 ∷ 11 ∷ []) 6 tt o)
-as_data Backslash o b folded = absurd (miss (0 ∷ 1 ∷ 2 ∷ 3 ∷ 4 ∷ 5 ∷ 8 ∷ 9 ∷ 10 ∷ 11 ∷ []) 7 tt o)
-as_data (Mark class) o b folded = (refl, refl)
-as_data Above o b folded = (refl, refl)
-as_data OpenBracket o b folded = (refl, refl)
-as_data CloseBracket o b folded = (refl, refl)
+pub as_data : (kind : ByteKind) → (kind ≡ Quote → ⊥) → (kind ≡ Backslash → ⊥) → AsData kind
+as_data White n m b folded = (refl, refl)
+as_data Control n m b folded = (refl, refl)
+as_data Return n m b folded = (refl, refl)
+as_data Plain n m b folded = (refl, refl)
+as_data Open n m b folded = (refl, refl)
+as_data Close n m b folded = (refl, refl)
+as_data Quote n m b folded = absurd (n refl)
+as_data Backslash n m b folded = absurd (m refl)
+as_data (Mark class) n m b folded = (refl, refl)
+as_data Above n m b folded = (refl, refl)
+as_data OpenBracket n m b folded = (refl, refl)
+as_data CloseBracket n m b folded = (refl, refl)
 
 -- after the closing quote there are none
 data_over : (classes : List ℕ) (cs : List Character) → data_from classes over cs ≡ []
@@ -66,7 +65,7 @@ module _ {classes text : List ℕ} {at p q : ℕ} {kind : ByteKind} (x : FirstCh
   pub data_on : AsData kind → data_at classes text at ≡ get_or text p 0 ∷ data_at classes text q
   data_on d = let (e, w) = d (get_or text p 0) x.folded in step inside ∙ rw (e, w)
 
-  pub datum_on : AsData kind → datum_at classes text at ≡ Byte (get_or text p 0) q
+  pub datum_on : AsData kind → datum_at classes text at ≡ Some (Byte (get_or text p 0) q)
   datum_on d = datum_step ∙ rw ((d (get_or text p 0) x.folded).0, x.behind)
 
   pub data_taken : data_from classes taking (characters_at text at) ≡ taken_data (get_or text p 0) x.folded ++ data_at classes text q
@@ -84,11 +83,11 @@ module _ {classes text : List ℕ} {at p q : ℕ} where
   pub data_quote : FirstCharacter classes text at Quote p q → data_at classes text at ≡ []
   data_quote x = step x inside ∙ data_over classes (characters_at text q)
 
-  pub datum_quote : FirstCharacter classes text at Quote p q → datum_at classes text at ≡ Over
+  pub datum_quote : FirstCharacter classes text at Quote p q → datum_at classes text at ≡ None
   datum_quote x = datum_step x
 
 -- the text ends
-pub datum_end : (classes text : List ℕ) (at : ℕ) → characters_at text at ≡ [] → datum_at classes text at ≡ Over
+pub datum_end : (classes text : List ℕ) (at : ℕ) → characters_at text at ≡ [] → datum_at classes text at ≡ None
 unfolding datum_from
 datum_end classes text at e = rw e
 
@@ -104,10 +103,10 @@ pub record DataFirst (classes text : List ℕ) (at : ℕ) (these : List ℕ) (q 
   pub passed : at + length these ≤ q
   pub within : q ≤ length text
 
-abbrev pub DatumIs : List ℕ → List ℕ → ℕ → Datum → Type 0
-DatumIs classes text at (Byte b q) = DataFirst classes text at (b ∷ []) q
-DatumIs classes text at (LineEnd b q) = DataFirst classes text at (return_byte ∷ line_feed_byte ∷ b ∷ []) q
-DatumIs classes text at Over = data_at classes text at ≡ []
+abbrev pub DatumIs : List ℕ → List ℕ → ℕ → Option Datum → Type 0
+DatumIs classes text at (Some (Byte b q)) = DataFirst classes text at (b ∷ []) q
+DatumIs classes text at (Some (LineEnd b q)) = DataFirst classes text at (return_byte ∷ line_feed_byte ∷ b ∷ []) q
+DatumIs classes text at None = data_at classes text at ≡ []
 
 module _ (classes text : List ℕ) where
   module _ {at p q : ℕ} where

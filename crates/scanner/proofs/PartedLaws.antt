@@ -1,11 +1,9 @@
 -- What it changes to be told which symbols stand apart: no fault, and of a symbol nothing else. Assumes nothing.
 use mathlib.Core.Path.{◌≡◌, refl}
-use mathlib.Core.List.{List}
 use Prim.Native.Nat.{ℕ}
 use Rattle.octets.specs.declared.answers.Answer.TheVariants.{Accepted, Refused}
 use Rattle.scanner.specs.Believed.Scanning.{Scanned, ended, next, fault_at, parted}
-use Rattle.scanner.specs.Believed.Answers.{next_of, unless_fault, fault_of}
-use Rattle.scanner.specs.Ties.Cursors.{moved}
+use Rattle.scanner.specs.Believed.Answers.{unless_fault, fault_of}
 
 -- the first fault is the same
 pub same_fault : {A : Type 0} (refused : ℕ → ℕ → A) (from : ℕ) (s : Scanned) (otherwise : A) → unless_fault refused (parted from s) otherwise ≡ unless_fault refused s otherwise
@@ -16,10 +14,3 @@ same_fault refused from (fault_at number p) otherwise = refl
 
 pub fault_parted : (from : ℕ) (s : Scanned) → fault_of (parted from s) ≡ fault_of s
 fault_parted from s = same_fault Refused from s (Accepted 0)
-
--- a cursor moves on to the same places
-pub moved_parted : (from p : ℕ) (s : Scanned) (cursor : List ℕ) → moved (next_of (parted p s)) cursor ≡ moved (next_of (parted from s)) cursor
-unfolding parted
-moved_parted from p ended cursor = refl
-moved_parted from p (next x rest) cursor = refl
-moved_parted from p (fault_at number q) cursor = refl

@@ -1,17 +1,19 @@
 // The symbols of a structured body.
 //
-// The class table goes by reference through every function that looks at bytes.
+// The class table and the text go by reference through every function that looks at bytes. They are no struct: the public
+// functions take the two apart from one another, so each would build it anew, and every clause would be longer by it.
+// A loop over characters or symbols goes on where the last one ended, so it counts no index that a `for` could count.
 #![tactic(auto)]
 
-ghost use Rattle.std.specs.Prelude.{◌≡◌, ◌+◌, ◌≤◌, ◌<◌, [], length};
+ghost use Rattle.std.specs.Prelude.{◌≡◌, ◌+◌, ◌≤◌, ◌<◌, [], length, Ok};
 ghost use Rattle.scanner.specs.Believed.Kinds.{kind_of};
 ghost use Rattle.scanner.specs.Believed.Characters.{fold_at, characters_at};
 ghost use Rattle.scanner.specs.Believed.Scanning.{outside, in_atom, in_quoted, in_literal, atom_class, scan_from, scan_by};
 ghost use Rattle.octets.specs.Believed.Answers.{told};
 ghost use Rattle.octets.specs.declared.answers.Answer.TheVariants.{Accepted, Refused};
-ghost use Rattle.scanner.specs.Believed.Answers.{body_checked, found_at, next_of, next_told, next_in_body, fault_of, scanned_by, body_scanned};
+ghost use Rattle.scanner.specs.Believed.Answers.{body_checked, next_of, next_told, next_in_body, fault_of, scanned_by, body_scanned};
 ghost use Rattle.scanner.specs.Believed.Categories.{of_symbol, between, category_of, category_at};
-ghost use Rattle.scanner.specs.Ties.Steps.{FirstIs, StepIs, AtomEnds, ReturnIsControl, plain_at, PlainEnds, CommentIs, Faultless, FaultsFrom};
+ghost use Rattle.scanner.specs.Ties.Steps.{symbol_of, first_of, FirstIs, CharacterIs, TakenIs, InsideIs, AtomEnds, ReturnIsControl, plain_at, PlainEnds, CommentIs, Faultless, FaultlessIs, FaultsFrom};
 ghost use Rattle.scanner.specs.Ties.Meanings.{taken_datum, datum_at};
 ghost use Rattle.scanner.specs.Ties.Gaps.{gap_depth, GapCategoryIs, PassedIs, PassedLow};
 ghost use Rattle.scanner.specs.declared.Gap.TheVariants.{Comment as comment_gap};
@@ -20,7 +22,7 @@ ghost use Rattle.octets.specs.Ties.Writing.{count_limit};
 
 pub mod cursor;
 
-use octets::answers::Answer;
+use octets::answers::{Answer, Fault};
 use octets::classes::CLASSES;
 use octets::numbers::{
     BODY_OUT_OF_ORDER, BYTE_ABOVE_127, COMMENT_NOT_CLOSED, LITERAL_NOT_CLOSED, MESSAGE_LIMIT,
@@ -28,7 +30,7 @@ use octets::numbers::{
 };
 
 // The classes of symbols: the words, "at" and "@", the marks of the address rules, and a symbol that fits no rule.
-#[derive(Clone, Copy)]
+#[derive(Clone, Copy, PartialEq, Eq)]
 pub enum Class {
     Atom,
     Quoted,
@@ -45,7 +47,7 @@ pub enum Class {
 
 // A symbol: its class; its place, from its first byte to the position after its last; the length of its meaning in bytes; and
 // whether it stands apart: white space or a comment stands right before it.
-#[derive(Clone, Copy)]
+#[derive(Clone, Copy, PartialEq, Eq)]
 pub struct Symbol {
     pub class: Class,
     pub start: usize,
@@ -62,17 +64,16 @@ pub enum Next {
     Fault(u8, usize),
 }
 
-// The next of the data of a quoted-string, with the position after it: a byte; or CR and LF, which a backslash took, and the
-// white space that follows them; or that the string is over.
-#[derive(Clone, Copy)]
+// One of the data of a quoted-string, with the position after it: a byte; or CR and LF, which a backslash took, and the white
+// space that follows them.
+#[derive(Clone, Copy, PartialEq, Eq)]
 pub enum Datum {
     Byte(u8, usize),
     LineEnd(u8, usize),
-    Over,
 }
 
 // What a byte of a body is: white space, comment, part of a word, "at", a bracket or mark, or nothing of these.
-#[derive(Clone, Copy)]
+#[derive(Clone, Copy, PartialEq, Eq)]
 pub enum Category {
     White,
     Comment,
@@ -83,7 +84,7 @@ pub enum Category {
 }
 
 // What the scanner tells apart in a byte.
-#[derive(Clone, Copy)]
+#[derive(Clone, Copy, PartialEq, Eq)]
 enum ByteKind {
     White,
     Control,
@@ -99,36 +100,24 @@ enum ByteKind {
     CloseBracket,
 }
 
-// The next character: its kind, its position and the position after it.
-#[derive(Clone, Copy)]
-enum Step {
-    Done,
-    Byte(ByteKind, usize, usize),
-}
-
-// A comment: the position after it, or the fault in it.
-#[derive(Clone, Copy)]
-enum Comment {
-    Past(usize),
-    Open(u8, usize),
+// A character: its kind, its position and the position after it.
+#[derive(Clone, Copy, PartialEq, Eq)]
+struct Character {
+    kind: ByteKind,
+    here: usize,
+    next: usize,
 }
 
 // Where scanning stands between symbols: outside, in a comment that lies in so many others, or there after a backslash.
-#[derive(Clone, Copy)]
+#[derive(Clone, Copy, PartialEq, Eq)]
 enum Gap {
     Outside,
     Comment(usize),
     Taking(usize),
 }
 
-// After a character: still between symbols, or no longer.
-#[derive(Clone, Copy)]
-enum Passed {
-    To(Gap),
-    Over,
-}
-
 // The kind of a byte.
+#[tactic(auto, unfolding(crate::specs::Believed::Kinds::kind_of))]
 fn kind_of(classes: &[u8; 256], b: u8) -> ByteKind
     ensures { result ≡ kind_of classes.now b }
 {
@@ -162,33 +151,37 @@ fn folds(text: &[u8], at: usize) -> bool
     requires { at < length text.now }
     ensures { result ≡ fold_at text.now at }
 {
-    if text[at] != b'\r' {
-        return false;
-    }
-    if text.len() - at < 3 {
-        return false;
-    }
-    if text[at + 1] != b'\n' {
-        return false;
-    }
-    octets::lines::is_white(text[at + 2])
+    text[at] == b'\r'
+        && 3 <= text.len() - at
+        && text[at + 1] == b'\n'
+        && octets::lines::is_white(text[at + 2])
 }
 
 // The first character at or after a position, folds dropped.
-fn character(classes: &[u8; 256], text: &[u8], at: usize) -> Step
-    ensures { StepIs classes.now text.now at result }
+fn character_at(classes: &[u8; 256], text: &[u8], at: usize) -> Option<Character>
+    ensures { CharacterIs classes.now text.now at result }
 {
-    if text.len() <= at {
-        return Step::Done;
-    }
-    if text[at] != b'\r' {
-        return Step::Byte(kind_of(classes, text[at]), at, at + 1);
+    let b = *text.get(at)?;
+    // the kind first of all but CR, which kind_of would tell too: a quarter fewer instructions (callgrind)
+    if b != b'\r' {
+        return Some(Character {
+            kind: kind_of(classes, b),
+            here: at,
+            next: at + 1,
+        });
     }
     if folds(text, at) {
-        Step::Byte(ByteKind::White, at + 2, at + 3)
-    } else {
-        Step::Byte(ByteKind::Return, at, at + 1)
+        return Some(Character {
+            kind: ByteKind::White,
+            here: at + 2,
+            next: at + 3,
+        });
     }
+    Some(Character {
+        kind: ByteKind::Return,
+        here: at,
+        next: at + 1,
+    })
 }
 
 // The end of an atom that has run from start up to a position, by any table of classes.
@@ -197,15 +190,13 @@ fn atom_end_any(classes: &[u8; 256], text: &[u8], start: usize, at: usize) -> us
     ensures { AtomEnds classes.now text.now start at result }
 {
     let mut p = at;
-    loop {
-        let Step::Byte(kind, here, q) = character(classes, text, p) else {
+    while let Some(Character { kind, next, .. }) = character_at(classes, text, p) {
+        if kind != ByteKind::Plain {
             return p;
-        };
-        match kind {
-            ByteKind::Plain => p = q,
-            _ => return p,
         }
+        p = next;
     }
+    p
 }
 
 // Whether the class of the byte at a position is one that atoms are made of.
@@ -216,33 +207,20 @@ fn plain_at(classes: &[u8; 256], text: &[u8], at: usize) -> bool
     octets::classes::LETTER <= octets::classes::class_in(classes, text[at])
 }
 
-// The end of an atom that has run up to a position after which three bytes stand at most.
+// The end of an atom that has run up to a position, by a table of classes in which CR is a control byte.
 fn plain_last(classes: &[u8; 256], text: &[u8], at: usize) -> usize
-    requires { (at ≤ length text.now) × (length text.now ≤ at + 3) × ReturnIsControl classes.now }
+    requires { (at ≤ length text.now) × ReturnIsControl classes.now }
     ensures { PlainEnds classes.now text.now at result }
 {
-    if text.len() <= at {
-        return at;
+    for p in at..text.len() {
+        if !plain_at(classes, text, p) {
+            return p;
+        }
     }
-    if !plain_at(classes, text, at) {
-        return at;
-    }
-    if text.len() <= at + 1 {
-        return at + 1;
-    }
-    if !plain_at(classes, text, at + 1) {
-        return at + 1;
-    }
-    if text.len() <= at + 2 {
-        return at + 2;
-    }
-    if !plain_at(classes, text, at + 2) {
-        return at + 2;
-    }
-    at + 3
+    text.len()
 }
 
-// The end of an atom that has run up to a position, four bytes a turn, by a table of classes in which CR is a control byte.
+// .. four bytes a turn: by plain_last alone a list of long mailboxes takes 22 % more instructions (callgrind)
 fn plain_end(classes: &[u8; 256], text: &[u8], at: usize) -> usize
     requires { (at ≤ length text.now) × ReturnIsControl classes.now }
     ensures { PlainEnds classes.now text.now at result }
@@ -291,210 +269,237 @@ fn atom_class(text: &[u8], start: usize, end: usize) -> Class
 }
 
 // The atom that has run from start up to a position.
-fn atom_from(classes: &[u8; 256], text: &[u8], start: usize, at: usize, apart: bool) -> Next
+fn atom_from(classes: &[u8; 256], text: &[u8], start: usize, at: usize, apart: bool) -> Symbol
     requires { (start ≤ at) × (at ≤ length text.now) }
-    ensures { FirstIs apart start (scan_from classes.now (characters_at text.now at) (in_atom start at (part text.now start at))) result }
+    ensures { FirstIs apart start (scan_from classes.now (characters_at text.now at) (in_atom start at (part text.now start at))) (Ok result) }
 {
     let end = atom_end(classes, text, start, at);
     let class = atom_class(text, start, end);
     let length = end - start;
-    Next::Found(Symbol {
+    Symbol {
         class,
         start,
         end,
         length,
         apart,
-    })
+    }
 }
 
 // The symbol of one byte.
-fn one_byte(class: Class, start: usize, end: usize, apart: bool) -> Next
-    ensures { result ≡ found_at class start end 1 apart }
+fn one_byte(class: Class, start: usize, end: usize, apart: bool) -> Symbol
+    ensures { result ≡ symbol_of class start end 1 apart }
 {
-    Next::Found(Symbol {
+    Symbol {
         class,
         start,
         end,
         length: 1,
         apart,
-    })
+    }
+}
+
+// The position after the character that a backslash takes, or the fault there: where the text ends, `unclosed`.
+fn taken(classes: &[u8; 256], text: &[u8], at: usize, unclosed: Fault) -> Result<usize, Fault>
+    ensures { TakenIs classes.now text.now at unclosed result }
+{
+    let Character { kind, here, next } = character_at(classes, text, at).ok_or(unclosed)?;
+    if kind == ByteKind::Above {
+        return Err(Fault {
+            number: BYTE_ABOVE_127,
+            position: here,
+        });
+    }
+    Ok(next)
+}
+
+// The next character of a quoted-string, a domain literal or a comment, a backslash together with what it takes; or the fault
+// there: where the text ends, `unclosed`.
+// It is inlined, for else the loops of its callers take twice the instructions (callgrind).
+#[inline(always)]
+fn inside(classes: &[u8; 256], text: &[u8], at: usize, unclosed: Fault) -> Result<Character, Fault>
+    ensures { InsideIs classes.now text.now at unclosed result }
+{
+    let Character { kind, here, next } = character_at(classes, text, at).ok_or(unclosed)?;
+    match kind {
+        ByteKind::Return => Err(Fault {
+            number: STRAY_CONTROL,
+            position: here,
+        }),
+        ByteKind::Above => Err(Fault {
+            number: BYTE_ABOVE_127,
+            position: here,
+        }),
+        ByteKind::Backslash => {
+            let next = taken(classes, text, next, unclosed)?;
+            Ok(Character { kind, here, next })
+        }
+        _ => Ok(Character { kind, here, next }),
+    }
 }
 
 // The rest of a quoted-string whose opening quote stands at start. The length of its data is counted on the way.
-fn quoted_end(classes: &[u8; 256], text: &[u8], start: usize, at: usize, apart: bool) -> Next
+fn quoted_end(
+    classes: &[u8; 256],
+    text: &[u8],
+    start: usize,
+    at: usize,
+    apart: bool,
+) -> Result<Symbol, Fault>
     requires { at ≤ length text.now }
     ensures { FirstIs apart start (scan_from classes.now (characters_at text.now at) (in_quoted start [])) result }
 {
+    let unclosed = Fault {
+        number: QUOTED_NOT_CLOSED,
+        position: start,
+    };
     let mut p = at;
     let mut length: usize = 0;
     loop {
-        let Step::Byte(kind, here, q) = character(classes, text, p) else {
-            return Next::Fault(QUOTED_NOT_CLOSED, start);
-        };
+        let Character { kind, here, next } = inside(classes, text, p, unclosed)?;
         match kind {
-            ByteKind::Quote => return Next::Found(Symbol {
+            ByteKind::Quote => return Ok(Symbol {
                 class: Class::Quoted,
                 start,
-                end: q,
+                end: next,
                 length,
                 apart,
             }),
-            ByteKind::Return => return Next::Fault(STRAY_CONTROL, here),
-            ByteKind::Above => return Next::Fault(BYTE_ABOVE_127, here),
-            ByteKind::Backslash => {
-                let Step::Byte(taken, place, behind) = character(classes, text, q) else {
-                    return Next::Fault(QUOTED_NOT_CLOSED, start);
-                };
-                if let ByteKind::Above = taken {
-                    return Next::Fault(BYTE_ABOVE_127, place);
-                }
-                length += behind - q;
-                p = behind;
-            }
-            _ => {
-                length += 1;
-                p = q;
-            }
+            ByteKind::Backslash => length += next - here - 1,
+            _ => length += 1,
         }
+        p = next;
     }
 }
 
 // What a backslash in a quoted-string takes, from the position after it on: the CRLF of a fold, or the next byte.
-fn taken_datum(text: &[u8], at: usize) -> Datum
+fn taken_datum(text: &[u8], at: usize) -> Option<Datum>
     ensures { result ≡ taken_datum (characters_at text.now at) }
 {
-    if text.len() <= at {
-        return Datum::Over;
-    }
+    let b = *text.get(at)?;
     if folds(text, at) {
-        return Datum::LineEnd(text[at + 2], at + 3);
+        return Some(Datum::LineEnd(text[at + 2], at + 3));
     }
-    Datum::Byte(text[at], at + 1)
+    Some(Datum::Byte(b, at + 1))
 }
 
 // The next of the data of a quoted-string, from a position inside it on, by a table of classes that is handed on.
-pub fn next_datum(classes: &[u8; 256], text: &[u8], at: usize) -> Datum
+pub fn next_datum(classes: &[u8; 256], text: &[u8], at: usize) -> Option<Datum>
     ensures { result ≡ datum_at classes.now text.now at }
 {
-    let Step::Byte(kind, here, q) = character(classes, text, at) else {
-        return Datum::Over;
-    };
+    let Character { kind, here, next } = character_at(classes, text, at)?;
     match kind {
-        ByteKind::Quote => Datum::Over,
-        ByteKind::Backslash => taken_datum(text, q),
-        _ => Datum::Byte(text[here], q),
+        ByteKind::Quote => None,
+        ByteKind::Backslash => taken_datum(text, next),
+        _ => Some(Datum::Byte(text[here], next)),
     }
 }
 
 // The rest of a domain literal whose "[" stands at start. It has no meaning.
-fn literal_end(classes: &[u8; 256], text: &[u8], start: usize, at: usize, apart: bool) -> Next
+fn literal_end(
+    classes: &[u8; 256],
+    text: &[u8],
+    start: usize,
+    at: usize,
+    apart: bool,
+) -> Result<Symbol, Fault>
     requires { at ≤ length text.now }
     ensures { FirstIs apart start (scan_from classes.now (characters_at text.now at) (in_literal start)) result }
 {
+    let unclosed = Fault {
+        number: LITERAL_NOT_CLOSED,
+        position: start,
+    };
     let mut p = at;
     loop {
-        let Step::Byte(kind, here, q) = character(classes, text, p) else {
-            return Next::Fault(LITERAL_NOT_CLOSED, start);
-        };
+        let Character { kind, next, .. } = inside(classes, text, p, unclosed)?;
         match kind {
-            ByteKind::CloseBracket => return Next::Found(Symbol {
+            ByteKind::CloseBracket => return Ok(Symbol {
                 class: Class::Literal,
                 start,
-                end: q,
+                end: next,
                 length: 0,
                 apart,
             }),
-            ByteKind::Return => return Next::Fault(STRAY_CONTROL, here),
-            ByteKind::Above => return Next::Fault(BYTE_ABOVE_127, here),
-            ByteKind::Backslash => {
-                let Step::Byte(taken, place, behind) = character(classes, text, q) else {
-                    return Next::Fault(LITERAL_NOT_CLOSED, start);
-                };
-                if let ByteKind::Above = taken {
-                    return Next::Fault(BYTE_ABOVE_127, place);
-                }
-                p = behind;
-            }
-            ByteKind::OpenBracket => return Next::Fault(LITERAL_NOT_CLOSED, start),
-            _ => p = q,
+            ByteKind::OpenBracket => return Err(unclosed),
+            _ => p = next,
         }
     }
 }
 
-// The rest of a comment whose "(" stands at start.
-fn comment_end(classes: &[u8; 256], text: &[u8], start: usize, at: usize) -> Comment
+// The position after a comment whose "(" stands at start, or the fault in it.
+fn comment_end(classes: &[u8; 256], text: &[u8], start: usize, at: usize) -> Result<usize, Fault>
     requires { at ≤ length text.now }
     ensures { CommentIs classes.now text.now at start result }
 {
+    let unclosed = Fault {
+        number: COMMENT_NOT_CLOSED,
+        position: start,
+    };
     let mut p = at;
     let mut depth: usize = 0;
     loop {
-        let Step::Byte(kind, here, q) = character(classes, text, p) else {
-            return Comment::Open(COMMENT_NOT_CLOSED, start);
-        };
+        let Character { kind, next, .. } = inside(classes, text, p, unclosed)?;
         match kind {
-            ByteKind::Open => {
-                depth += 1;
-                p = q;
-            }
+            ByteKind::Open => depth += 1,
             ByteKind::Close => {
                 if depth == 0 {
-                    return Comment::Past(q);
+                    return Ok(next);
                 }
                 depth -= 1;
-                p = q;
             }
-            ByteKind::Return => return Comment::Open(STRAY_CONTROL, here),
-            ByteKind::Above => return Comment::Open(BYTE_ABOVE_127, here),
-            ByteKind::Backslash => {
-                let Step::Byte(taken, place, behind) = character(classes, text, q) else {
-                    return Comment::Open(COMMENT_NOT_CLOSED, start);
-                };
-                if let ByteKind::Above = taken {
-                    return Comment::Open(BYTE_ABOVE_127, place);
-                }
-                p = behind;
-            }
-            _ => p = q,
+            _ => {}
         }
+        p = next;
     }
 }
 
-// The first symbol of a text at or after a position, by a table of classes that is handed on.
-pub fn next_by(classes: &[u8; 256], text: &[u8], at: usize) -> Next
-    ensures { result ≡ next_of (scan_by classes.now text.now at) }
+// The first symbol of a text at or after a position, if there is one, or the fault before it.
+fn first(classes: &[u8; 256], text: &[u8], at: usize) -> Result<Option<Symbol>, Fault>
+    ensures { result ≡ first_of (scan_by classes.now text.now at) }
 {
     let mut p = at;
     let mut apart = false;
-    loop {
-        let Step::Byte(kind, here, q) = character(classes, text, p) else {
-            return Next::Ended;
-        };
+    while let Some(Character { kind, here, next }) = character_at(classes, text, p) {
         match kind {
             ByteKind::White => {
-                p = q;
+                p = next;
                 apart = true; // by white space
             }
-            ByteKind::Open => match comment_end(classes, text, here, q) {
-                Comment::Past(behind) => {
-                    p = behind;
-                    apart = true; // by a comment
-                }
-                Comment::Open(number, place) => return Next::Fault(number, place),
-            },
-            ByteKind::Quote => return quoted_end(classes, text, here, q, apart),
-            ByteKind::Plain => return atom_from(classes, text, here, q, apart),
-            ByteKind::Mark(class) => return one_byte(class, here, q, apart),
-            ByteKind::Close | ByteKind::Backslash | ByteKind::CloseBracket => return one_byte(
-                Class::Stray,
-                here,
-                q,
-                apart,
-            ),
-            ByteKind::Control | ByteKind::Return => return Next::Fault(STRAY_CONTROL, here),
-            ByteKind::Above => return Next::Fault(BYTE_ABOVE_127, here),
-            ByteKind::OpenBracket => return literal_end(classes, text, here, q, apart),
+            ByteKind::Open => {
+                p = comment_end(classes, text, here, next)?;
+                apart = true; // by a comment
+            }
+            ByteKind::Quote => return Ok(Some(quoted_end(classes, text, here, next, apart)?)),
+            ByteKind::Plain => return Ok(Some(atom_from(classes, text, here, next, apart))),
+            ByteKind::Mark(class) => return Ok(Some(one_byte(class, here, next, apart))),
+            ByteKind::Close | ByteKind::Backslash | ByteKind::CloseBracket => return Ok(Some(
+                one_byte(Class::Stray, here, next, apart),
+            )),
+            ByteKind::Control | ByteKind::Return => return Err(Fault {
+                number: STRAY_CONTROL,
+                position: here,
+            }),
+            ByteKind::Above => return Err(Fault {
+                number: BYTE_ABOVE_127,
+                position: here,
+            }),
+            ByteKind::OpenBracket => return Ok(Some(literal_end(
+                classes, text, here, next, apart,
+            )?)),
         }
+    }
+    Ok(None)
+}
+
+// The first symbol of a text at or after a position, by a table of classes that is handed on.
+#[inline(always)]
+pub fn next_by(classes: &[u8; 256], text: &[u8], at: usize) -> Next
+    ensures { result ≡ next_of (scan_by classes.now text.now at) }
+{
+    match first(classes, text, at) {
+        Ok(Some(symbol)) => Next::Found(symbol),
+        Ok(None) => Next::Ended,
+        Err(fault) => Next::Fault(fault.number, fault.position),
     }
 }
 
@@ -505,10 +510,7 @@ pub fn check_body(message: &[u8], start: usize, end: usize) -> Answer
     if MESSAGE_LIMIT < message.len() {
         return Answer::Refused(MESSAGE_TOO_LONG, MESSAGE_LIMIT);
     }
-    if end < start {
-        return Answer::Refused(BODY_OUT_OF_ORDER, 0);
-    }
-    if message.len() < end {
+    if end < start || message.len() < end {
         return Answer::Refused(BODY_OUT_OF_ORDER, 0);
     }
     Answer::Accepted(0)
@@ -521,40 +523,44 @@ pub fn next_symbol(message: &[u8], at: usize, end: usize) -> Next
     if let Answer::Refused(number, place) = check_body(message, at, end) {
         return Next::Fault(number, place);
     }
-    let classes = &CLASSES;
-    next_by(classes, &message[..end], at)
+    next_by(&CLASSES, &message[..end], at)
 }
 
 // The first byte at or after a position that may be a fault, or may open a quoted-string or a comment.
 fn past_harmless(classes: &[u8; 256], text: &[u8], at: usize) -> usize
     ensures { FaultsFrom classes.now text.now at result }
 {
-    let mut p = at;
-    while p < text.len() {
+    for p in at..text.len() {
         match kind_of(classes, text[p]) {
             ByteKind::White
             | ByteKind::Plain
             | ByteKind::Close
             | ByteKind::Backslash
-            | ByteKind::Mark(_) => p += 1,
+            | ByteKind::Mark(_) => {}
             _ => return p,
         }
     }
-    p
+    at.max(text.len())
+}
+
+// The first fault of a text from a position on, if there is one.
+fn faultless(classes: &[u8; 256], text: &[u8], at: usize) -> Result<(), Fault>
+    ensures { FaultlessIs classes.now text.now at result }
+{
+    let mut p = past_harmless(classes, text, at);
+    while let Some(symbol) = first(classes, text, p)? {
+        p = past_harmless(classes, text, symbol.end);
+    }
+    Ok(())
 }
 
 // The first fault of a text from a position on, by a table of classes that is handed on.
 pub fn fault_by(classes: &[u8; 256], text: &[u8], at: usize) -> Answer
     ensures { result ≡ fault_of (scan_by classes.now text.now at) }
 {
-    let mut p = at;
-    loop {
-        p = past_harmless(classes, text, p);
-        match next_by(classes, text, p) {
-            Next::Found(symbol) => p = symbol.end,
-            Next::Ended => return Answer::Accepted(0),
-            Next::Fault(number, place) => return Answer::Refused(number, place),
-        }
+    match faultless(classes, text, at) {
+        Ok(()) => Answer::Accepted(0),
+        Err(fault) => Answer::Refused(fault.number, fault.position),
     }
 }
 
@@ -572,8 +578,7 @@ pub fn scan_by(classes: &[u8; 256], message: &[u8], start: usize, end: usize) ->
 pub fn scan_body(message: &[u8], start: usize, end: usize) -> Answer
     ensures outcome { (told result ≡ told (body_scanned message.now start end)) × (result ≡ body_scanned message.now start end) }
 {
-    let classes = &CLASSES;
-    scan_by(classes, message, start, end)
+    scan_by(&CLASSES, message, start, end)
 }
 
 // What each byte of a symbol is.
@@ -581,19 +586,10 @@ fn symbol_category(text: &[u8], symbol: Symbol) -> Category
     requires { (symbol.start ≤ symbol.end) × (symbol.end ≤ length text.now) }
     ensures { result ≡ of_symbol symbol.class (part text.now symbol.start symbol.end) }
 {
-    let start = symbol.start;
-    let end = symbol.end;
-    let class = symbol.class;
-    match class {
+    match symbol.class {
         Class::Atom | Class::Quoted => Category::Word,
-        Class::At => {
-            let word = &text[start..end];
-            if octets::letters::same_letters(word, b"at") {
-                Category::At
-            } else {
-                Category::Mark
-            }
-        }
+        Class::At if octets::letters::same_letters(&text[symbol.start..symbol.end], b"at") =>
+            Category::At,
         Class::Stray => Category::Nothing,
         _ => Category::Mark,
     }
@@ -603,51 +599,41 @@ fn symbol_category(text: &[u8], symbol: Symbol) -> Category
 fn gap_category(gap: Gap, kind: ByteKind) -> Category
     ensures { GapCategoryIs gap kind result }
 {
-    match gap {
-        Gap::Outside => match kind {
-            ByteKind::White => Category::White,
-            ByteKind::Open => Category::Comment,
-            _ => Category::Nothing,
-        },
+    match (gap, kind) {
+        (Gap::Outside, ByteKind::White) => Category::White,
+        (Gap::Outside, ByteKind::Open) => Category::Comment,
+        (Gap::Outside, _) => Category::Nothing,
         _ => Category::Comment,
     }
 }
 
-// Where scanning stands after a character of a kind in a comment that lies in so many others.
-fn pass_comment(depth: usize, kind: ByteKind) -> Passed
+// Where scanning stands after a character of a kind in a comment that lies in so many others, if still between symbols.
+fn pass_comment(depth: usize, kind: ByteKind) -> Option<Gap>
     requires { depth < count_limit }
     ensures { PassedIs (comment_gap depth) kind result × PassedLow (depth + 1) result }
 {
     match kind {
-        ByteKind::Open => Passed::To(Gap::Comment(depth + 1)),
-        ByteKind::Close => {
-            if depth == 0 {
-                return Passed::To(Gap::Outside);
-            }
-            Passed::To(Gap::Comment(depth - 1))
-        }
-        ByteKind::Backslash => Passed::To(Gap::Taking(depth)),
-        ByteKind::Return | ByteKind::Above => Passed::Over,
-        _ => Passed::To(Gap::Comment(depth)),
+        ByteKind::Open => Some(Gap::Comment(depth + 1)),
+        ByteKind::Close if depth == 0 => Some(Gap::Outside),
+        ByteKind::Close => Some(Gap::Comment(depth - 1)),
+        ByteKind::Backslash => Some(Gap::Taking(depth)),
+        ByteKind::Return | ByteKind::Above => None,
+        _ => Some(Gap::Comment(depth)),
     }
 }
 
-// Where scanning stands after a character of a kind.
-fn pass(gap: Gap, kind: ByteKind) -> Passed
+// Where scanning stands after a character of a kind, if still between symbols.
+fn pass(gap: Gap, kind: ByteKind) -> Option<Gap>
     requires { gap_depth gap < count_limit }
     ensures { PassedIs gap kind result × PassedLow (gap_depth gap + 1) result }
 {
-    match gap {
-        Gap::Outside => match kind {
-            ByteKind::White => Passed::To(Gap::Outside),
-            ByteKind::Open => Passed::To(Gap::Comment(0)),
-            _ => Passed::Over,
-        },
-        Gap::Comment(depth) => pass_comment(depth, kind),
-        Gap::Taking(depth) => match kind {
-            ByteKind::Above => Passed::Over,
-            _ => Passed::To(Gap::Comment(depth)),
-        },
+    match (gap, kind) {
+        (Gap::Outside, ByteKind::White) => Some(Gap::Outside),
+        (Gap::Outside, ByteKind::Open) => Some(Gap::Comment(0)),
+        (Gap::Outside, _) => None,
+        (Gap::Comment(depth), _) => pass_comment(depth, kind),
+        (Gap::Taking(_), ByteKind::Above) => None,
+        (Gap::Taking(depth), _) => Some(Gap::Comment(depth)),
     }
 }
 
@@ -657,19 +643,17 @@ fn between_by(classes: &[u8; 256], text: &[u8], at: usize, place: usize) -> Cate
 {
     let mut p = at;
     let mut gap = Gap::Outside;
-    loop {
-        let Step::Byte(kind, here, q) = character(classes, text, p) else {
-            return Category::Nothing;
-        };
-        if place < q {
+    while let Some(Character { kind, next, .. }) = character_at(classes, text, p) {
+        if place < next {
             return gap_category(gap, kind);
         }
-        let Passed::To(next) = pass(gap, kind) else {
+        let Some(passed) = pass(gap, kind) else {
             return Category::Nothing;
         };
-        gap = next;
-        p = q;
+        gap = passed;
+        p = next;
     }
+    Category::Nothing
 }
 
 // What the byte at a place of a text is that has no fault from a position on, by a table of classes that is handed on.
@@ -678,21 +662,16 @@ fn category_by(classes: &[u8; 256], text: &[u8], at: usize, place: usize) -> Cat
     ensures { result ≡ category_of classes.now text.now place at (scan_by classes.now text.now at) }
 {
     let mut p = at;
-    loop {
-        match next_by(classes, text, p) {
-            Next::Found(symbol) => {
-                if place < symbol.start {
-                    return between_by(classes, text, p, place);
-                }
-                if place < symbol.end {
-                    return symbol_category(text, symbol);
-                }
-                p = symbol.end;
-            }
-            Next::Ended => return between_by(classes, text, p, place),
-            Next::Fault(_, _) => return Category::Nothing,
+    while let Ok(Some(symbol)) = first(classes, text, p) {
+        if place < symbol.start {
+            return between_by(classes, text, p, place);
         }
+        if place < symbol.end {
+            return symbol_category(text, symbol);
+        }
+        p = symbol.end;
     }
+    between_by(classes, text, p, place)
 }
 
 // What the byte at a place of a message is, in the body from start up to end.
@@ -702,12 +681,8 @@ pub fn category_at(message: &[u8], start: usize, end: usize, place: usize) -> Ca
     if let Answer::Refused(_, _) = scan_body(message, start, end) {
         return Category::Nothing;
     }
-    if place < start {
+    if !(start..end).contains(&place) {
         return Category::Nothing;
     }
-    if end <= place {
-        return Category::Nothing;
-    }
-    let classes = &CLASSES;
-    category_by(classes, &message[..end], start, place)
+    category_by(&CLASSES, &message[..end], start, place)
 }

@@ -2,62 +2,50 @@
 use mathlib.Core.Path.{◌≡◌, refl, sym, ap, ◌∙◌}
 use mathlib.Core.Bool.{Bool, true, false}
 use mathlib.Core.List.{List, [], ◌∷◌}
-use Prim.Native.Nat.{ℕ, suc, ◌+◌, ◌-◌, ◌≤◌, ◌<◌}
+use Prim.Native.Nat.{ℕ, zero, suc, ◌+◌, ◌-◌, ◌≤◌, ◌<◌}
 use native.Mathlib.Numerals.{add-one}
 use native.Mathlib.Omega.{arith}
-use borrow.Author.Tests.{le-leb, lt-leb}
-use lib.Dec.{ltb}
-use lib.ListN.{length, get_or, set, drop}
-use lib.Seq.{sets, drop-cons, drop-length}
+use lib.ListN.{length, get_or, set}
+use lib.Seq.{sets}
 use Rattle.octets.specs.Believed.Choice.{pick}
 use Rattle.records.specs.Believed.AddressRecords.{AddressRecord, no_record, record_in}
 use Rattle.touch.specs.Believed.Around.{covers, around_from, around, first_plus, Climbs, over, up}
-use Rattle.touch.specs.Ties.Climbing.{Holds, MayClimb}
-
--- ---- whether a record covers a place
-
-pub begins_after : (place : ℕ) {r s : AddressRecord} → r ≡ s → place < r.start → false ≡ covers place s
-begins_after place {r} e h = rw (lt-leb r.start place h) refl ∙ ap (covers place) e
-
-pub begins_before : (place : ℕ) {r s : AddressRecord} → r ≡ s → r.start ≤ place → ltb place r.end ≡ covers place s
-begins_before place {r} e h = rw (le-leb r.start place h) refl ∙ ap (covers place) e
+use Rattle.std.specs.Prelude.{Option, Some, None, MatchOption}
+use Rattle.touch.specs.Ties.Climbing.{NonePass, LastToPass, LastAroundIs, Holds, MayClimb}
 
 -- ---- the last record that covers a place
 
--- the first records have been looked at: the number of the last that covers the place, plus 1, is found
-pub record Looked (place : ℕ) (rs : List AddressRecord) (next last : ℕ) : Type 0 where
-  pub sofar : List ℕ
-  pub left : around_from place next (drop next rs) sofar ≡ around place rs
-  pub last_is : last ≡ first_plus sofar
+abbrev covered : ℕ → List AddressRecord → ℕ → Bool
+covered place rs i = covers place (get_or rs i no_record)
 
-pub looked_none : (place : ℕ) (rs : List AddressRecord) → Looked place rs 0 0
-looked_none place rs = record { sofar = []; left = refl; last_is = refl }
+none_around : (place next : ℕ) (rs : List AddressRecord) (sofar : List ℕ) → NonePass (covered place rs) 0 (length rs) → around_from place next rs sofar ≡ sofar
+none_around place next [] sofar h = refl
+none_around place next (r ∷ rs) sofar h =
+    let e : covers place r ≡ false = h 0 (omega arith) (omega arith) in
+    rw e (none_around place (suc next) rs sofar (λ i f l. h (suc i) (omega arith) (omega arith)))
 
-first_of : (test : Bool) (n last r : ℕ) (sofar : List ℕ) → r ≡ pick test (n + 1) last → last ≡ first_plus sofar → r ≡ first_plus (pick test (n ∷ sofar) sofar)
-first_of true n last r sofar e f = e ∙ add-one n
-first_of false n last r sofar e f = e ∙ f
+last_first : (place next : ℕ) (rs : List AddressRecord) (sofar : List ℕ) (n : ℕ) → LastToPass (covered place rs) (length rs) n → first_plus (around_from place next rs sofar) ≡ next + n + 1
+last_first place next [] sofar n h = absurd (omega (arith, h.0))
+last_first place next (r ∷ rs) sofar zero h =
+    let e : covers place r ≡ true = h.1 in
+    rw (e, none_around place (suc next) rs (next ∷ sofar) (λ i f l. h.2 (suc i) (omega arith) (omega arith))) (omega arith)
+last_first place next (r ∷ rs) sofar (suc n) h =
+    last_first place (suc next) rs (pick (covers place r) (next ∷ sofar) sofar) n (omega (arith, h.0), h.1, λ i f l. h.2 (suc i) (omega arith) (omega arith)) ∙ omega arith
 
-pub looked_on : {table : List ℕ} {many place next last r : ℕ} (rs : List AddressRecord) → Holds table many rs → next < many
-    → r ≡ pick (covers place (record_in table next)) (next + 1) last → Looked place rs next last → Looked place rs (next + 1) r
-looked_on {place = place} {next = next} {last = last} {r = r} rs h l e w =
-    let test = covers place (get_or rs next no_record) in
-    let d : drop next rs ≡ get_or rs next no_record ∷ drop (suc next) rs = drop-cons rs next no_record (omega (arith, h.many_is)) in
-    let q : r ≡ pick test (next + 1) last = rw (← (h.are next l)) e in
-    let f : around_from place (suc next) (drop (suc next) rs) (pick test (next ∷ w.sofar) w.sofar) ≡ around place rs = sym (ap (λ l. around_from place next l w.sofar) d) ∙ w.left in
-    record {
-      sofar = pick test (next ∷ w.sofar) w.sofar;
-      left = rw (add-one next) f;
-      last_is = first_of test next last r w.sofar q w.last_is;
-    }
+-- .. as a parent is written: its number plus 1, or 0
+pub last_parent : {table : List ℕ} {many : ℕ} {rs : List AddressRecord} (place : ℕ) (r : Option ℕ) {last : ℕ} → Holds table many rs → LastAroundIs table many place r → MatchOption r (last ≡ 0) (λ n. last ≡ n + 1)
+    → last ≡ first_plus (around place rs)
+last_parent {table} {many} {rs} place None h l e =
+    let none : NonePass (covered place rs) 0 (length rs) = λ i f k. ap (covers place) (sym (h.are i (omega (arith, h.many_is)))) ∙ l i f (omega (arith, h.many_is)) in
+    e ∙ rw (none_around place 0 rs [] none)
+last_parent {table} {many} {rs} place (Some n) h l e =
+    let t : covered place rs n ≡ true = ap (covers place) (sym (h.are n l.0)) ∙ l.1 in
+    let none : NonePass (covered place rs) (n + 1) (length rs) = λ i f k. ap (covers place) (sym (h.are i (omega (arith, h.many_is)))) ∙ l.2 i f (omega (arith, h.many_is)) in
+    e ∙ sym (last_first place 0 rs [] n (omega (arith, l.0, h.many_is), t, none) ∙ omega arith)
 
-pub looked_all : {table : List ℕ} {many place next last : ℕ} (rs : List AddressRecord) → Holds table many rs → next ≡ many → Looked place rs next last → last ≡ first_plus (around place rs)
-looked_all {place = place} {next = next} rs h l w =
-    let d : drop next rs ≡ [] = ap (λ n. drop n rs) (l ∙ h.many_is) ∙ drop-length rs in
-    w.last_is ∙ ap first_plus (sym (ap (λ l. around_from place next l w.sofar) d) ∙ w.left)
-
-pub later_low : (test : Bool) (n last r : ℕ) → r ≡ pick test (n + 1) last → last ≤ n → r ≤ n + 1
-later_low true n last r e h = omega arith
-later_low false n last r e h = omega arith
+pub last_low : (table : List ℕ) (many place : ℕ) (r : Option ℕ) {last : ℕ} → LastAroundIs table many place r → MatchOption r (last ≡ 0) (λ n. last ≡ n + 1) → last ≤ many
+last_low table many place None l e = omega arith
+last_low table many place (Some n) l e = omega (arith, l.0)
 
 -- ---- climbing
 

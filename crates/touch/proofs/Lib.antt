@@ -4,3 +4,4 @@ pub mod Nesting
 pub mod AroundLaws
 pub mod TouchLaws
 pub mod EveryByte
+pub mod LastLaws

@@ -3,11 +3,14 @@ use mathlib.Core.Path.{◌≡◌, refl, sym, ap, subst, ◌∙◌}
 use mathlib.Core.Bool.{Bool, true, false}
 use mathlib.Core.List.{List}
 use Prim.Native.Nat.{ℕ, ◌+◌, ◌*◌, ◌/◌, ◌≤◌, ◌<◌}
+use native.Mathlib.Decide.{dec_lt}
 use native.Mathlib.Omega.{arith}
 use borrow.Author.Tests.{le-ltb, lt-ltb, le-leb, lt-leb, ltb-false}
 use lib.Dec.{ltb}
 use lib.ListN.{length}
 use lib.Seq.{sets}
+use Rattle.std.specs.Prelude.{Err}
+use Rattle.octets.specs.Believed.Answers.{fault}
 use Rattle.octets.specs.Believed.Numbers.{level_limit, table_records, body_out_of_order}
 use Rattle.octets.specs.declared.answers.Answer.{Answer}
 use Rattle.octets.specs.declared.answers.Answer.TheVariants as reader
@@ -35,12 +38,11 @@ use Rattle.expected.specs.Believed.Things.{sum_of}
 use Rattle.expected.specs.Executable.Named.{named, expected_in}
 use Rattle.expected.proofs.NameLaws.{before_refused, names_right}
 use Rattle.touch.specs.Believed.Around.{around, first_plus, Climbs}
-use Rattle.touch.specs.Believed.Answers.{told, AnsweredBy, Outcome, unchanged, refusal, byte_of, of_list}
+use Rattle.touch.specs.Believed.Answers.{Touched, byte, told, AnsweredBy, Outcome, unchanged, refusal, byte_of, of_list}
 use Rattle.touch.specs.Believed.Touched.{decided, touched}
 use Rattle.touch.specs.Believed.ByGrammar.{NamedThere, ByGrammar}
-use Rattle.touch.specs.Ties.Climbing.{Holds, HeldList, ClimbIs, LastAroundIs}
-use Rattle.touch.specs.declared.Touched.{Touched}
-use Rattle.touch.specs.declared.Touched.TheVariants.{Byte, Expected, NoRoom}
+use Rattle.touch.specs.Ties.Climbing.{Holds, HeldList, ClimbIs}
+use Rattle.touch.specs.declared.Untouched.TheVariants.{Expected, NoRoom}
 use Rattle.touch.proofs.Nesting.{nested, nested_height}
 use Rattle.touch.proofs.AroundLaws.{around_climbs, around_few}
 
@@ -83,7 +85,7 @@ module _ (message : List ℕ) (start end place : ℕ) (path : List ℕ) where
           right = u.right;
           splits = splits;
           named = named level_limit symbols;
-          tells = ap told (e ∙ ap (λ (o : Outcome). o.answer) q ∙ ap (Expected (number u.why) (start_of end u.rest)) (named_there x));
+          tells = ap told (e ∙ ap (λ (o : Outcome). o.answer) q ∙ ap (λ n. Err (Expected (fault (number u.why) (start_of end u.rest)) n)) (named_there x));
           exactly = names_right level_limit symbols u.why before u.rest u.right splits;
         },
         f ∙ ap (λ (o : Outcome). o.path) q,
@@ -109,8 +111,8 @@ module _ (message : List ℕ) (start end place : ℕ) (path : List ℕ) where
       (record { told_is = ap told p; path_is = q; answer_is = p }, by_grammar p q)
 
   -- .. of a body that is refused with 8, 9 or 10
-  pub promised_names : {n p names : ℕ} → whole ≡ unchanged path (Expected n p (expected_in message start end)) → names ≡ expected_in message start end → Promised (Expected n p names) path
-  promised_names {n} {p} e f = promised _ (e ∙ ap (λ m. unchanged path (Expected n p m)) (sym f))
+  pub promised_names : {n p names : ℕ} → whole ≡ unchanged path (Err (Expected (fault n p) (expected_in message start end))) → names ≡ expected_in message start end → Promised (Err (Expected (fault n p) names)) path
+  promised_names {n} {p} e f = promised _ (e ∙ ap (λ m. unchanged path (Err (Expected (fault n p) m))) (sym f))
 
   -- .. of a list
   pub promised_list : (k : Derivation) {r : Touched} {after : List ℕ} → whole ≡ of_list message start end place path k → (r ≡ (of_list message start end place path k).answer) × (after ≡ (of_list message start end place path k).path) → Promised r after
@@ -130,8 +132,8 @@ module _ (message : List ℕ) (start end place : ℕ) (path : List ℕ) where
     -- what each of its answers means
     abbrev pub Means : Answer → List ℕ → Type 0
     Means (reader.Accepted many) after = Held many after
-    Means (reader.Refused n p) after = whole ≡ unchanged path (Expected n p (expected_in message start end))
-    Means (reader.NoRoom needed) after = whole ≡ unchanged path (NoRoom needed)
+    Means (reader.Refused n p) after = whole ≡ unchanged path (Err (Expected (fault n p) (expected_in message start end)))
+    Means (reader.NoRoom needed) after = whole ≡ unchanged path (Err (NoRoom needed))
 
     abbrev MeansOf : addresses.Outcome → Type 0
     MeansOf o = Means o.answer o.table
@@ -175,11 +177,15 @@ module _ (message : List ℕ) (start end place : ℕ) (path : List ℕ) where
     in_room : ltb table_records (count k) ≡ false
     in_room = le-ltb table_records (count k) (omega (arith, h.holds.few, h.holds.many_is, length-records k))
 
-    pub before_body : place < start → of_list message start end place path k ≡ refusal path body_out_of_order 0
-    before_body l = rw (in_room, lt-leb start place l)
-
-    pub after_body : start ≤ place → end ≤ place → of_list message start end place path k ≡ refusal path body_out_of_order 0
-    after_body l m = rw (in_room, le-leb start place l, le-ltb place end m)
+    pub outside_body : ((start ≤ place) × (place < end) → ⊥) → of_list message start end place path k ≡ refusal path body_out_of_order 0
+    outside_body n =
+        elim (dec_lt place start) [
+          | yes l ↦ rw (in_room, lt-leb start place l)
+          | no l ↦ elim (dec_lt place end) [
+            | yes m ↦ absurd (n (omega arith, m))
+            | no m ↦ rw (in_room, le-leb start place (omega arith), le-ltb place end (omega arith))
+          ]
+        ]
 
     pub in_the_body : start ≤ place → place < end → of_list message start end place path k ≡ byte_of message start end place path k
     in_the_body l m = rw (in_room, le-leb start place l, lt-ltb place end m)
@@ -189,11 +195,11 @@ module _ (message : List ℕ) (start end place : ℕ) (path : List ℕ) where
     climbs = around_climbs (nested start end h.body.list.derived (in_body h.body)) place
 
     -- .. and what is told of the byte
-    pub byte_told : {is : Category} {last n : ℕ} {after : List ℕ} → is ≡ category_at message start end place → LastAroundIs table many place last → last ≤ many → ClimbIs table last 0 path after n
-        → start ≤ place → place < end → (Byte is n ≡ (of_list message start end place path k).answer) × (after ≡ (of_list message start end place path k).path)
+    pub byte_told : {is : Category} {last n : ℕ} {after : List ℕ} → is ≡ category_at message start end place → last ≡ first_plus (around place (records k)) → last ≤ many → ClimbIs table last 0 path after n
+        → start ≤ place → place < end → (byte is n ≡ (of_list message start end place path k).answer) × (after ≡ (of_list message start end place path k).path)
     byte_told {last = last} {n = n} e l low f g m =
         let ns = around place (records k) in
-        let c : Climbs (records k) last ns = rw (l (records k) h.holds) climbs in
+        let c : Climbs (records k) last ns = rw l climbs in
         let (a, b) = f many (records k) ns h.holds low c in
         let i : n ≡ length ns = omega (arith, b) in
         parts (in_the_body g m ∙ rw (← e, ← i, ← a))

@@ -14,7 +14,7 @@ ghost use Rattle.touch.specs.Believed.Touched.{touched};
 ghost use Rattle.touch.specs.Believed.ByGrammar.{ByGrammar};
 ghost use Rattle.touch.specs.Ties.Climbing.{LastAroundIs, MayClimb, ClimbIs, SomeList, ListIs};
 
-use octets::answers::Answer;
+use octets::answers::{Answer, Fault};
 use octets::numbers::{ACCEPTED, BODY_OUT_OF_ORDER, TABLE_RECORDS, TOO_LITTLE_ROOM};
 use octets::stored::store_number;
 use records::address::{ADDRESS_RECORD_SIZE, load};
@@ -23,27 +23,34 @@ use scanner::Category;
 // The bytes of the tool's own table.
 const TABLE_SIZE: usize = TABLE_RECORDS * ADDRESS_RECORD_SIZE;
 
-#[derive(Clone, Copy)]
-pub enum Touched {
-    // A byte of an accepted body: what it is, and the number of records around it.
-    Byte(Category, usize),
-    // Refused with 8, 9 or 10: the number, the position, and what could have stood there, as a sum.
-    Expected(u8, usize, usize),
-    // Refused otherwise: the number and the position.
-    Refused(u8, usize),
+// A byte of an accepted body: what it is, and the number of records around it.
+#[derive(Clone, Copy, PartialEq, Eq)]
+pub struct Byte {
+    pub category: Category,
+    pub around: usize,
+}
+
+// Why nothing is told of a byte.
+#[derive(Clone, Copy, PartialEq, Eq)]
+pub enum Untouched {
+    // The body is refused with 8, 9 or 10; and what could have stood there, as a sum.
+    Expected(Fault, usize),
+    // Refused otherwise.
+    Refused(Fault),
     // The tool's own table is too small: the records needed.
     NoRoom(usize),
 }
+
+pub type Touched = Result<Byte, Untouched>;
 
 // The number of an answer.
 pub fn number(answer: Touched) -> u8
     ensures { result ≡ number_of answer }
 {
     match answer {
-        Touched::Byte(_, _) => ACCEPTED,
-        Touched::Expected(number, _, _) => number,
-        Touched::Refused(number, _) => number,
-        Touched::NoRoom(_) => TOO_LITTLE_ROOM,
+        Ok(_) => ACCEPTED,
+        Err(Untouched::Expected(fault, _) | Untouched::Refused(fault)) => fault.number,
+        Err(Untouched::NoRoom(_)) => TOO_LITTLE_ROOM,
     }
 }
 
@@ -52,10 +59,8 @@ pub fn position(answer: Touched) -> usize
     ensures { result ≡ position_of answer }
 {
     match answer {
-        Touched::Byte(_, _) => 0,
-        Touched::Expected(_, position, _) => position,
-        Touched::Refused(_, position) => position,
-        Touched::NoRoom(_) => 0,
+        Err(Untouched::Expected(fault, _) | Untouched::Refused(fault)) => fault.position,
+        _ => 0,
     }
 }
 
@@ -64,14 +69,13 @@ pub fn count(answer: Touched) -> usize
     ensures { result ≡ count_of answer }
 {
     match answer {
-        Touched::Byte(_, many) => many,
-        Touched::Expected(_, _, _) => 0,
-        Touched::Refused(_, _) => 0,
-        Touched::NoRoom(needed) => needed,
+        Ok(byte) => byte.around,
+        Err(Untouched::NoRoom(needed)) => needed,
+        _ => 0,
     }
 }
 
-// What a byte is, as a number.
+// What a byte is, as a number of document 02. The category is the scanner's, so that no `From` for it can stand here.
 fn category_number(category: Category) -> u8
     ensures { result ≡ category_number category }
 {
@@ -89,12 +93,7 @@ fn category_number(category: Category) -> u8
 pub fn category(answer: Touched) -> u8
     ensures { result ≡ category_of answer }
 {
-    match answer {
-        Touched::Byte(category, _) => category_number(category),
-        Touched::Expected(_, _, _) => 0,
-        Touched::Refused(_, _) => 0,
-        Touched::NoRoom(_) => 0,
-    }
+    answer.map_or(0, |byte| category_number(byte.category))
 }
 
 // What could have stood at the place of a refusal: word 1, "at" 2, "<" 4, ">" 8, "@" 16, "," 32, ";" 64, ":" 128, the end 256, summed.
@@ -102,92 +101,76 @@ pub fn names(answer: Touched) -> usize
     ensures { result ≡ names_of answer }
 {
     match answer {
-        Touched::Byte(_, _) => 0,
-        Touched::Expected(_, _, names) => names,
-        Touched::Refused(_, _) => 0,
-        Touched::NoRoom(_) => 0,
+        Err(Untouched::Expected(_, names)) => names,
+        _ => 0,
     }
 }
 
-// The tool's own table.
-fn own_table() -> [u8; TABLE_SIZE]
-    ensures { table_records * address_record_size ≡ length result }
-{
-    [0; TABLE_SIZE]
+// The records of an accepted body: so many of them, in the tool's own table.
+#[derive(Clone, Copy)]
+struct Records<'a> {
+    table: &'a [u8],
+    many: usize,
 }
 
-// Whether a record covers a place.
-fn is_around(table: &[u8], number: usize, place: usize) -> bool
-    ensures { result ≡ covers place (record_in table.now number) }
-{
-    let address = load(table, number);
-    if place < address.start {
-        return false;
+impl Records<'_> {
+    // Whether a record covers a place.
+    fn is_around(&self, number: usize, place: usize) -> bool
+        ensures { result ≡ covers place (record_in self.now.table.now number) }
+    {
+        let address = load(self.table, number);
+        (address.start..address.end).contains(&place)
     }
-    place < address.end
-}
 
-// The number plus 1 of a record that covers a place; else what was found before.
-fn later(table: &[u8], number: usize, place: usize, last: usize) -> usize
-    requires { number < count_limit }
-    ensures { result ≡ pick (covers place (record_in table.now number)) (number + 1) last }
-{
-    if is_around(table, number, place) {
-        return number + 1;
+    // The number of the last record that covers a place.
+    fn last_around(&self, place: usize) -> Option<usize>
+        ensures { LastAroundIs self.now.table.now self.now.many place result }
+    {
+        (0..self.many)
+            .rev()
+            .find(|&number| self.is_around(number, place))
     }
-    last
-}
 
-// The last of so many records that covers a place, its number plus 1; 0 if none does.
-fn last_around(table: &[u8], many: usize, place: usize) -> usize
-    ensures { LastAroundIs table.now many place result × (result ≤ many) }
-{
-    let mut last: usize = 0;
-    let mut number: usize = 0;
-    while number < many {
-        last = later(table, number, place, last);
-        number += 1;
+    // Put the record numbers from a parent (its number plus 1, or 0, as a record has it) to the outermost into the path from a
+    // position of it on: the position after them.
+    fn climb(&self, parent: usize, path: &mut [u64], at: usize) -> usize
+        requires { MayClimb self.now.table.now parent at }
+        ensures { ClimbIs self.now.table.now parent at path.old path.new result }
+    {
+        if parent == 0 {
+            return at;
+        }
+        let number = parent - 1;
+        store_number(path, at, number as u64);
+        let address = load(self.table, number);
+        self.climb(address.parent, path, at + 1)
     }
-    last
 }
 
-// Put the record numbers from a parent (its number plus 1, or 0) to the outermost into the path from a position of it on: the
-// position after them.
-fn climb(table: &[u8], parent: usize, path: &mut [u64], at: usize) -> usize
-    requires { MayClimb table.now parent at }
-    ensures { ClimbIs table.now parent at path.old path.new result }
-{
-    if parent == 0 {
-        return at;
-    }
-    let number = parent - 1;
-    store_number(path, at, number as u64);
-    let address = load(table, number);
-    climb(table, address.parent, path, at + 1)
-}
-
-// A place of an accepted body whose records stand in the table.
+// A place of an accepted body with these records.
 fn touch_list(
     message: &[u8],
     start: usize,
     end: usize,
     place: usize,
     path: &mut [u64],
-    table: &[u8],
-    many: usize,
+    records: &Records,
 ) -> Touched
-    requires { SomeList message.now start end table.now many }
-    ensures { ListIs message.now start end place path.old table.now many path.new result }
+    requires { SomeList message.now start end records.now.table.now records.now.many }
+    ensures { ListIs message.now start end place path.old records.now.table.now records.now.many path.new result }
 {
-    if place < start {
-        return Touched::Refused(BODY_OUT_OF_ORDER, 0);
+    if !(start..end).contains(&place) {
+        return Err(Untouched::Refused(Fault {
+            number: BODY_OUT_OF_ORDER,
+            position: 0,
+        }));
     }
-    if end <= place {
-        return Touched::Refused(BODY_OUT_OF_ORDER, 0);
-    }
-    let last = last_around(table, many, place);
-    let count = climb(table, last, path, 0);
-    Touched::Byte(scanner::category_at(message, start, end, place), count)
+    let last = records.last_around(place).map_or(0, |number| number + 1);
+    let around = records.climb(last, path, 0);
+    Ok(Byte {
+        category: scanner::category_at(message, start, end, place),
+        around,
+    })
 }
 
 // Touch a place of the body of a message from start up to end: what the byte there is, and the numbers of the records around it at
@@ -197,16 +180,21 @@ pub fn touch(message: &[u8], start: usize, end: usize, place: usize, path: &mut 
     ensures by_grammar { ByGrammar message.now start end place path.old result path.new }
 {
     if let Answer::Refused(number, position) = scanner::scan_body(message, start, end) {
-        return Touched::Refused(number, position);
+        return Err(Untouched::Refused(Fault { number, position }));
     }
-    let mut table = own_table();
+    let mut table = [0; TABLE_SIZE];
     match engine::read_addresses(message, start, end, &mut table) {
-        Answer::Refused(number, position) => Touched::Expected(
-            number,
-            position,
+        Answer::Refused(number, position) => Err(Untouched::Expected(
+            Fault { number, position },
             engine::expected(message, start, end),
-        ),
-        Answer::NoRoom(needed) => Touched::NoRoom(needed),
-        Answer::Accepted(many) => touch_list(message, start, end, place, path, &table, many),
+        )),
+        Answer::NoRoom(needed) => Err(Untouched::NoRoom(needed)),
+        Answer::Accepted(many) => {
+            let records = Records {
+                table: &table,
+                many,
+            };
+            touch_list(message, start, end, place, path, &records)
+        }
     }
 }

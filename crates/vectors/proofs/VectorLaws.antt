@@ -6,6 +6,8 @@ use Prim.Native.Nat.{ℕ, ◌*◌, ◌%◌}
 use native.Mathlib.Omega.{arith}
 use borrow.Author.Tests.{eq-eqb, ne_eqb}
 use lib.IntN.{ℤ}
+use Rattle.std.specs.Prelude.{Result}
+use Rattle.octets.specs.declared.answers.Fault.{Fault}
 use lib.ListN.{length, take, replicate}
 use lib.Seq.{length-take-le}
 use Rattle.octets.specs.Believed.Answers.{Answered}
@@ -23,10 +25,8 @@ use Rattle.expansion.specs.Believed.Outcome as expansion
 use Rattle.expansion.specs.declared.Expanded.{Expanded}
 use Rattle.dates.specs.Believed.Answers as date
 use Rattle.dates.specs.Believed.Outcome.{date_answer}
-use Rattle.dates.specs.declared.DateAnswer.{DateAnswer}
 use Rattle.touch.specs.Believed.Answers as touch
 use Rattle.touch.specs.Believed.Touched.{touched}
-use Rattle.touch.specs.declared.Touched.{Touched}
 use Rattle.records.specs.Believed.AddressRecords.{address_record_size}
 use Rattle.records.specs.Believed.FieldRecords.{field_record_size}
 use Rattle.vectors.specs.Believed.Putting.{text as text_of, putting}
@@ -78,7 +78,7 @@ module _ {o p : List ℕ} {n m : ℕ} where
     run_nothing a b c d e w = puts_as (λ rest. rw (ne_eqb letter 97 a, ne_eqb letter 98 b, ne_eqb letter 101 c, ne_eqb letter 102 d, ne_eqb letter 112 e)) w
 
 module _ {o p q : List ℕ} {n a b : ℕ} (head message : List ℕ) {s e : ℕ} (es : s ≡ start_of head) (ee : e ≡ end_of head message) where
-  pub date_text_lem : {r : DateAnswer} {x y z : ℕ} {v : ℤ} → r ≡ date_answer message s e → x ≡ date.number_of r → y ≡ date.position_of r → z ≡ date.count_of r → v ≡ date.value_of r
+  pub date_text_lem : {r : Result ℤ Fault} {x y z : ℕ} {v : ℤ} → r ≡ date_answer message s e → x ≡ date.number_of r → y ≡ date.position_of r → z ≡ date.count_of r → v ≡ date.value_of r
       → Puts (line 61 (x ∷ y ∷ z ∷ [])) o n p a → Puts (value_line v) p a q b → Puts (date_text head message) o n q b
   unfolding date_text
   date_text_lem {r} f x y z v w k =
@@ -92,7 +92,7 @@ module _ {o p q : List ℕ} {n a b : ℕ} (head message : List ℕ) {s e : ℕ} 
       let g : r ≡ body_scanned message (start_of head) (end_of head message) = rw (es, ee) at f in
       puts_both {f = answer_line (body_scanned message (start_of head) (end_of head message))} {g = symbols 65536 message (start_of head) (end_of head message)} (rw g at w) (rw (es, ee) at k)
 
-  pub touched_text : (path : List ℕ) {t : ℕ} {r : Touched} {after : List ℕ} {v w x y z : ℕ} → t ≡ place_of head → touch.AnsweredBy (touched message s e t path) r after
+  pub touched_text : (path : List ℕ) {t : ℕ} {r : touch.Touched} {after : List ℕ} {v w x y z : ℕ} → t ≡ place_of head → touch.AnsweredBy (touched message s e t path) r after
       → v ≡ touch.number_of r → w ≡ touch.position_of r → x ≡ touch.count_of r → y ≡ touch.category_of r → z ≡ touch.names_of r
       → Puts (line 61 (v ∷ w ∷ x ∷ y ∷ z ∷ [])) o n p a → Puts (line 42 after) p a q b → Puts (touch_text head message path) o n q b
   unfolding touch_text

@@ -14,24 +14,17 @@ returns-in-Refused c = let all = unfit_promised c.args.message.now c.args.start 
 pub overflow_sub-end : goal.overflow_sub-end
 overflow_sub-end c = omega (arith, (passed c.args.message.now c.args.start c.args.end c.check_body.result c.check_body.ensures (opened c.in_default.in_default-own.keys2)).ordered)
 
-pub slice_bounds-read_once-end : goal.slice_bounds-read_once-end
-slice_bounds-read_once-end c = sym (length-take-le _ c.args.message.now (passed c.args.message.now c.args.start c.args.end c.check_body.result c.check_body.ensures (opened c.in_default.in_default-own.keys2)).inside)
+pub slice_bounds-read_body-end : goal.slice_bounds-read_body-end
+slice_bounds-read_body-end c = sym (length-take-le _ c.args.message.now (passed c.args.message.now c.args.start c.args.end c.check_body.result c.check_body.ensures (opened c.in_default.in_default-own.keys2)).inside)
 
-pub read_once-requires : goal.read_once-requires
+pub read_body-requires : goal.read_body-requires
 unfolding class_table class_of
-read_once-requires c = (fitting (passed c.args.message.now c.args.start c.args.end c.check_body.result c.check_body.ensures (opened c.in_default.in_default-own.keys2)), omega (arith, length-take-le c.args.end c.args.message.now (passed c.args.message.now c.args.start c.args.end c.check_body.result c.check_body.ensures (opened c.in_default.in_default-own.keys2)).inside, (passed c.args.message.now c.args.start c.args.end c.check_body.result c.check_body.ensures (opened c.in_default.in_default-own.keys2)).ordered, c.if-end-start-le-ONCE_LIMIT.true))
+read_body-requires c = fitting (passed c.args.message.now c.args.start c.args.end c.check_body.result c.check_body.ensures (opened c.in_default.in_default-own.keys2))
 
-pub returns-then-end-start-le-ONCE_LIMIT : goal.returns-then-end-start-le-ONCE_LIMIT
+pub returns-then-end-start-gt-ONCE_LIMIT : goal.returns-then-end-start-gt-ONCE_LIMIT
 unfolding class_table class_of
-returns-then-end-start-le-ONCE_LIMIT c = let all = first_promised c.args.message.now c.args.start c.args.end c.args.table.now _ _ (passed c.args.message.now c.args.start c.args.end c.check_body.result c.check_body.ensures (opened c.in_default.in_default-own.keys2)) c.read_once.ensures in record { outcome = all.0; condition3 = all.1 }
-
-pub slice_bounds-read_twice-end : goal.slice_bounds-read_twice-end
-slice_bounds-read_twice-end c = sym (length-take-le _ c.args.message.now (passed c.args.message.now c.args.start c.args.end c.check_body.result c.check_body.ensures (opened c.in_default.in_default-own.keys2)).inside)
-
-pub read_twice-requires : goal.read_twice-requires
-unfolding class_table class_of
-read_twice-requires c = fitting (passed c.args.message.now c.args.start c.args.end c.check_body.result c.check_body.ensures (opened c.in_default.in_default-own.keys2))
+returns-then-end-start-gt-ONCE_LIMIT c = let all = first_promised c.args.message.now c.args.start c.args.end c.args.table.now _ _ (passed c.args.message.now c.args.start c.args.end c.check_body.result c.check_body.ensures (opened c.in_default.in_default-own.keys2)) c.read_body.ensures in record { outcome = all.0; condition3 = all.1 }
 
 pub returns : goal.returns
 unfolding class_table class_of
-returns c = let all = first_promised c.args.message.now c.args.start c.args.end c.args.table.now _ _ (passed c.args.message.now c.args.start c.args.end c.check_body.result c.check_body.ensures (opened c.in_default.in_default-own.keys2)) c.read_twice.ensures in record { outcome = all.0; condition3 = all.1 }
+returns c = let all = first_promised c.args.message.now c.args.start c.args.end c.args.table.now _ _ (passed c.args.message.now c.args.start c.args.end c.check_body.result c.check_body.ensures (opened c.in_default.in_default-own.keys2)) c.read_body-2.ensures in record { outcome = all.0; condition3 = all.1 }

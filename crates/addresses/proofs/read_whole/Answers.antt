@@ -1,19 +1,28 @@
 -- `addresses::read_whole` meets its contract. Assumes nothing.
-use mathlib.Core.Path.{sym, ◌∙◌}
-use native.Mathlib.Omega.{arith}
-use Rattle.addresses.proofs.WholeLaws.{whole_stops}
-use Rattle.addresses.proofs.FirstLaws.{small_number, first_end, first_behind}
-use borrow.Enum.Refused.{opened}
+use Rattle.std.specs.Prelude.{Ok, Err}
+use Rattle.addresses.proofs.FirstLaws.{begun, body_stops, body_end, body_behind}
 use Rattle.addresses.proofs.read_whole.Goals as goal
 
-pub overflow_cast-result : goal.overflow_cast-result
-overflow_cast-result c = let s = (rw (c.if-not-read_list.true) at c.read_list.ensures).0 in omega (arith, s.number_is, small_number s.why)
-
-pub returns-then-not-read_list : goal.returns-then-not-read_list
-returns-then-not-read_list c = λ f. whole_stops c.args.classes.now c.args.text.now (rw (c.if-not-read_list.true) at c.read_list.ensures).0
+pub returns-in-Err : goal.returns-in-Err
+returns-in-Err c =
+    let a = c.args in
+    let k = a.classes.now in
+    let x = a.text.now in
+    let w = c.new-walk in
+    rw c.fault-fault.ensures (body_stops k x a.levels a.at c.in-Err.refusal c.read_list.new.self (begun k x a.levels a.at w.result w.ensures.0 w.ensures.1 a.table.now c.read_list.new.table (Err c.in-Err.refusal) c.read_list.new.self c.in-Err.ensures))
 
 pub returns-in-End : goal.returns-in-End
-returns-in-End c = first_end c.args.classes.now c.args.text.now c.args.at (rw (c.if-not-read_list.false) at c.read_list.ensures) (sym c.ahead_of.ensures ∙ c.in-End.is)
+returns-in-End c =
+    let a = c.args in
+    let k = a.classes.now in
+    let x = a.text.now in
+    let w = c.new-walk in
+    body_end k x a.levels a.at c.read_list.new.self (begun k x a.levels a.at w.result w.ensures.0 w.ensures.1 a.table.now c.read_list.new.table (Ok tt) c.read_list.new.self c.in_default.ensures) c.in-End.is
 
-pub returns-in_default : goal.returns-in_default
-returns-in_default c = first_behind c.args.classes.now c.args.text.now c.args.at (rw (c.if-not-read_list.false) at c.read_list.ensures) c.ahead_of.ensures (opened c.in_default.in_default-own.keys2)
+pub returns-in_default-ahead : goal.returns-in_default-ahead
+returns-in_default-ahead c =
+    let a = c.args in
+    let k = a.classes.now in
+    let x = a.text.now in
+    let w = c.new-walk in
+    body_behind k x a.levels a.at c.read_list.new.self (begun k x a.levels a.at w.result w.ensures.0 w.ensures.1 a.table.now c.read_list.new.table (Ok tt) c.read_list.new.self c.in_default.ensures) c.in_default-ahead.not-End

@@ -1,9 +1,9 @@
 -- What the functions below the entry point answer.
-use Rattle.std.specs.Prelude.{◌≡◌, Bool, true, false, List, [], ◌∷◌, ℕ, ◌+◌, ◌*◌, ◌-◌, ◌≤◌, ◌<◌, length, get_or}
+use Rattle.std.specs.Prelude.{◌≡◌, Bool, true, false, Result, Ok, Err, List, [], ◌∷◌, ℕ, ◌+◌, ◌*◌, ◌-◌, ◌≤◌, ◌<◌, length}
 use Rattle.std.proofs.Math.Option.{Option, none, some}
+use Rattle.std.specs.Prelude as std
 use Rattle.std.proofs.lemmas.List.Edits.{sets}
-use Rattle.octets.specs.Believed.Choice.{pick}
-use Rattle.octets.specs.Believed.Numbers.{message_limit, no_list_goes_on, ends_too_soon, level_limit}
+use Rattle.octets.specs.Believed.Numbers.{message_limit, no_list_goes_on, ends_too_soon, too_many_levels, level_limit}
 use Rattle.octets.specs.declared.answers.Answer.{Answer}
 use Rattle.octets.specs.declared.answers.Answer.TheVariants.{Accepted, Refused as fault_refused}
 use Rattle.records.specs.Believed.AddressRecords.{table_bytes, address_record_size}
@@ -14,8 +14,8 @@ use Rattle.scanner.specs.declared.Next.TheVariants.{Found, Ended, Fault}
 use Rattle.scanner.specs.declared.cursor.Ahead.{Ahead}
 use Rattle.scanner.specs.declared.cursor.Ahead.TheVariants.{Symbol, End, Faulty}
 use Rattle.scanner.specs.Ties.Meanings.{meaning_at}
-use Rattle.scanner.specs.Ties.Cursors.{cursor_size, ahead_of, apart_in, next_in}
-use Rattle.grammar.specs.Believed.Language.{Refusal, refused, number, start_of}
+use Rattle.scanner.specs.Ties.Cursors.{apart_in, next_in}
+use Rattle.grammar.specs.Believed.Language.{Refusal as Why, refused, number, start_of}
 use Rattle.grammar.specs.Believed.Rfc733.{same_class}
 use Rattle.grammar.specs.Executable.Trees733.{Class, Atom, Quoted, At, LessThan, GreaterThan, Semicolon, Colon, Lexeme, Sym, of, one_of, atom_word, quoted_word, Phrase, one, more, Nodes, empty, AddressList, idle, Address, angle, group}
 use Rattle.grammar.proofs.Rfc733.Trees.{phrase_then, name_then, nodes_then, atom_colon}
@@ -23,10 +23,12 @@ use Rattle.grammar.specs.Executable.Machine733.{Here, Level, in_angle, in_group,
 use Rattle.grammar.proofs.Rfc733.Complete.{begin, done_address, done_list, Clear}
 use Rattle.grammar.proofs.Rfc733.Readers.{AddressEnds, ListEnds, ends_address}
 use Rattle.grammar.proofs.Rfc733.TreeRecords.{phrase_start, phrase_end, nodes_end, name_start, name_end, address_end, address_count, address_records, list_count, list_records}
+use Rattle.addresses.specs.declared.Refusal.{Refusal}
+use Rattle.addresses.specs.declared.Refusal.TheVariants.{Unfit, Unfinished, TooDeep}
+use Rattle.addresses.specs.declared.Walk.{Walk}
+use Rattle.addresses.specs.declared.Level.{Level as Left}
 use Rattle.addresses.specs.declared.Frame.{Frame}
 use Rattle.records.specs.declared.Span.{Span}
-use Rattle.addresses.specs.declared.TypedAtom.{TypedAtom}
-use Rattle.addresses.specs.declared.TypedAtom.TheVariants.{Typed, Nameless}
 use Rattle.addresses.specs.declared.Enclosure.{Enclosure}
 use Rattle.addresses.specs.declared.Enclosure.TheVariants.{Angle, Group}
 
@@ -48,25 +50,36 @@ pub data NodesRead : Type 0 where
   Behind : Next → ℕ → NodesRead
   Stopped : ℕ → ℕ → NodesRead
 
--- the walk's own places of a cursor
-abbrev pub free_in : List ℕ → ℕ
-free_in cursor = get_or cursor 5 0
+-- what comes next in a walk
+abbrev pub coming : Walk → Next
+coming walk = next_in walk.cursor
 
-abbrev pub last_in : List ℕ → ℕ
-last_in cursor = get_or cursor 6 0
+-- a refusal by its number, and its place in a text of some size: where the walk stands, or the end of the text
+abbrev pub number_told : Refusal → ℕ
+number_told Unfit = no_list_goes_on
+number_told Unfinished = ends_too_soon
+number_told TooDeep = too_many_levels
 
--- what a cursor tells after reading, or after a refusal
-abbrev pub reading : Bool → List ℕ → Reading
-reading true cursor = Read (next_in cursor) (last_in cursor) (free_in cursor)
-reading false cursor = Refused (get_or cursor 2 0) (get_or cursor 1 0)
+abbrev pub place_told : ℕ → Refusal → Walk → ℕ
+place_told size Unfit walk = walk.cursor.start
+place_told size Unfinished walk = size
+place_told size TooDeep walk = walk.cursor.start
 
-abbrev pub nodes_read : Bool → List ℕ → NodesRead
-nodes_read true cursor = Behind (next_in cursor) (last_in cursor)
-nodes_read false cursor = Stopped (get_or cursor 2 0) (get_or cursor 1 0)
+abbrev pub told : ℕ → Refusal → Walk → Reading
+told size why walk = Refused (number_told why) (place_told size why walk)
+
+-- what a walk through a text of some size tells after reading, or a refusal
+abbrev pub reading : ℕ → Result Unit Refusal → Walk → Reading
+reading size (Ok u) walk = Read (coming walk) walk.last walk.free
+reading size (Err why) walk = told size why walk
+
+abbrev pub nodes_read : ℕ → Result Unit Refusal → Walk → NodesRead
+nodes_read size (Ok u) walk = Behind (coming walk) walk.last
+nodes_read size (Err why) walk = Stopped (number_told why) (place_told size why walk)
 
 -- the frame of an address whose record is the next free one
-abbrev pub frame_at : ℕ → ℕ → List ℕ → Frame
-frame_at levels parent cursor = record { levels = levels; parent = parent; number = free_in cursor }
+abbrev pub frame_at : Left → Walk → Frame
+frame_at level walk = record { level = level; number = walk.free }
 
 -- ---- classes
 
@@ -76,26 +89,33 @@ is_word c = one_of (Atom ∷ Quoted ∷ []) c
 abbrev pub is_quoted : Class → Bool
 is_quoted c = same_class Quoted c
 
+-- a symbol of a class stands ahead
+abbrev pub is_ahead : Class → Ahead → Bool
+is_ahead wanted (Symbol class) = same_class wanted class
+is_ahead wanted End = false
+is_ahead wanted (Faulty f) = false
+
 abbrev pub word_ahead : Ahead → Bool
 word_ahead (Symbol class) = is_word class
 word_ahead End = false
-word_ahead Faulty = false
-
-abbrev pub quoted_ahead : Ahead → Bool
-quoted_ahead (Symbol class) = is_quoted class
-quoted_ahead End = false
-quoted_ahead Faulty = false
+word_ahead (Faulty f) = false
 
 abbrev pub ends_ahead : Ahead → Bool
 ends_ahead (Symbol class) = ends_address class
 ends_ahead End = true
-ends_ahead Faulty = true
+ends_ahead (Faulty f) = true
 
 -- what comes next may stand after an address
 abbrev pub ends_address_next : Next → Bool
 ends_address_next (Found symbol) = ends_address symbol.class
 ends_address_next Ended = true
 ends_address_next (Fault number p) = true
+
+-- what stands ahead is refused
+abbrev pub refusal_ahead : Ahead → Refusal
+refusal_ahead (Symbol class) = Unfit
+refusal_ahead End = Unfinished
+refusal_ahead (Faulty number) = Unfinished
 
 -- 8 at a symbol, 9 at the end of the text
 abbrev pub refused_next : ℕ → Next → Reading
@@ -112,16 +132,8 @@ abbrev pub closing : Enclosure → Class
 closing Angle = GreaterThan
 closing Group = Semicolon
 
--- "<" opens an angle list, and any other mark a group
-abbrev pub enclosure_of : Ahead → Enclosure
-enclosure_of (Symbol class) = pick (same_class LessThan class) Angle Group
-enclosure_of End = Group
-enclosure_of Faulty = Group
-
 abbrev pub closes_ahead : Enclosure → Ahead → Bool
-closes_ahead enclosure (Symbol class) = same_class (closing enclosure) class
-closes_ahead enclosure End = false
-closes_ahead enclosure Faulty = false
+closes_ahead enclosure ahead = is_ahead (closing enclosure) ahead
 
 -- what comes next closes an enclosed list
 abbrev pub closes_next : Enclosure → Next → Bool
@@ -195,14 +207,10 @@ module _ (classes text : List ℕ) where
   fault_ahead Ended = Accepted 0
   fault_ahead (Fault number p) = fault_refused number p
 
-  -- after reading, the fault that was first is first still, and the cursor has its places
-  pub record GoesOn (fault : Answer) (cursor : List ℕ) : Type 0 where
-    pub same : fault ≡ fault_ahead (next_in cursor)
-    pub sized : length cursor ≡ cursor_size
-
-  abbrev pub Onward : Answer → Bool → List ℕ → Type 0
-  Onward fault true cursor = GoesOn fault cursor
-  Onward fault false cursor = Unit {0}
+  -- after reading, the fault that was first is first still
+  abbrev pub Onward : Answer → Result Unit Refusal → Walk → Type 0
+  Onward first (Ok u) walk = first ≡ fault_ahead (coming walk)
+  Onward first (Err why) walk = Unit {0}
 
   -- ---- a phrase
 
@@ -226,11 +234,11 @@ module _ (classes text : List ℕ) where
     pub from : end ≤ r.end
     pub within : r.end ≤ length text
 
-  -- .. told by a cursor: the phrase's first word stands ahead before, and what follows the phrase after
-  pub record PhraseIs (before : List ℕ) (lone : Bool) (r : Bool) (after : List ℕ) : Type 0 where
-    pub words : WordsIs (get_or before 2 0) lone record { ahead = next_in after; end = last_in after; lone = r }
-    pub goes_on : GoesOn (fault_from (get_or before 2 0)) after
-    pub free_kept : free_in after ≡ free_in before
+  -- .. told by a walk: the phrase's first word stands ahead before, and what follows the phrase after
+  pub record PhraseIs (before : Walk) (lone : Bool) (r : Bool) (after : Walk) : Type 0 where
+    pub words : WordsIs before.cursor.end lone record { ahead = coming after; end = after.last; lone = r }
+    pub goes_on : fault_from before.cursor.end ≡ fault_ahead (coming after)
+    pub free_kept : after.free ≡ before.free
 
   -- ---- nodes, after the "at" that stands from start to at, apart or not
 
@@ -244,8 +252,8 @@ module _ (classes text : List ℕ) where
     pub within : last ≤ length text
 
   -- a refusal with a number and a place, of whatever the machine's verdicts speak of
-  pub record Stops {A : Type 0} (Verdicts : A → Refusal → List Sym → Type 0) (number-told place : ℕ) : Type 0 where
-    pub why : Refusal
+  pub record Stops {A : Type 0} (Verdicts : A → Why → List Sym → Type 0) (number-told place : ℕ) : Type 0 where
+    pub why : Why
     pub rest : List Sym
     pub number_is : number-told ≡ number why
     pub place_is : place ≡ start_of (length text) rest
@@ -261,17 +269,17 @@ module _ (classes text : List ℕ) where
   NodesIs start at apart (Stopped number-told place) =
       Stops (λ (c : NodesContext) why rest. judge (run c.limit (first_at c.here c.phrase (lexeme_at At start at apart)) (symbols_from at)) ≡ refused why rest) number-told place
 
-  -- .. told by a cursor: the "at" stands ahead before
-  pub record NodesOn (before after : List ℕ) : Type 0 where
-    pub goes_on : GoesOn (fault_from (get_or before 2 0)) after
-    pub free_kept : free_in after ≡ free_in before
+  -- .. told by a walk: the "at" stands ahead before
+  pub record NodesOn (before after : Walk) : Type 0 where
+    pub goes_on : fault_from before.cursor.end ≡ fault_ahead (coming after)
+    pub free_kept : after.free ≡ before.free
 
-  abbrev pub NodesKeep : List ℕ → Bool → List ℕ → Type 0
-  NodesKeep before true after = NodesOn before after
-  NodesKeep before false after = Unit {0}
+  abbrev pub NodesKeep : Walk → Result Unit Refusal → Walk → Type 0
+  NodesKeep before (Ok u) after = NodesOn before after
+  NodesKeep before (Err why) after = Unit {0}
 
-  abbrev pub NodesAre : List ℕ → Bool → List ℕ → Type 0
-  NodesAre before r after = NodesIs (get_or before 1 0) (get_or before 2 0) (apart_in before) (nodes_read r after) × NodesKeep before r after
+  abbrev pub NodesAre : Walk → Result Unit Refusal → Walk → Type 0
+  NodesAre before r after = NodesIs before.cursor.start before.cursor.end (apart_in before.cursor) (nodes_read (length text) r after) × NodesKeep before r after
 
   -- ---- an atom and ":" after a ":"
 
@@ -285,39 +293,37 @@ module _ (classes text : List ℕ) where
     pub within : behind ≤ length text
 
   -- the second ":" stands ahead
-  pub record TypedOn (before : List ℕ) (start end : ℕ) (after : List ℕ) : Type 0 where
-    pub follows : TypedFollows (get_or before 2 0) start end (get_or after 2 0)
-    pub faults : fault_from (get_or before 2 0) ≡ fault_from (get_or after 2 0)
-    pub free_kept : free_in after ≡ free_in before
-    pub sized : length after ≡ cursor_size
+  pub record TypedOn (before : Walk) (atom : Span) (after : Walk) : Type 0 where
+    pub follows : TypedFollows before.cursor.end atom.start atom.end after.cursor.end
+    pub faults : fault_from before.cursor.end ≡ fault_from after.cursor.end
+    pub free_kept : after.free ≡ before.free
 
-  pub record NamelessOn (before after : List ℕ) : Type 0 where
-    pub no_atom : atom_colon (symbols_from (get_or before 2 0)) ≡ false
-    pub free_kept : free_in after ≡ free_in before
-    pub sized : length after ≡ cursor_size
+  pub record NamelessOn (before after : Walk) : Type 0 where
+    pub no_atom : atom_colon (symbols_from before.cursor.end) ≡ false
+    pub free_kept : after.free ≡ before.free
 
-  abbrev pub TypedAtomIs : List ℕ → TypedAtom → List ℕ → Type 0
-  TypedAtomIs before (Typed start end) after = TypedOn before start end after
-  TypedAtomIs before Nameless after = NamelessOn before after
+  abbrev pub TypedAtomIs : Walk → std.Option Span → Walk → Type 0
+  TypedAtomIs before (std.Some atom) after = TypedOn before atom after
+  TypedAtomIs before std.None after = NamelessOn before after
 
   -- ---- an address
 
   -- the machine reads through these symbols, with so many levels left, wherever an address may stand
   pub record AddressRead (xs : List Sym) (frame : Frame) (start : ℕ) (table after : List ℕ) (ahead : Next) (last free : ℕ) : Type 0 where
     pub tree : Address
-    pub reads : (h : Here) → Clear (fresh h) (atom_colon xs) → run (levels_here h + frame.levels) (begin h) xs ≡ run (levels_here h + frame.levels) (done_address h tree) (symbols_ahead ahead)
+    pub reads : (h : Here) → Clear (fresh h) (atom_colon xs) → run (levels_here h + frame.level.left) (begin h) xs ≡ run (levels_here h + frame.level.left) (done_address h tree) (symbols_ahead ahead)
     pub ends : AddressEnds (symbols_ahead ahead)
     pub ahead_ok : Comes last ahead
     pub last_is : last ≡ address_end tree
     pub count : free ≡ frame.number + address_count tree
-    pub stored : after ≡ sets table (frame.number * address_record_size) (table_bytes (address_records tree (level_limit - frame.levels) frame.parent frame.number))
+    pub stored : after ≡ sets table (frame.number * address_record_size) (table_bytes (address_records tree (level_limit - frame.level.left) frame.level.parent frame.number))
     pub from : start < last
     pub within : last ≤ length text
     pub free_low : free ≤ last
 
   abbrev pub AddressStops : List Sym → Frame → ℕ → ℕ → Type 0
   AddressStops xs frame number-told place =
-      Stops (λ (h : Here) why rest. Clear (fresh h) (atom_colon xs) → judge (run (levels_here h + frame.levels) (begin h) xs) ≡ refused why rest) number-told place
+      Stops (λ (h : Here) why rest. Clear (fresh h) (atom_colon xs) → judge (run (levels_here h + frame.level.left) (begin h) xs) ≡ refused why rest) number-told place
 
   abbrev pub AddressIs : List Sym → Frame → ℕ → List ℕ → List ℕ → Reading → Type 0
   AddressIs xs frame start table after (Read ahead last free) = AddressRead xs frame start table after ahead last free
@@ -326,15 +332,14 @@ module _ (classes text : List ℕ) where
   -- the text is not too long, at most 64 levels are left, and there are no more records than bytes so far
   pub record Ready (frame : Frame) (start : ℕ) : Type 0 where
     pub short : length text ≤ message_limit
-    pub levels_low : frame.levels ≤ level_limit
+    pub levels_low : frame.level.left ≤ level_limit
     pub number_low : frame.number ≤ start
 
   -- a symbol that may begin an address, or fits nowhere, stands ahead
-  pub record BeginsAddress (cursor : List ℕ) (levels parent : ℕ) : Type 0 where
-    pub begins : ends_ahead (ahead_of (get_or cursor 0 0)) ≡ false
-    pub stands : Standing (get_or cursor 1 0) (get_or cursor 2 0)
-    pub ready : Ready (frame_at levels parent cursor) (get_or cursor 1 0)
-    pub sized : length cursor ≡ cursor_size
+  pub record BeginsAddress (walk : Walk) (level : Left) : Type 0 where
+    pub begins : ends_ahead (walk.cursor.ahead) ≡ false
+    pub stands : Standing walk.cursor.start walk.cursor.end
+    pub ready : Ready (frame_at level walk) walk.cursor.start
 
   -- symbols begin with a name, or none, and the mark of an enclosed list, which stands from a to b
   pub record Opening (enclosure : Enclosure) (xs : List Sym) (a b : ℕ) (span : Span) : Type 0 where
@@ -352,9 +357,8 @@ module _ (classes text : List ℕ) where
     pub ready : Ready frame span.start
 
   -- .. ahead
-  pub record MarkAhead (cursor : List ℕ) (levels parent : ℕ) (span : Span) : Type 0 where
-    pub opened : Opened (get_or cursor 1 0) (get_or cursor 2 0) span (frame_at levels parent cursor)
-    pub sized : length cursor ≡ cursor_size
+  abbrev pub MarkAhead : Walk → Left → Span → Type 0
+  MarkAhead walk level span = Opened walk.cursor.start walk.cursor.end span (frame_at level walk)
 
   -- symbols begin with a phrase, and then what is ahead
   pub record Named (xs : List Sym) (span : Span) (phrase : Phrase) (ahead : Next) : Type 0 where
@@ -366,49 +370,48 @@ module _ (classes text : List ℕ) where
 
   pub record ListRead (at : ℕ) (frame : Frame) (table after : List ℕ) (ahead : Next) (last free : ℕ) : Type 0 where
     pub tree : AddressList
-    pub reads : (k : Level) → Clear (nameless k) (atom_colon (symbols_from at)) → run (levels_at k + frame.levels) (list k (idle empty)) (symbols_from at) ≡ run (levels_at k + frame.levels) (done_list k tree) (symbols_ahead ahead)
+    pub reads : (k : Level) → Clear (nameless k) (atom_colon (symbols_from at)) → run (levels_at k + frame.level.left) (list k (idle empty)) (symbols_from at) ≡ run (levels_at k + frame.level.left) (done_list k tree) (symbols_ahead ahead)
     pub ends : ListEnds (symbols_ahead ahead)
     pub ahead_ok : Comes last ahead
     pub count : free ≡ frame.number + list_count tree
-    pub stored : after ≡ sets table (frame.number * address_record_size) (table_bytes (list_records tree (level_limit - frame.levels) frame.parent frame.number))
+    pub stored : after ≡ sets table (frame.number * address_record_size) (table_bytes (list_records tree (level_limit - frame.level.left) frame.level.parent frame.number))
     pub from : at ≤ last
     pub within : last ≤ length text
     pub free_low : free ≤ last
 
   abbrev pub ListStops : ℕ → Frame → ℕ → ℕ → Type 0
   ListStops at frame number-told place =
-      Stops (λ (k : Level) why rest. Clear (nameless k) (atom_colon (symbols_from at)) → judge (run (levels_at k + frame.levels) (list k (idle empty)) (symbols_from at)) ≡ refused why rest) number-told place
+      Stops (λ (k : Level) why rest. Clear (nameless k) (atom_colon (symbols_from at)) → judge (run (levels_at k + frame.level.left) (list k (idle empty)) (symbols_from at)) ≡ refused why rest) number-told place
 
   -- .. up to some last symbol
   pub record ListDone (at : ℕ) (frame : Frame) (table after : List ℕ) (ahead : Next) (free : ℕ) : Type 0 where
     pub last : ℕ
     pub read : ListRead at frame table after ahead last free
 
-  abbrev pub ListReads : ℕ → Frame → List ℕ → List ℕ → Bool → List ℕ → Type 0
-  ListReads at frame table after true cursor = ListDone at frame table after (next_in cursor) (free_in cursor)
-  ListReads at frame table after false cursor = ListStops at frame (get_or cursor 2 0) (get_or cursor 1 0)
+  abbrev pub ListReads : ℕ → Frame → List ℕ → List ℕ → Result Unit Refusal → Walk → Type 0
+  ListReads at frame table after (Ok u) walk = ListDone at frame table after (coming walk) walk.free
+  ListReads at frame table after (Err why) walk = ListStops at frame (number_told why) (place_told (length text) why walk)
 
-  -- told by a cursor: the list begins where the symbol ends that stands ahead
-  abbrev pub ListIs : List ℕ → ℕ → ℕ → List ℕ → List ℕ → Bool → List ℕ → Type 0
-  ListIs before levels parent table after r cursor =
-      ListReads (get_or before 2 0) (frame_at levels parent before) table after r cursor × Onward (fault_from (get_or before 2 0)) r cursor
+  -- told by a walk: the list begins where the symbol ends that stands ahead
+  abbrev pub ListIs : Walk → Left → List ℕ → List ℕ → Result Unit Refusal → Walk → Type 0
+  ListIs before level table after r walk =
+      ListReads before.cursor.end (frame_at level before) table after r walk × Onward (fault_from before.cursor.end) r walk
 
-  pub record Entered (cursor : List ℕ) (levels parent : ℕ) : Type 0 where
-    pub inside : get_or cursor 2 0 ≤ length text
-    pub ready : Ready (frame_at levels parent cursor) (get_or cursor 2 0)
-    pub sized : length cursor ≡ cursor_size
+  pub record Entered (walk : Walk) (level : Left) : Type 0 where
+    pub inside : walk.cursor.end ≤ length text
+    pub ready : Ready (frame_at level walk) walk.cursor.end
 
   -- ---- the functions of the cycle
 
   -- the address that begins with the symbol ahead
-  abbrev pub AddressAhead : List ℕ → ℕ → ℕ → List ℕ → List ℕ → Bool → List ℕ → Type 0
-  AddressAhead before levels parent table after r cursor =
-      AddressIs (symbols_ahead (next_in before)) (frame_at levels parent before) (get_or before 1 0) table after (reading r cursor) × Onward (fault_from (get_or before 2 0)) r cursor
+  abbrev pub AddressAhead : Walk → Left → List ℕ → List ℕ → Result Unit Refusal → Walk → Type 0
+  AddressAhead before level table after r walk =
+      AddressIs (symbols_ahead (coming before)) (frame_at level before) before.cursor.start table after (reading (length text) r walk) × Onward (fault_from before.cursor.end) r walk
 
-  abbrev pub MailboxIs : List ℕ → ℕ → ℕ → Span → List ℕ → List ℕ → Bool → List ℕ → Type 0
-  MailboxIs before levels parent span table after r cursor =
-      ((xs : List Sym) (phrase : Phrase) → Named xs span phrase (found_at At (get_or before 1 0) (get_or before 2 0) (get_or before 3 0) (apart_in before)) → AddressIs xs (frame_at levels parent before) span.start table after (reading r cursor))
-      × Onward (fault_from (get_or before 2 0)) r cursor
+  abbrev pub MailboxIs : Walk → Left → Span → List ℕ → List ℕ → Result Unit Refusal → Walk → Type 0
+  MailboxIs before level span table after r walk =
+      ((xs : List Sym) (phrase : Phrase) → Named xs span phrase (found_at At before.cursor.start before.cursor.end before.cursor.length (apart_in before.cursor)) → AddressIs xs (frame_at level before) span.start table after (reading (length text) r walk))
+      × Onward (fault_from before.cursor.end) r walk
 
   -- what follows a phrase, and is neither a word nor a mark of an address
   abbrev pub follows_phrase : Class → Bool
@@ -426,43 +429,40 @@ module _ (classes text : List ℕ) where
     pub within : span.end ≤ length text
     pub ready : Ready frame span.start
 
-  pub record LoneAhead (cursor : List ℕ) (levels parent : ℕ) (span : Span) : Type 0 where
-    pub lone : Lone (next_in cursor) span (frame_at levels parent cursor)
-    pub last_is : last_in cursor ≡ span.end
-    pub sized : length cursor ≡ cursor_size
+  pub record LoneAhead (walk : Walk) (level : Left) (span : Span) : Type 0 where
+    pub lone : Lone (coming walk) span (frame_at level walk)
+    pub last_is : walk.last ≡ span.end
 
-  abbrev pub LoneIs : List ℕ → ℕ → ℕ → Bool → Span → List ℕ → List ℕ → Bool → List ℕ → Type 0
-  LoneIs before levels parent lone span table after r cursor =
-      ((xs : List Sym) (phrase : Phrase) → Named xs span phrase (next_in before) → lone ≡ lone_quoted phrase → AddressIs xs (frame_at levels parent before) span.start table after (reading r cursor))
-      × Onward (fault_ahead (next_in before)) r cursor
+  abbrev pub LoneIs : Walk → Left → Bool → Span → List ℕ → List ℕ → Result Unit Refusal → Walk → Type 0
+  LoneIs before level lone span table after r walk =
+      ((xs : List Sym) (phrase : Phrase) → Named xs span phrase (coming before) → lone ≡ lone_quoted phrase → AddressIs xs (frame_at level before) span.start table after (reading (length text) r walk))
+      × Onward (fault_ahead (coming before)) r walk
 
   -- the frame of what lies in an address
   abbrev pub inner : Frame → Frame
-  inner frame = record { levels = frame.levels - 1; parent = frame.number + 1; number = frame.number + 1 }
+  inner frame = record { level = record { left = frame.level.left - 1; parent = frame.number + 1 }; number = frame.number + 1 }
 
-  abbrev pub CloseIs : List ℕ → Frame → Enclosure → Span → List ℕ → List ℕ → Bool → List ℕ → Type 0
-  CloseIs before frame enclosure span between after r cursor =
-      ((xs : List Sym) (a b low : ℕ) (table : List ℕ) → Opening enclosure xs a b span → Opened a b span frame → (frame.levels ≡ 0 → ⊥) → ListRead b (inner frame) table between (next_in before) low (free_in before)
-      → AddressIs xs frame span.start table after (reading r cursor))
-      × Onward (fault_ahead (next_in before)) r cursor
+  abbrev pub CloseIs : Walk → Frame → Enclosure → Span → List ℕ → List ℕ → Result Unit Refusal → Walk → Type 0
+  CloseIs before frame enclosure span between after r walk =
+      ((xs : List Sym) (a b low : ℕ) (table : List ℕ) → Opening enclosure xs a b span → Opened a b span frame → (frame.level.left ≡ 0 → ⊥) → ListRead b (inner frame) table between (coming before) low before.free
+      → AddressIs xs frame span.start table after (reading (length text) r walk))
+      × Onward (fault_ahead (coming before)) r walk
 
-  abbrev pub EnclosedIs : List ℕ → ℕ → ℕ → Enclosure → Span → List ℕ → List ℕ → Bool → List ℕ → Type 0
-  EnclosedIs before levels parent enclosure span table after r cursor =
-      ((xs : List Sym) → Opening enclosure xs (get_or before 1 0) (get_or before 2 0) span → AddressIs xs (frame_at levels parent before) span.start table after (reading r cursor))
-      × Onward (fault_from (get_or before 2 0)) r cursor
+  abbrev pub EnclosedIs : Walk → Left → Enclosure → Span → List ℕ → List ℕ → Result Unit Refusal → Walk → Type 0
+  EnclosedIs before level enclosure span table after r walk =
+      ((xs : List Sym) → Opening enclosure xs before.cursor.start before.cursor.end span → AddressIs xs (frame_at level before) span.start table after (reading (length text) r walk))
+      × Onward (fault_from before.cursor.end) r walk
 
-  pub record NamedFirst (cursor : List ℕ) (levels parent : ℕ) : Type 0 where
+  pub record NamedFirst (walk : Walk) (level : Left) : Type 0 where
     pub class : Class
-    pub ahead_is : ahead_of (get_or cursor 0 0) ≡ Symbol class
-    pub first : FirstWord class (get_or cursor 1 0) (get_or cursor 2 0)
-    pub ready : Ready (frame_at levels parent cursor) (get_or cursor 1 0)
-    pub sized : length cursor ≡ cursor_size
+    pub ahead_is : walk.cursor.ahead ≡ Symbol class
+    pub first : FirstWord class walk.cursor.start walk.cursor.end
+    pub ready : Ready (frame_at level walk) walk.cursor.start
 
-  pub record ColonFirst (cursor : List ℕ) (levels parent : ℕ) : Type 0 where
-    pub ahead_is : ahead_of (get_or cursor 0 0) ≡ Symbol Colon
-    pub stands : Standing (get_or cursor 1 0) (get_or cursor 2 0)
-    pub ready : Ready (frame_at levels parent cursor) (get_or cursor 1 0)
-    pub sized : length cursor ≡ cursor_size
+  pub record ColonFirst (walk : Walk) (level : Left) : Type 0 where
+    pub ahead_is : walk.cursor.ahead ≡ Symbol Colon
+    pub stands : Standing walk.cursor.start walk.cursor.end
+    pub ready : Ready (frame_at level walk) walk.cursor.start
 
   -- a ":" stands from start to end, and then the atom and ":" of a typed address up to a position
   pub record TypedFirst (start end : ℕ) (atom : Span) (behind : ℕ) (frame : Frame) : Type 0 where
@@ -470,13 +470,12 @@ module _ (classes text : List ℕ) where
     pub ready : Ready frame start
     pub follows : TypedFollows end atom.start atom.end behind
 
-  pub record TypedAhead (cursor : List ℕ) (levels parent start : ℕ) (atom : Span) : Type 0 where
+  pub record TypedAhead (walk : Walk) (level : Left) (start : ℕ) (atom : Span) : Type 0 where
     pub end : ℕ
-    pub first : TypedFirst start end atom (get_or cursor 2 0) (frame_at levels parent cursor)
-    pub sized : length cursor ≡ cursor_size
+    pub first : TypedFirst start end atom walk.cursor.end (frame_at level walk)
 
-  abbrev pub TypedIs : List ℕ → ℕ → ℕ → ℕ → Span → List ℕ → List ℕ → Bool → List ℕ → Type 0
-  TypedIs before levels parent start atom table after r cursor =
-      ((end : ℕ) (apart : Bool) → TypedFirst start end atom (get_or before 2 0) (frame_at levels parent before)
-      → AddressIs (symbols_on Colon start end apart) (frame_at levels parent before) start table after (reading r cursor))
-      × Onward (fault_from (get_or before 2 0)) r cursor
+  abbrev pub TypedIs : Walk → Left → ℕ → Span → List ℕ → List ℕ → Result Unit Refusal → Walk → Type 0
+  TypedIs before level start atom table after r walk =
+      ((end : ℕ) (apart : Bool) → TypedFirst start end atom before.cursor.end (frame_at level before)
+      → AddressIs (symbols_on Colon start end apart) (frame_at level before) start table after (reading (length text) r walk))
+      × Onward (fault_from before.cursor.end) r walk

@@ -1,10 +1,10 @@
 -- What the functions that read a whole body answer.
-use Rattle.std.specs.Prelude.{◌≡◌, Bool, true, false, List, ℕ, ◌*◌, ◌/◌, ◌≤◌, length}
+use Rattle.std.specs.Prelude.{◌≡◌, Bool, true, false, List, ℕ, ◌≤◌, length}
 use Rattle.std.proofs.lemmas.List.Edits.{sets}
-use Rattle.octets.specs.Believed.Numbers.{message_limit}
+use Rattle.octets.specs.Believed.Numbers.{message_limit, level_limit}
 use Rattle.octets.specs.declared.answers.Answer.{Answer}
 use Rattle.octets.specs.declared.answers.Answer.TheVariants.{Refused}
-use Rattle.records.specs.Believed.AddressRecords.{table_bytes, address_record_size}
+use Rattle.records.specs.Believed.AddressRecords.{table_bytes}
 use Rattle.scanner.specs.Believed.Scanning.{scan_by}
 use Rattle.scanner.specs.Believed.Answers.{fault_of}
 use Rattle.scanner.specs.Believed.Symbols.{Symbol}
@@ -29,14 +29,6 @@ pub record Body (classes text : List ℕ) (at : ℕ) : Type 0 where
 pub record Fitting (text : List ℕ) (at : ℕ) : Type 0 where
   pub inside : at ≤ length text
   pub short : length text ≤ message_limit
-
--- bodies of up to so many bytes are read once
-abbrev pub once_limit : ℕ
-once_limit = 1024
-
--- the bytes of the records that such a body can have: one for each two bytes
-abbrev pub once_room : ℕ
-once_room = once_limit / 2 * address_record_size
 
 -- the symbols from a position on are a list of RFC 733 of at most so many levels
 abbrev pub ends_within : List ℕ → List ℕ → ℕ → ℕ → Bool
@@ -86,3 +78,13 @@ module _ {N : Type 0} (verdict : List (Symbol Class) → Verdict Class (Forest C
   pub record FaultFirst (at : ℕ) (table after : List ℕ) (r : Answer) : Type 0 where
     pub clean : Faultless classes text at → TwiceIs at table after r
     pub faulty : (number p : ℕ) → Refused number p ≡ fault_of (scan_by classes text at) → (r ≡ Refused number p) × (after ≡ table)
+
+-- whether it is a list
+abbrev pub is_listed : Whole → Bool
+is_listed (Listed n) = true
+is_listed (whole.Refused number-told place) = false
+
+-- what is told of a list of at most so many levels from a position on; of one of at most 64 also what is written
+pub record BodyRead (classes text : List ℕ) (limit at : ℕ) (table after : List ℕ) (r : Whole) : Type 0 where
+  pub whole : limit ≡ level_limit → WholeFirst (answer level_limit) classes text at table after r
+  pub within : EndsWithin classes text limit at (is_listed r)

@@ -1,5 +1,5 @@
 -- Answers as numbers: in a lent array, and as the value of a function.
-use Rattle.std.specs.Prelude.{ℕ, List, [], ◌∷◌}
+use Rattle.std.specs.Prelude.{ℕ, List, [], ◌∷◌, ℤ, Result}
 use Rattle.std.proofs.lemmas.List.Edits.{sets}
 use Rattle.octets.specs.Believed.Choice.{pick}
 use Rattle.octets.specs.Believed.Numbers.{accepted}
@@ -10,10 +10,9 @@ use Rattle.scanner.specs.declared.Class.TheVariants.{Atom, Quoted, At, LessThan,
 use Rattle.scanner.specs.declared.Next.{Next}
 use Rattle.scanner.specs.declared.Next.TheVariants.{Found, Ended, Fault}
 use Rattle.dates.specs.Believed.Answers as date
-use Rattle.dates.specs.declared.DateAnswer.{DateAnswer}
+use Rattle.octets.specs.declared.answers.Fault.{Fault as DateFault}
 use Rattle.reply.specs.Believed.Reply.{left_for_from}
 use Rattle.touch.specs.Believed.Answers as touch
-use Rattle.touch.specs.declared.Touched.{Touched}
 
 -- a lent array afterwards: the number, position and count at its front, as far as it reaches
 abbrev pub told_in : List ℕ → Answer → List ℕ
@@ -48,11 +47,11 @@ abbrev pub symbol_told_in : List ℕ → Next → List ℕ
 symbol_told_in lent next = sets lent 0 (symbol_numbers next)
 
 -- the same of a date's answer
-abbrev pub date_told_in : List ℕ → DateAnswer → List ℕ
+abbrev pub date_told_in : List ℕ → Result ℤ DateFault → List ℕ
 date_told_in lent answer = sets lent 0 (date.number_of answer ∷ date.position_of answer ∷ date.count_of answer ∷ [])
 
 -- of what is answered for a touched byte: what the byte is and what could have stood there, too
-abbrev pub touch_told_in : List ℕ → Touched → List ℕ
+abbrev pub touch_told_in : List ℕ → touch.Touched → List ℕ
 touch_told_in lent answer = sets lent 0 (touch.number_of answer ∷ touch.position_of answer ∷ touch.count_of answer ∷ touch.category_of answer ∷ touch.names_of answer ∷ [])
 
 -- which of the two bodies to reply to: 0 for Reply-To's, 1 for From's

@@ -2,14 +2,11 @@
 use mathlib.Core.Path.{sym, ap, ◌∙◌}
 use native.Mathlib.Omega.{arith}
 use lib.Seq.{length-take-le}
-use mir.Syntax.{w64}
-use mir.Val.{SFits}
-use mir.Facts.{to_z-of_z}
 use Rattle.octets.specs.Believed.Classes.{class_of, class_table}
 use Rattle.scanner.proofs.BodyChecks.{clean}
 use Rattle.dates.specs.Believed.Outcome.{moment_answer}
-use Rattle.dates.specs.declared.DateAnswer.TheVariants.{Accepted}
-use Rattle.dates.proofs.AnswerLaws.{unread, without_fault, promised}
+use Rattle.std.proofs.lemmas.Result.{err_from_is_err_and}
+use Rattle.dates.proofs.AnswerLaws.{unread, without_fault, no_form, moment_or_fault, promised}
 use borrow.Enum.Refused.{opened}
 use Rattle.dates.proofs.read_date.Goals as goal
 
@@ -27,28 +24,23 @@ read_form-requires c =
     let x = (let a = c.args in clean a.message.now a.start a.end c.scan_body.result c.scan_body.ensures.outcome.1 (opened c.in_default.in_default-own.keys2)) in
     omega (arith, length-take-le a.end a.message.now x.inside, x.ordered)
 
-pub returns-in_default-read_form : goal.returns-in_default-read_form
+pub returns-in_err-written : goal.returns-in_err-written
 unfolding class_table class_of
-returns-in_default-read_form c =
+returns-in_err-written c =
     let a = c.args in
-    let all = promised a.message.now a.start a.end (rw c.in_default-read_form.is at ((let a = c.args in let x = (let a = c.args in clean a.message.now a.start a.end c.scan_body.result c.scan_body.ensures.outcome.1 (opened c.in_default.in_default-own.keys2)) in without_fault a.message.now a.start a.end x.short x.ordered x.inside x.faultless c.read_form.result c.read_form.ensures))) in record { outcome = all.0; by_grammar = all.1 }
+    let x = clean a.message.now a.start a.end c.scan_body.result c.scan_body.ensures.outcome.1 (opened c.in_default.in_default-own.keys2) in
+    let e = without_fault a.message.now a.start a.end x.short x.ordered x.inside x.faultless c.read_form.result c.read_form.ensures in
+    let p = err_from_is_err_and c.from_residual.result c.from_residual.ensures.1 in
+    let all = promised a.message.now a.start a.end (p.1 ∙ rw p.2 (no_form a.start c.in_err-written.ensures.ok_part c.in_err-written.ensures.value) ∙ e) in
+    record { outcome = all.0; by_grammar = all.1 }
 
-pub returns-in-Impossible : goal.returns-in-Impossible
+pub returns : goal.returns
 unfolding class_table class_of
-returns-in-Impossible c =
+returns c =
     let a = c.args in
-    let moment-of = c.moment_of in
+    let x = clean a.message.now a.start a.end c.scan_body.result c.scan_body.ensures.outcome.1 (opened c.in_default.in_default-own.keys2) in
+    let e = without_fault a.message.now a.start a.end x.short x.ordered x.inside x.faultless c.read_form.result c.read_form.ensures in
+    let m = c.moment_of.result in
     let all = promised a.message.now a.start a.end
-    (ap (λ m. moment_answer a.start m) (sym c.in-Impossible.is ∙ moment-of.ensures)
-    ∙ (rw c.in-Right.is at ((let a = c.args in let x = (let a = c.args in clean a.message.now a.start a.end c.scan_body.result c.scan_body.ensures.outcome.1 (opened c.in_default.in_default-own.keys2)) in without_fault a.message.now a.start a.end x.short x.ordered x.inside x.faultless c.read_form.result c.read_form.ensures)))) in record { outcome = all.0; by_grammar = all.1 }
-
-pub returns-in-At : goal.returns-in-At
-unfolding class_table class_of
-returns-in-At c =
-    let a = c.args in
-    let moment-of = c.moment_of in
-    let k = c.in-At.known_told-in-At-1-own.given in
-    let f : SFits w64 c.in-At.value = record { sfits = omega arith } in
-    let all = promised a.message.now a.start a.end
-    (ap Accepted (to_z-of_z f) ∙ ap (λ m. moment_answer a.start m) (sym c.in-At.is ∙ moment-of.ensures)
-    ∙ (rw c.in-Right.is at ((let a = c.args in let x = (let a = c.args in clean a.message.now a.start a.end c.scan_body.result c.scan_body.ensures.outcome.1 (opened c.in_default.in_default-own.keys2)) in without_fault a.message.now a.start a.end x.short x.ordered x.inside x.faultless c.read_form.result c.read_form.ensures)))) in record { outcome = all.0; by_grammar = all.1 }
+    (c.ok_or-2.ensures.value ∙ moment_or_fault a.start m ∙ ap (λ m. moment_answer a.start m) c.moment_of.ensures ∙ (rw c.in_ok-written.ensures.ok_part at e)) in
+    record { outcome = all.0; by_grammar = all.1 }

@@ -1,16 +1,10 @@
 -- The moment that a date says, and document 01's number, position, count and value of each answer.
-use Rattle.std.specs.Prelude.{ℕ, ◌+◌, ◌*◌, Bool, eqb, leb, ℤ, pos, ◌-ℤ◌, ◌*ℤ◌, length}
-use Rattle.octets.specs.Believed.Choice.{pick, both, either}
+use Rattle.std.specs.Prelude.{ℕ, ◌+◌, ◌*◌, Bool, true, eqb, leb, ℤ, pos, ◌-ℤ◌, ◌*ℤ◌, Option, Some, None, Result, Ok, Err}
+use Rattle.octets.specs.Believed.Choice.{pick, both}
 use Rattle.octets.specs.Believed.Numbers.{accepted}
-use Rattle.dates.specs.Believed.Names.{day_names}
+use Rattle.octets.specs.declared.answers.Fault.{Fault}
 use Rattle.dates.specs.Believed.Calendar.{month_length, day_number, weekday}
-use Rattle.dates.specs.declared.form.Offset.{Offset}
-use Rattle.dates.specs.declared.form.Offset.TheVariants.{Minutes, OutOfRange}
 use Rattle.dates.specs.declared.form.Written.{Written}
-use Rattle.dates.specs.declared.moment.Moment.{Moment}
-use Rattle.dates.specs.declared.moment.Moment.TheVariants.{Impossible, At}
-use Rattle.dates.specs.declared.DateAnswer.{DateAnswer}
-use Rattle.dates.specs.declared.DateAnswer.TheVariants.{Accepted, Refused}
 
 -- a day of the years 1900 to 9999
 unfoldable pub day_exists : ℕ → ℕ → ℕ → Bool
@@ -21,47 +15,48 @@ unfoldable pub time_exists : ℕ → ℕ → ℕ → Bool
 time_exists hour minute second = both (leb hour 23) (both (leb minute 59) (leb second 59))
 
 -- no name, or the true one
-unfoldable pub name_true : ℕ → ℕ → Bool
-name_true name days = either (eqb name (length day_names)) (eqb name (weekday days))
+unfoldable pub name_true : Option ℕ → ℕ → Bool
+name_true None days = true
+name_true (Some name) days = eqb name (weekday days)
 
 -- the number of the day that a date names
 abbrev pub days_of : Written → ℕ
-days_of w = day_number w.year w.month w.day
+days_of w = day_number w.day.year w.day.month w.day.day
 
 -- seconds of local time from 1 January 1900, 00:00
 abbrev pub local_seconds : Written → ℕ
-local_seconds w = days_of w * 86400 + w.hour * 3600 + w.minute * 60 + w.second
+local_seconds w = days_of w * 86400 + w.time.hour * 3600 + w.time.minute * 60 + w.time.second
 
 -- seconds of GMT from 1 January 1900, 00:00
 abbrev pub seconds : ℕ → ℤ → ℤ
 seconds local minutes = pos local -ℤ minutes *ℤ pos 60
 
-abbrev pub in_zone : ℕ → Offset → Moment
-in_zone local (Minutes minutes) = At (seconds local minutes)
-in_zone local OutOfRange = Impossible
+abbrev pub in_zone : ℕ → Option ℤ → Option ℤ
+in_zone local (Some minutes) = Some (seconds local minutes)
+in_zone local None = None
 
--- the moment that a date says, if it is possible
-unfoldable pub moment_of : Written → Moment
+-- the moment that a date says, if it is possible: seconds of GMT
+unfoldable pub moment_of : Written → Option ℤ
 moment_of w =
-    pick (day_exists w.year w.month w.day)
-    (pick (time_exists w.hour w.minute w.second)
-    (pick (name_true w.name (days_of w)) (in_zone (local_seconds w) w.zone) Impossible) Impossible) Impossible
+    pick (day_exists w.day.year w.day.month w.day.day)
+    (pick (time_exists w.time.hour w.time.minute w.time.second)
+    (pick (name_true w.name (days_of w)) (in_zone (local_seconds w) w.zone) None) None) None
 
 -- document 01's number, position, count and value of each answer
-abbrev pub number_of : DateAnswer → ℕ
-number_of (Accepted value) = accepted
-number_of (Refused number position) = number
+abbrev pub number_of : Result ℤ Fault → ℕ
+number_of (Ok value) = accepted
+number_of (Err f) = f.number
 
-abbrev pub position_of : DateAnswer → ℕ
-position_of (Accepted value) = 0
-position_of (Refused number position) = position
+abbrev pub position_of : Result ℤ Fault → ℕ
+position_of (Ok value) = 0
+position_of (Err f) = f.position
 
-abbrev pub count_of : DateAnswer → ℕ
+abbrev pub count_of : Result ℤ Fault → ℕ
 count_of a = 0
 
-abbrev pub value_of : DateAnswer → ℤ
-value_of (Accepted value) = value
-value_of (Refused number position) = pos 0
+abbrev pub value_of : Result ℤ Fault → ℤ
+value_of (Ok value) = value
+value_of (Err f) = pos 0
 
 -- what an answer tells: all four
 pub record Told : Type 0 where
@@ -70,5 +65,5 @@ pub record Told : Type 0 where
   pub count : ℕ
   pub value : ℤ
 
-abbrev pub told : DateAnswer → Told
+abbrev pub told : Result ℤ Fault → Told
 told a = record { number = number_of a; position = position_of a; count = count_of a; value = value_of a }

@@ -1,12 +1,10 @@
 -- The grammar of dates: a rule for each thing that stands in front of other parts.
-use Rattle.std.specs.Prelude.{◌≡◌, ℕ, ◌+◌, ◌-◌, ◌*◌, ◌/◌, ◌%◌, ◌<◌, List, [], ◌∷◌, leb, ℤ, pos, length, get_or}
+use Rattle.std.specs.Prelude.{◌≡◌, ℕ, ◌+◌, ◌-◌, ◌*◌, ◌/◌, ◌%◌, ◌<◌, List, [], ◌∷◌, leb, ℤ, pos, length, get_or, Option, Some, None}
 use Rattle.octets.specs.Believed.Choice.{pick, both}
 use Rattle.octets.specs.Believed.Classes.{letter, digit}
 use Rattle.octets.specs.Believed.Octets.{plus_byte, comma_byte, minus_byte, zero_byte, colon_byte}
 use Rattle.dates.specs.Believed.Names.{day_names, month_names, zone_names, zone_minutes, place, ahead, behind}
 use Rattle.dates.specs.Believed.Parts.{Part}
-use Rattle.dates.specs.declared.form.Offset.{Offset}
-use Rattle.dates.specs.declared.form.Offset.TheVariants.{Minutes, OutOfRange}
 use Rattle.dates.specs.declared.form.Written.{Written}
 
 -- the decimal number whose digits are those of `high` and then these
@@ -21,10 +19,10 @@ decimal digits = decimal_from 0 digits
 abbrev pub num : Part → ℕ
 num p = decimal p.bytes
 
--- HHMM after a sign: up to 2359, with minutes to 59
-unfoldable pub offset_of : (ℕ → ℕ → ℤ) → ℕ → Offset
+-- HHMM after a sign: up to 2359, with minutes to 59; `None` is out of range
+unfoldable pub offset_of : (ℕ → ℕ → ℤ) → ℕ → Option ℤ
 offset_of direction hhmm =
-    pick (both (leb (hhmm / 100) 23) (leb (hhmm % 100) 59)) (Minutes (direction (hhmm / 100) (hhmm % 100))) OutOfRange
+    pick (both (leb (hhmm / 100) 23) (leb (hhmm % 100) 59)) (Some (direction (hhmm / 100) (hhmm % 100))) None
 
 -- a run of so many digits
 pub record Digits (count : ℕ) (p : Part) : Type 0 where
@@ -37,10 +35,10 @@ pub record Name (names : List (List ℕ)) (at : ℕ) (p : Part) : Type 0 where
   pub called : place names p.bytes ≡ at
   pub known : at < length names
 
--- day name and comma, which may be missing: then its place is past the last
-pub data DayNameIs : List Part → ℕ → List Part → Type 0 where
-  day_name : {p q : Part} {r : List Part} {name : ℕ} → Name day_names name p → q.key ≡ comma_byte → DayNameIs (p ∷ q ∷ r) name r
-  no_day_name : {r : List Part} → DayNameIs r (length day_names) r
+-- day name and comma, which may be missing
+pub data DayNameIs : List Part → Option ℕ → List Part → Type 0 where
+  day_name : {p q : Part} {r : List Part} {name : ℕ} → Name day_names name p → q.key ≡ comma_byte → DayNameIs (p ∷ q ∷ r) (Some name) r
+  no_day_name : {r : List Part} → DayNameIs r None r
 
 -- a "-", which may be missing
 pub data DashIs : List Part → List Part → Type 0 where
@@ -71,14 +69,14 @@ pub data HourIs : List Part → ℕ → ℕ → ℕ → List Part → Type 0 whe
       → HourIs (p ∷ c ∷ q ∷ d ∷ s ∷ r) (num p) (num q) (num s) r
 
 -- a name or letter, before which a "-" may stand, or a sign and HHMM; nothing follows the zone
-pub data ZoneIs : List Part → Offset → Type 0 where
-  zone_name : {p : Part} {z : ℕ} → Name zone_names z p → ZoneIs (p ∷ []) (Minutes (get_or zone_minutes z (pos 0)))
-  dashed_name : {s p : Part} {z : ℕ} → s.key ≡ minus_byte → Name zone_names z p → ZoneIs (s ∷ p ∷ []) (Minutes (get_or zone_minutes z (pos 0)))
+pub data ZoneIs : List Part → Option ℤ → Type 0 where
+  zone_name : {p : Part} {z : ℕ} → Name zone_names z p → ZoneIs (p ∷ []) (Some (get_or zone_minutes z (pos 0)))
+  dashed_name : {s p : Part} {z : ℕ} → s.key ≡ minus_byte → Name zone_names z p → ZoneIs (s ∷ p ∷ []) (Some (get_or zone_minutes z (pos 0)))
   east : {s p : Part} → s.key ≡ plus_byte → Digits 4 p → ZoneIs (s ∷ p ∷ []) (offset_of ahead (num p))
   west : {s p : Part} → s.key ≡ minus_byte → Digits 4 p → ZoneIs (s ∷ p ∷ []) (offset_of behind (num p))
 
 -- the parts write the date
 pub data DateIs : List Part → Written → Type 0 where
-  date : {l l₁ l₂ l₃ l₄ l₅ l₆ l₇ : List Part} {name d m y h mi s : ℕ} {offset : Offset}
+  date : {l l₁ l₂ l₃ l₄ l₅ l₆ l₇ : List Part} {name : Option ℕ} {d m y h mi s : ℕ} {offset : Option ℤ}
       → DayNameIs l name l₁ → DayIs l₁ d l₂ → DashIs l₂ l₃ → MonthIs l₃ m l₄ → DashIs l₄ l₅ → YearIs l₅ y l₆ → HourIs l₆ h mi s l₇ → ZoneIs l₇ offset
-      → DateIs l (record { name = name; day = d; month = m; year = y; hour = h; minute = mi; second = s; zone = offset })
+      → DateIs l (record { name = name; day = record { year = y; month = m; day = d }; time = record { hour = h; minute = mi; second = s }; zone = offset })

@@ -1,17 +1,15 @@
 -- The executable layer: a reader of the grammar, over the parts from left to right.
 -- Nothing here needs to be believed: `ReadsRight` says that what it reads is the one right reading; what is answered `ByGrammar` says by the grammar alone.
-use Rattle.std.specs.Prelude.{◌≡◌, ℕ, ◌+◌, ◌/◌, ◌%◌, Bool, true, false, List, [], ◌∷◌, eqb, leb, ltb, ℤ, pos, length, get_or}
-use Rattle.octets.specs.Believed.Choice.{pick, both}
+use Rattle.std.specs.Prelude.{◌≡◌, ℕ, ◌+◌, ◌/◌, ◌%◌, Bool, true, false, List, [], ◌∷◌, eqb, leb, ltb, ℤ, pos, length, get_or, Option, Some, None}
+use Rattle.octets.specs.Believed.Choice.{pick, either}
 use Rattle.octets.specs.Believed.Classes.{letter, digit}
 use Rattle.octets.specs.Believed.Octets.{plus_byte, comma_byte, minus_byte, colon_byte}
 use Rattle.dates.specs.Believed.Names.{day_names, month_names, zone_names, zone_minutes, place, ahead, behind}
 use Rattle.dates.specs.Believed.Parts.{Part, no_part}
 use Rattle.dates.specs.Believed.Grammar.{decimal, offset_of, DateIs}
-use Rattle.dates.specs.declared.form.Offset.{Offset}
-use Rattle.dates.specs.declared.form.Offset.TheVariants.{Minutes}
+use Rattle.dates.specs.declared.form.DigitRun.{DigitRun}
+use Rattle.dates.specs.declared.moment.Time.{Time}
 use Rattle.dates.specs.declared.form.Written.{Written}
-use Rattle.dates.specs.declared.form.Reading.{Reading}
-use Rattle.dates.specs.declared.form.Reading.TheVariants.{Wrong, Right}
 
 -- ---- the first part
 
@@ -32,131 +30,105 @@ unfoldable pub done : List Part → Bool
 done [] = true
 done (p ∷ rest) = false
 
--- its digits; none, if it is no run of digits
-unfoldable pub digits_of : List Part → List ℕ
-digits_of l = pick (eqb (first_key l) digit) (first_bytes l) []
+-- ---- readers: what each reads, and the parts after it; or nothing
 
--- their value, if they are at most six
-unfoldable pub up_to_six : List ℕ → ℕ
-up_to_six d = pick (ltb 6 (length d)) 0 (decimal d)
+-- what is read of the parts after what a reader read
+abbrev pub and_then : {A B : Type 0} → Option (A × List Part) → (A → List Part → Option B) → Option B
+and_then None f = None
+and_then (Some x) f = f x.0 x.1
 
--- its place among names; past the last, if it is none of them
-unfoldable pub named : List (List ℕ) → List Part → ℕ
-named names l = pick (eqb (first_key l) letter) (place names (first_bytes l)) (length names)
+-- a run of at most six digits
+unfoldable pub digit_run_of : List Part → Option (DigitRun × List Part)
+digit_run_of l =
+    pick (eqb (first_key l) digit)
+    (pick (leb (length (first_bytes l)) 6) (Some (record { count = length (first_bytes l); value = decimal (first_bytes l) }, after l)) None) None
 
--- ---- the hour: hour, minute and second, and the parts after it
+-- one of these names
+unfoldable pub name_of : List (List ℕ) → List Part → Option (ℕ × List Part)
+name_of names l =
+    pick (eqb (first_key l) letter)
+    (pick (ltb (place names (first_bytes l)) (length names)) (Some (place names (first_bytes l), after l)) None) None
 
-pub data Hour : Type 0 where
-  no_hour : Hour
-  hour : ℕ → ℕ → ℕ → List Part → Hour
+-- ---- the time of day
+
+abbrev pub time : ℕ → ℕ → ℕ → Time
+time h m s = record { hour = h; minute = m; second = s }
 
 -- the second, a colon and two digits, or none
-abbrev pub second_from : ℕ → ℕ → List ℕ → List Part → Hour
-second_from h m d rest = pick (eqb (length d) 2) (hour h m (up_to_six d) rest) no_hour
-
-unfoldable pub second_after : ℕ → ℕ → List Part → Hour
-second_after h m l = pick (eqb (first_key l) colon_byte) (second_from h m (digits_of (after l)) (after (after l))) (hour h m 0 l)
+unfoldable pub second_after : ℕ → ℕ → List Part → Option (Time × List Part)
+second_after h m l =
+    pick (eqb (first_key l) colon_byte) (and_then (digit_run_of (after l)) (λ n r. pick (eqb n.count 2) (Some (time h m n.value, r)) None))
+    (Some (time h m 0, l))
 
 -- after two digits: a colon and four; or a colon, two and perhaps the second
-abbrev pub minute_from : ℕ → List ℕ → List Part → Hour
-minute_from h d rest =
-    pick (eqb (length d) 4) (hour h (up_to_six d / 100) (up_to_six d % 100) rest)
-    (pick (eqb (length d) 2) (second_after h (up_to_six d) rest) no_hour)
-
-unfoldable pub minute_after : ℕ → List Part → Hour
-minute_after h l = pick (eqb (first_key l) colon_byte) (minute_from h (digits_of (after l)) (after (after l))) no_hour
+unfoldable pub minute_after : ℕ → List Part → Option (Time × List Part)
+minute_after h l =
+    pick (eqb (first_key l) colon_byte)
+    (and_then (digit_run_of (after l))
+    (λ n r. pick (eqb n.count 4) (Some (time h (n.value / 100) (n.value % 100), r)) (pick (eqb n.count 2) (second_after h n.value r) None))) None
 
 -- six digits; four and perhaps the second; or two and what comes after them
-abbrev pub hour_from : List ℕ → List Part → Hour
-hour_from d rest =
-    pick (eqb (length d) 6) (hour (up_to_six d / 10000) (up_to_six d / 100 % 100) (up_to_six d % 100) rest)
-    (pick (eqb (length d) 4) (second_after (up_to_six d / 100) (up_to_six d % 100) rest)
-    (pick (eqb (length d) 2) (minute_after (up_to_six d) rest) no_hour))
+unfoldable pub time_of : List Part → Option (Time × List Part)
+time_of l =
+    and_then (digit_run_of l)
+    (λ n r. pick (eqb n.count 6) (Some (time (n.value / 10000) (n.value / 100 % 100) (n.value % 100), r))
+    (pick (eqb n.count 4) (second_after (n.value / 100) (n.value % 100) r) (pick (eqb n.count 2) (minute_after n.value r) None)))
 
-unfoldable pub hour_of : List Part → Hour
-hour_of l = hour_from (digits_of l) (after l)
-
--- ---- the zone: local time minus GMT, and the parts after it
-
-pub data Zoned : Type 0 where
-  no_zone : Zoned
-  zoned : Offset → List Part → Zoned
+-- ---- the zone: local time minus GMT, if it is in range
 
 -- a zone of the table
-abbrev pub zone_from : ℕ → List Part → Zoned
-zone_from n rest = pick (ltb n (length zone_names)) (zoned (Minutes (get_or zone_minutes n (pos 0))) rest) no_zone
-
-unfoldable pub zone_named : List Part → Zoned
-zone_named l = zone_from (named zone_names l) (after l)
+unfoldable pub zone_named : List Part → Option (Option ℤ × List Part)
+zone_named l = and_then (name_of zone_names l) (λ n r. Some (Some (get_or zone_minutes n (pos 0)), r))
 
 -- four digits after a sign
-abbrev pub signed_from : (ℕ → ℕ → ℤ) → List ℕ → List Part → Zoned
-signed_from direction d rest = pick (eqb (length d) 4) (zoned (offset_of direction (up_to_six d)) rest) no_zone
+unfoldable pub zone_signed : (ℕ → ℕ → ℤ) → List Part → Option (Option ℤ × List Part)
+zone_signed direction l = and_then (digit_run_of l) (λ n r. pick (eqb n.count 4) (Some (offset_of direction n.value, r)) None)
 
-unfoldable pub zone_signed : (ℕ → ℕ → ℤ) → List Part → Zoned
-zone_signed direction l = signed_from direction (digits_of l) (after l)
-
-unfoldable pub zone_of : List Part → Zoned
+unfoldable pub zone_of : List Part → Option (Option ℤ × List Part)
 zone_of l =
     pick (eqb (first_key l) plus_byte) (zone_signed ahead (after l))
     (pick (eqb (first_key l) minus_byte) (pick (eqb (first_key (after l)) digit) (zone_signed behind (after l)) (zone_named (after l))) (zone_named l))
 
--- ---- the date: the place of the day's name, day, month and year come before the hour
+-- ---- the date
 
-abbrev pub end_after : ℕ → ℕ → ℕ → ℕ → ℕ → ℕ → ℕ → Zoned → Reading
-end_after name day month year h m s no_zone = Wrong
-end_after name day month year h m s (zoned offset rest) =
-    pick (done rest)
-    (Right (record { name = name; day = day; month = month; year = year; hour = h; minute = m; second = s; zone = offset })) Wrong
+-- a day's name and a comma; or neither
+abbrev pub comma_after : List Part → Option (ℕ × List Part) → Option (Option ℕ × List Part)
+comma_after l None = Some (None, l)
+comma_after l (Some x) = pick (eqb (first_key x.1) comma_byte) (Some (Some x.0, after x.1)) None
 
-abbrev pub zone_after : ℕ → ℕ → ℕ → ℕ → Hour → Reading
-zone_after name day month year no_hour = Wrong
-zone_after name day month year (hour h m s rest) = end_after name day month year h m s (zone_of rest)
+unfoldable pub day_name_of : List Part → Option (Option ℕ × List Part)
+day_name_of l = comma_after l (name_of day_names l)
 
-unfoldable pub hour_after : ℕ → ℕ → ℕ → ℕ → List Part → Reading
-hour_after name day month year l = zone_after name day month year (hour_of l)
+unfoldable pub day_of : List Part → Option (ℕ × List Part)
+day_of l = and_then (digit_run_of l) (λ n r. pick (either (eqb n.count 1) (eqb n.count 2)) (Some (n.value, r)) None)
+
+unfoldable pub year_of : List Part → Option (ℕ × List Part)
+year_of l = and_then (digit_run_of l) (λ n r. pick (eqb n.count 2) (Some (n.value + 1900, r)) (pick (eqb n.count 4) (Some (n.value, r)) None))
 
 -- past a "-" that may stand there
 unfoldable pub past_dash : List Part → List Part
 past_dash l = pick (eqb (first_key l) minus_byte) (after l) l
 
-abbrev pub year_from : ℕ → ℕ → ℕ → List ℕ → List Part → Reading
-year_from name day month d rest =
-    pick (eqb (length d) 2) (hour_after name day month (up_to_six d + 1900) rest)
-    (pick (eqb (length d) 4) (hour_after name day month (up_to_six d) rest) Wrong)
-
-unfoldable pub year_after : ℕ → ℕ → ℕ → List Part → Reading
-year_after name day month l = year_from name day month (digits_of l) (after l)
-
-abbrev pub month_from : ℕ → ℕ → ℕ → List Part → Reading
-month_from name day n rest = pick (ltb n (length month_names)) (year_after name day n (past_dash rest)) Wrong
-
-unfoldable pub month_after : ℕ → ℕ → List Part → Reading
-month_after name day l = month_from name day (named month_names l) (after l)
-
-abbrev pub day_from : ℕ → List ℕ → List Part → Reading
-day_from name d rest = pick (both (leb 1 (length d)) (leb (length d) 2)) (month_after name (up_to_six d) (past_dash rest)) Wrong
-
-unfoldable pub day_after : ℕ → List Part → Reading
-day_after name l = day_from name (digits_of l) (after l)
-
--- a day's name and a comma; or neither
-abbrev pub reading_from : List Part → ℕ → List Part → Reading
-reading_from l n rest =
-    pick (ltb n (length day_names)) (pick (eqb (first_key rest) comma_byte) (day_after n (after rest)) Wrong) (day_after (length day_names) l)
-
-unfoldable pub reading_of : List Part → Reading
-reading_of l = reading_from l (named day_names l) (after l)
+-- the day's name, the day, the month, the year, the time and the zone
+unfoldable pub reading_of : List Part → Option Written
+reading_of l =
+    and_then (day_name_of l)
+    (λ name r. and_then (day_of r)
+    (λ day r. and_then (name_of month_names (past_dash r))
+    (λ month r. and_then (year_of (past_dash r))
+    (λ year r. and_then (time_of r)
+    (λ t r. and_then (zone_of r)
+    (λ zone r. pick (done r) (Some (record { name = name; day = record { year = year; month = month; day = day }; time = t; zone = zone })) None))))))
 
 -- ---- what it reads is the one right reading
 
-pub record RightReading (l : List Part) (r : Reading) : Type 0 where
+pub record RightReading (l : List Part) (r : Option Written) : Type 0 where
   -- a date exactly if the grammar derives it
-  pub derived : (w : Written) → r ≡ Right w → DateIs l w
-  pub read : (w : Written) → DateIs l w → r ≡ Right w
+  pub derived : (w : Written) → r ≡ Some w → DateIs l w
+  pub read : (w : Written) → DateIs l w → r ≡ Some w
   -- wrong exactly if the grammar derives none
-  pub underived : r ≡ Wrong → (w : Written) → DateIs l w → ⊥
-  pub unread : ((w : Written) → DateIs l w → ⊥) → r ≡ Wrong
+  pub underived : r ≡ None → (w : Written) → DateIs l w → ⊥
+  pub unread : ((w : Written) → DateIs l w → ⊥) → r ≡ None
 
 -- whatever the parts are
 abbrev pub ReadsRight : Type 0

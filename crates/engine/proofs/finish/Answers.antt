@@ -1,29 +1,26 @@
 -- `engine::finish` meets its contract. Assumes nothing.
-use native.Mathlib.Omega.{arith}
-use Rattle.engine.proofs.Dispatch.{end_refused, end_listed, end_open, end_ends, end_ended_listed, end_ended_open}
+use Rattle.engine.proofs.Dispatch.{end_listed, end_open, end_ends, end_ended_listed, end_ended_open}
 use Rattle.engine.proofs.finish.Goals as goal
+use Rattle.engine.proofs.finish.Goals.{in-OfList, in-OfAddress}
 
-pub returns-then-act-eq-REFUSES : goal.returns-then-act-eq-REFUSES
-returns-then-act-eq-REFUSES c = λ lent s x. end_refused x (omega arith)
+pub complete-requires : goal.complete-requires
+complete-requires c = end_ends c.requires.stands c.end_at.ensures c.in-OfAddress.is
 
-pub returns-then-engine-eq0 : goal.returns-then-engine-eq0
-returns-then-engine-eq0 c = λ lent s x. end_listed x (omega arith) (omega arith)
-
-pub returns-then-act-eq-FINISHES : goal.returns-then-act-eq-FINISHES
-returns-then-act-eq-FINISHES c = λ lent s x. end_open x (omega arith) (λ e. omega arith)
-
-pub complete-left-requires : goal.complete-left-requires
-complete-left-requires c =
-    let p = c.requires in
-    let y = end_ends p.finishing (λ e. omega arith) (λ e. omega arith) in
-    record { text = c.args.text.now; lent = p.lent; state = p.state; here = y.0; address = y.1; stands = p.finishing.stands; ended = y.2 }
-
-pub returns-then-left-eq0 : goal.returns-then-left-eq0
-returns-then-left-eq0 c =
+pub returns-then-depth-eq0 : goal.returns-then-depth-eq0
+returns-then-depth-eq0 c =
     λ lent s x.
-    end_ended_listed x (λ e. omega arith) (λ e. omega arith) (λ h y g. c.complete-left.ensures c.args.text.now lent s h y x.stands g) (omega arith)
+    elim c.match-end_at.branch [
+      | in-OfList w ↦ rw (w.table-is, w.depth-is) (end_listed x c.end_at.ensures w.in-OfList.is (rw w.depth-is at c.if-depth-eq0.true))
+      | in-OfAddress w ↦
+          rw (w.table-is, w.depth-is)
+          (end_ended_listed x c.end_at.ensures w.in-OfAddress.is (λ h y g. w.complete.ensures c.args.text.now lent s h y x g) (rw w.depth-is at c.if-depth-eq0.true))
+    ]
 
 pub returns : goal.returns
 returns c =
     λ lent s x.
-    end_ended_open x (λ e. omega arith) (λ e. omega arith) (λ h y g. c.complete-left.ensures c.args.text.now lent s h y x.stands g) (λ e. omega arith)
+    elim c.match-end_at.branch [
+      | in-OfList w ↦ end_open x c.end_at.ensures w.in-OfList.is (rw w.depth-is at c.if-depth-eq0.false)
+      | in-OfAddress w ↦
+          end_ended_open x c.end_at.ensures w.in-OfAddress.is (λ h y g. w.complete.ensures c.args.text.now lent s h y x g) (rw w.depth-is at c.if-depth-eq0.false)
+    ]

@@ -1,5 +1,6 @@
 -- Where the reader stops, and what could stand there.
-use Rattle.std.specs.Prelude.{ℕ, ◌≡◌, Bool, List}
+use Rattle.std.specs.Prelude.{ℕ, ◌≡◌, Bool, List, Option, None, Some}
+use Rattle.octets.specs.declared.answers.Fault.{Fault}
 use Rattle.octets.specs.Believed.Numbers.{level_limit}
 use Rattle.scanner.specs.declared.Class.{Class}
 use Rattle.grammar.specs.Executable.Machines.{ended, stands_by}
@@ -7,14 +8,14 @@ use Rattle.grammar.specs.Executable.Trees733.{Address}
 use Rattle.grammar.specs.Executable.Machine733.{Here, State, close, levels_at, step, finish, run, start, answer}
 use Rattle.addresses.specs.Ties.Steps.{symbols_from}
 use Rattle.addresses.specs.Ties.Whole.{IsRefused}
-use Rattle.expected.specs.Believed.Things.{if_named, sum_of}
+use Rattle.expected.specs.Believed.Things.{sum_of}
 use Rattle.expected.specs.Executable.Named.{is_some, takes, named_at}
-use Rattle.engine.specs.Ties.Actions.{entry, row_of, action_of}
-use Rattle.engine.specs.Ties.Stands.{mode_of, Stands}
+use Rattle.engine.specs.Ties.Stands.{Stands}
 use Rattle.engine.specs.Ties.Turns.{OpenHere}
+use Rattle.engine.specs.declared.OpenLevel.{OpenLevel}
+use Rattle.engine.specs.declared.Stack.{Stack}
 use Rattle.engine.specs.declared.Engine.{Engine}
 use Rattle.engine.specs.declared.Stopped.{Stopped}
-use Rattle.engine.specs.declared.Stopped.TheVariants.{AtEnd, AtSymbol}
 
 -- ---- where the reader stops
 
@@ -22,25 +23,26 @@ use Rattle.engine.specs.declared.Stopped.TheVariants.{AtEnd, AtSymbol}
 abbrev pub stop_of : List ℕ → List ℕ → ℕ → State
 stop_of classes text from = stands_by step level_limit start (symbols_from classes text from)
 
--- at the end of the text
-pub record StopsAtEnd (classes text lent : List ℕ) (from : ℕ) (stack table : List ℕ) (e : Engine) : Type 0 where
-  pub stands : Stands text lent (stop_of classes text from) e stack table
+-- all symbols are read, and these are the records
+pub record ReadsAll (classes text : List ℕ) (from : ℕ) (records table : List ℕ) : Type 0 where
   pub reads : run level_limit start (symbols_from classes text from) ≡ ended (stop_of classes text from)
+  pub kept : table ≡ records
 
--- before a symbol, with the records from before its turn
-pub record StopsAtSymbol (classes text lent : List ℕ) (from : ℕ) (stack : List ℕ) (number-told place : ℕ) (e : Engine) : Type 0 where
-  pub table : List ℕ
-  pub stands : Stands text lent (stop_of classes text from) e stack table
-  pub refused : IsRefused (answer level_limit) classes text from number-told place
+-- .. or one is refused so
+abbrev pub StopsBy : List ℕ → List ℕ → ℕ → List ℕ → List ℕ → Option Fault → Type 0
+StopsBy classes text from records table None = ReadsAll classes text from records table
+StopsBy classes text from records table (Some f) = IsRefused (answer level_limit) classes text from f.number f.position
 
-abbrev pub RunIs : List ℕ → List ℕ → List ℕ → ℕ → List ℕ → List ℕ → Stopped → Type 0
-RunIs classes text lent from stack table (AtEnd e) = StopsAtEnd classes text lent from stack table e
-RunIs classes text lent from stack table (AtSymbol n p e) = StopsAtSymbol classes text lent from stack n p e
+-- the reader stands there, with the records from before the turn of a refused symbol
+pub record RunIs (classes text lent : List ℕ) (from : ℕ) (stack : Stack) (table : List ℕ) (r : Stopped) : Type 0 where
+  pub records : List ℕ
+  pub stands : Stands text lent (stop_of classes text from) r.engine stack records
+  pub stops : StopsBy classes text from records table r.fault
 
 -- ---- what could stand next
 
--- the reader's numbers and its array stand for a state
-pub record SomeStands (stack : List ℕ) (e : Engine) : Type 0 where
+-- the reader's numbers and its levels stand for a state
+pub record SomeStands (stack : Stack) (e : Engine) : Type 0 where
   pub text : List ℕ
   pub lent : List ℕ
   pub table : List ℕ
@@ -48,31 +50,17 @@ pub record SomeStands (stack : List ℕ) (e : Engine) : Type 0 where
   pub stands : Stands text lent state e stack table
 
 -- the levels that stay open where an address ends
-abbrev pub UnderTypedIs : List ℕ → ℕ → ℕ → Type 0
-UnderTypedIs stack depth r = (h : Here) (a : Address) → OpenHere stack h depth → r ≡ levels_at (close h a).level
+abbrev pub UnderTypedIs : List OpenLevel → ℕ → ℕ → Type 0
+UnderTypedIs levels depth r = (h : Here) (a : Address) → OpenHere levels h depth → r ≡ levels_at (close h a).level
 
 -- a symbol of a class
-pub record SomeCould (stack : List ℕ) (e : Engine) (action : ℕ) (c : Class) : Type 0 where
-  pub at : SomeStands stack e
-  pub action_is : action ≡ entry (action_of (mode_of at.state) c)
-
-abbrev pub CouldIs : List ℕ → Engine → ℕ → Class → Bool → Type 0
-CouldIs stack e action c r = (x : SomeStands stack e) → action ≡ entry (action_of (mode_of x.state) c) → r ≡ takes level_limit x.state c
-
-abbrev pub IfCouldIs : List ℕ → Engine → Class → ℕ → ℕ → Type 0
-IfCouldIs stack e c n r = (x : SomeStands stack e) → r ≡ if_named (takes level_limit x.state c) n
+abbrev pub CouldIs : Stack → Engine → Class → Bool → Type 0
+CouldIs stack e c r = (x : SomeStands stack e) → r ≡ takes level_limit x.state c
 
 -- the end
-pub record SomeCouldEnd (stack : List ℕ) (e : Engine) (action : ℕ) : Type 0 where
-  pub at : SomeStands stack e
-  pub action_is : action ≡ entry (row_of (mode_of at.state)).end
-
-abbrev pub CouldEndIs : List ℕ → Engine → ℕ → Bool → Type 0
-CouldEndIs stack e action r = (x : SomeStands stack e) → action ≡ entry (row_of (mode_of x.state)).end → r ≡ is_some (finish x.state)
-
-abbrev pub IfCouldEndIs : List ℕ → Engine → ℕ → ℕ → Type 0
-IfCouldEndIs stack e n r = (x : SomeStands stack e) → r ≡ if_named (is_some (finish x.state)) n
+abbrev pub CouldEndIs : Stack → Engine → Bool → Type 0
+CouldEndIs stack e r = (x : SomeStands stack e) → r ≡ is_some (finish x.state)
 
 -- all of them
-abbrev pub ExpectedIs : List ℕ → Engine → ℕ → Type 0
+abbrev pub ExpectedIs : Stack → Engine → ℕ → Type 0
 ExpectedIs stack e r = (x : SomeStands stack e) → r ≡ sum_of (named_at level_limit x.state)

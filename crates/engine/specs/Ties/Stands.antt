@@ -1,4 +1,4 @@
--- What the reader's numbers and its array stand for: a state of the machine that the laws of the grammar are about.
+-- What the reader's numbers and its levels stand for: a state of the machine that the laws of the grammar are about.
 use Rattle.std.specs.Prelude.{ℕ, suc, ◌+◌, ◌*◌, ◌≤◌, ◌≡◌, List, length, get_or}
 use Rattle.std.proofs.Math.Option.{Option, none, some}
 use Rattle.std.proofs.lemmas.List.Edits.{sets}
@@ -9,32 +9,35 @@ use Rattle.grammar.specs.Believed.Rfc733.{kind_number, typed_kind, angle_list, g
 use Rattle.grammar.specs.Executable.Trees733.{Lexeme, Phrase, one, more, atom_word, quoted_word, idle, full, AddressList, Address}
 use Rattle.grammar.specs.Executable.Machine733.{Here, in_list, in_typed, Level, top, in_angle, in_group, State, list, phrase, first_at, next_at, node, want, levels_here, levels_at, fresh, Began}
 use Rattle.grammar.proofs.Rfc733.TreeRecords.{slot_count, list_count, slot_records, list_records, address_records, phrase_start, phrase_end, nodes_end, name_start, name_end}
-use Rattle.engine.specs.Ties.Actions.{Mode, at_place, at_start, at_first_atom, wanting, at_atom, at_quoted, at_words, at_node, mode_number, after_at, after_address}
+use Rattle.engine.specs.declared.actions.Mode.{Mode}
+use Rattle.engine.specs.declared.actions.Mode.TheVariants.{AtPlace, AtStart, AtFirstAtom, Wanting, AtAtom, AtQuoted, AtWords, AtNode, AfterAt, AfterAddress}
+use Rattle.engine.specs.declared.OpenLevel.{OpenLevel}
+use Rattle.engine.specs.declared.Stack.{Stack}
 use Rattle.engine.specs.declared.Engine.{Engine}
 
 -- ---- the mode
 
 -- at a place, which may be the start of a nameless group
 abbrev pub place_mode : Option Began → Mode
-place_mode none = at_place
-place_mode (some b) = at_start
+place_mode none = AtPlace
+place_mode (some b) = AtStart
 
 -- after an atom there
 abbrev pub atom_mode : Option Began → Mode
-atom_mode none = at_atom
-atom_mode (some b) = at_first_atom
+atom_mode none = AtAtom
+atom_mode (some b) = AtFirstAtom
 
 -- the mode of a state of the machine
 abbrev pub mode_of : State → Mode
 mode_of (list k (idle r)) = place_mode (fresh (in_list k r))
-mode_of (list k (full r a)) = after_address
+mode_of (list k (full r a)) = AfterAddress
 mode_of (phrase h (one (atom_word t))) = atom_mode (fresh h)
-mode_of (phrase h (one (quoted_word t))) = at_quoted
-mode_of (phrase h (more p w)) = at_words
-mode_of (first_at h p t) = after_at
-mode_of (next_at h p m t) = after_at
-mode_of (node h p m) = at_node
-mode_of (want h t a u) = wanting
+mode_of (phrase h (one (quoted_word t))) = AtQuoted
+mode_of (phrase h (more p w)) = AtWords
+mode_of (first_at h p t) = AfterAt
+mode_of (next_at h p m t) = AfterAt
+mode_of (node h p m) = AtNode
+mode_of (want h t a u) = Wanting
 
 -- ---- the numbers of records
 
@@ -82,48 +85,44 @@ depth_of (next_at h p m t) = levels_here h
 depth_of (node h p m) = levels_here h
 depth_of (want h t a u) = suc (levels_here h)
 
--- ---- the array
+-- ---- the levels
 
--- the numbers of a level
-abbrev pub level_size : ℕ
-level_size = 5
+-- an open level, by its numbers
+abbrev pub open_by : ℕ → ℕ → ℕ → ℕ → ℕ → OpenLevel
+open_by number start kind first last = record { number = number; kind = kind; start = start; name_start = first; name_end = last }
 
--- the numbers of all levels
-abbrev pub stack_size : ℕ
-stack_size = level_limit * level_size
+-- what stands for a level where there is none
+abbrev pub no_level : OpenLevel
+no_level = open_by 0 0 0 0 0
 
--- the place of a number of a level
-abbrev pub place_of : ℕ → ℕ → ℕ
-place_of level which = level * level_size + which
+-- a level of these
+abbrev pub level_at : List OpenLevel → ℕ → OpenLevel
+level_at levels level = get_or levels level no_level
 
--- an open level: the number of its record, its start, its kind, and the span of its name
-pub record Entry (stack : List ℕ) (level number start kind first last : ℕ) : Type 0 where
-  pub number_is : get_or stack (place_of level 0) 0 ≡ number
-  pub start_is : get_or stack (place_of level 1) 0 ≡ start
-  pub kind_is : get_or stack (place_of level 2) 0 ≡ kind
-  pub first_is : get_or stack (place_of level 3) 0 ≡ first
-  pub last_is : get_or stack (place_of level 4) 0 ≡ last
+-- .. has these numbers: of its record, its start, its kind, and the start and end of its name
+pub record Entry (levels : List OpenLevel) (level number start kind first last : ℕ) : Type 0 where
+  pub is : level_at levels level ≡ open_by number start kind first last
 
 abbrev mutual
-  -- the array holds the levels around an address
-  pub HoldsHere : List ℕ → Here → Type 0
-  HoldsHere stack (in_list k r) = HoldsLevel stack k
-  HoldsHere stack (in_typed h t a u) = Entry stack (levels_here h) (number_here h) t.start (kind_number (typed_kind a.meaning)) a.start a.end × HoldsHere stack h
+  -- these are the levels around an address
+  pub HoldsHere : List OpenLevel → Here → Type 0
+  HoldsHere levels (in_list k r) = HoldsLevel levels k
+  HoldsHere levels (in_typed h t a u) = Entry levels (levels_here h) (number_here h) t.start (kind_number (typed_kind a.meaning)) a.start a.end × HoldsHere levels h
 
   -- .. and around a list
-  pub HoldsLevel : List ℕ → Level → Type 0
-  HoldsLevel stack top = Unit {0}
-  HoldsLevel stack (in_angle h o t) = Entry stack (levels_here h) (number_here h) (name_start o t) (kind_number angle_list) (name_start o t) (name_end o t) × HoldsHere stack h
-  HoldsLevel stack (in_group h o t) = Entry stack (levels_here h) (number_here h) (name_start o t) (kind_number group) (name_start o t) (name_end o t) × HoldsHere stack h
+  pub HoldsLevel : List OpenLevel → Level → Type 0
+  HoldsLevel levels top = Unit {0}
+  HoldsLevel levels (in_angle h o t) = Entry levels (levels_here h) (number_here h) (name_start o t) (kind_number angle_list) (name_start o t) (name_end o t) × HoldsHere levels h
+  HoldsLevel levels (in_group h o t) = Entry levels (levels_here h) (number_here h) (name_start o t) (kind_number group) (name_start o t) (name_end o t) × HoldsHere levels h
 
 -- .. and around what is read
-abbrev pub HoldsState : List ℕ → State → Type 0
-HoldsState stack (list k l) = HoldsLevel stack k
-HoldsState stack (phrase h p) = HoldsHere stack h
-HoldsState stack (first_at h p t) = HoldsHere stack h
-HoldsState stack (next_at h p m t) = HoldsHere stack h
-HoldsState stack (node h p m) = HoldsHere stack h
-HoldsState stack (want h t a u) = HoldsHere stack (in_typed h t a u)
+abbrev pub HoldsState : List OpenLevel → State → Type 0
+HoldsState levels (list k l) = HoldsLevel levels k
+HoldsState levels (phrase h p) = HoldsHere levels h
+HoldsState levels (first_at h p t) = HoldsHere levels h
+HoldsState levels (next_at h p m t) = HoldsHere levels h
+HoldsState levels (node h p m) = HoldsHere levels h
+HoldsState levels (want h t a u) = HoldsHere levels (in_typed h t a u)
 
 -- ---- the table: the records of all addresses that have ended
 
@@ -172,8 +171,8 @@ FirstAtom text (more p w) = Unit {0}
 
 -- the start of the address and the end of its name are those of its phrase
 pub record NameIs (p : Phrase) (e : Engine) : Type 0 where
-  pub start_is : e.start ≡ phrase_start p
-  pub name_is : e.name ≡ phrase_end p
+  pub start_is : e.name.start ≡ phrase_start p
+  pub name_is : e.name.end ≡ phrase_end p
 
 -- what is known of the address that is read
 abbrev pub Current : List ℕ → State → Engine → Type 0
@@ -187,21 +186,21 @@ Current text (want h t a u) e = Unit {0}
 -- ---- all of it
 
 -- what holds in every state: positions in order and in the text, levels and text within their limits
-pub record Ordered (text : List ℕ) (e : Engine) (stack : List ℕ) : Type 0 where
-  pub start_low : e.start ≤ e.at
-  pub name_low : e.name ≤ e.at
+pub record Ordered (text : List ℕ) (e : Engine) (stack : Stack) : Type 0 where
+  pub start_low : e.name.start ≤ e.at
+  pub name_low : e.name.end ≤ e.at
   pub inside : e.at ≤ length text
-  pub deep : e.depth ≤ level_limit
+  pub deep : stack.depth ≤ level_limit
   pub short : length text ≤ message_limit
-  pub tall : length stack ≡ stack_size
+  pub tall : length stack.levels ≡ level_limit
 
--- the reader's numbers, array and table stand for a state
-pub record Stands (text lent : List ℕ) (s : State) (e : Engine) (stack table : List ℕ) : Type 0 where
+-- the reader's numbers, levels and table stand for a state
+pub record Stands (text lent : List ℕ) (s : State) (e : Engine) (stack : Stack) (table : List ℕ) : Type 0 where
   pub ordered : Ordered text e stack
-  pub mode_is : e.mode ≡ mode_number (mode_of s)
-  pub depth_is : e.depth ≡ depth_of s
+  pub mode_is : e.mode ≡ mode_of s
+  pub depth_is : stack.depth ≡ depth_of s
   pub free_is : e.free ≡ free_of s
   pub room : e.free + begun s ≤ e.at
-  pub holds : HoldsState stack s
+  pub holds : HoldsState stack.levels s
   pub current : Current text s e
   pub stored : table ≡ stored_state lent s

@@ -1,12 +1,11 @@
 -- Document 01, "Checked examples": bytes in, answers out, in a single table with one statement over its rows.
-use Rattle.std.specs.Prelude.{ℕ, ◌≡◌, List, [], ◌∷◌, ℤ, pos, neg_ℤ, length, replicate}
+use Rattle.std.specs.Prelude.{ℕ, ◌≡◌, List, [], ◌∷◌, ℤ, pos, neg_ℤ, length, replicate, Ok}
 use Rattle.octets.specs.Believed.Text.{bytes}
 use Rattle.octets.specs.Believed.Numbers.{no_list_goes_on, ends_too_soon}
 use Rattle.octets.specs.declared.answers.Answer.{Answer}
 use Rattle.octets.specs.declared.answers.Answer.TheVariants.{Accepted, Refused}
 use Rattle.addresses.specs.Believed.Outcome.{outcome}
 use Rattle.dates.specs.Believed.Outcome.{date_answer}
-use Rattle.dates.specs.declared.DateAnswer.TheVariants as date
 
 -- so many bytes of a lent table that nobody wrote to
 abbrev pub untouched : ℕ → List ℕ
@@ -22,7 +21,7 @@ pub data Row : Type 0 where
 -- what a row says
 abbrev pub Holds : Row → Type 0
 Holds (addresses body answer table) = outcome body 0 (length body) (untouched 36) ≡ record { answer = answer; table = table }
-Holds (seconds body value) = date_answer body 0 (length body) ≡ date.Accepted value
+Holds (seconds body value) = date_answer body 0 (length body) ≡ Ok value
 
 -- each row of a table holds
 abbrev pub AllHold : List Row → Type 0

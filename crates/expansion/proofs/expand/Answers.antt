@@ -9,18 +9,18 @@ use Rattle.expansion.proofs.EntryLaws.{refused_promised, list_promised}
 use borrow.Enum.Refused.{opened}
 use Rattle.expansion.proofs.expand.Goals as goal
 
-pub slice_bounds-expand_list-end : goal.slice_bounds-expand_list-end
-slice_bounds-expand_list-end c =
+pub slice_bounds-body-end : goal.slice_bounds-body-end
+slice_bounds-body-end c =
     let a = c.args in
     let s = some_list a.message.now a.start a.end _ c.read_addresses.result c.read_addresses.ensures.outcome.answer_is (opened c.in_default.in_default-own.keys2) in
     sym (length-take-le _ a.message.now s.body.clean.inside)
 
-pub expand_list-requires : goal.expand_list-requires
+pub invariant_of-body : goal.invariant_of-body
 unfolding class_table class_of
-expand_list-requires c =
+invariant_of-body c =
     let a = c.args in
     let s = some_list a.message.now a.start a.end _ c.read_addresses.result c.read_addresses.ensures.outcome.answer_is (opened c.in_default.in_default-own.keys2) in
-    record { classes_are = refl; short = omega (arith, length-take-le a.end a.message.now s.body.clean.inside, s.body.clean.inside, s.body.clean.short) }
+    record { known = refl; short = omega (arith, length-take-le a.end a.message.now s.body.clean.inside, s.body.clean.inside, s.body.clean.short) }
 
 pub returns-in-Refused : goal.returns-in-Refused
 returns-in-Refused c =

@@ -1,5 +1,4 @@
--- `expansion::lowest` meets its contract. Assumes nothing.
-use Prim.Native.Nat.{◌-◌, ◌≤◌, ◌/◌}
+use Prim.Native.Nat.{◌-◌, ◌/◌}
 use mathlib.Core.Path.{◌≡◌}
 use lib.ListN.{length}
 use Rattle.octets.specs.Believed.Numbers.{store_record_size}
@@ -7,7 +6,4 @@ use Rattle.expansion.specs.Believed.Store.{first_named, lowest as lowest_named}
 use Rattle.expansion.proofs.lowest.Given as goal
 
 abbrev pub invariant-loop-i : goal.invariant-loop-i
-invariant-loop-i l = (l.i ≤ l.many) × (l.many ≡ length l.store / store_record_size) × (lowest_named l.store l.name ≡ first_named (l.many - l.i) l.store l.name l.i)
-
-abbrev pub decreases-loop-i : goal.decreases-loop-i
-decreases-loop-i l = l.many - l.i
+invariant-loop-i l = (l.i-end ≡ length l.store / store_record_size) × (lowest_named l.store l.name ≡ first_named (l.i-end - l.i) l.store l.name l.i)

@@ -1,6 +1,6 @@
 -- Document 02, CR 10: the expansion of an address list, by its derivation: each Include is replaced, in the list that it stands in,
 -- by the addresses of its stored list, themselves expanded, in text order and depth first.
-use Rattle.std.specs.Prelude.{ℕ, zero, suc, ◌+◌, Bool, false, List, eqb, ltb, leb, length}
+use Rattle.std.specs.Prelude.{ℕ, zero, suc, ◌+◌, Bool, false, List, None, Some, eqb, ltb, leb, length}
 use Rattle.std.proofs.Math.Option.{none, some}
 use Rattle.octets.specs.Believed.Choice.{pick, either}
 use Rattle.octets.specs.Believed.Numbers.{level_limit, opening_limit, too_many_levels, leads_nowhere, too_many_openings}
@@ -37,9 +37,9 @@ module _ (store : List ℕ) where
   -- an Include with this in it; `typed`: directly in another typed address
   abbrev pub expand_include : Opening → Bool → ℕ → ℕ → Addresses → Addresses → ℕ → Expansion
   expand_include opening typed place depth held before openings =
-      elim (pick typed none (leads_to store held)) [
-        | none ↦ stopped leads_nowhere place openings
-        | some i ↦ opening i place depth before openings
+      elim (pick typed None (leads_to store held)) [
+        | None ↦ stopped leads_nowhere place openings
+        | Some i ↦ opening i place depth before openings
       ]
 
   -- addresses, and then those of a forest, expanded, with so many levels open around it; `place_of` tells the position that counts for an

@@ -1,6 +1,5 @@
 -- Document 02, CR 10: the store, and the stored list that an Include leads to.
-use Rattle.std.specs.Prelude.{ℕ, zero, suc, ◌+◌, ◌*◌, Bool, true, List, [], ◌∷◌, eqb}
-use Rattle.std.proofs.Math.Option.{Option, none, some}
+use Rattle.std.specs.Prelude.{ℕ, zero, suc, ◌+◌, ◌*◌, Bool, true, List, [], ◌∷◌, Option, None, Some, eqb}
 use Rattle.octets.specs.Believed.Choice.{pick, both}
 use Rattle.octets.specs.Believed.Letters.{same_bytes}
 use Rattle.octets.specs.Believed.Numbers.{store_record_size, store_name_size}
@@ -32,8 +31,8 @@ list_in store i = part store (i * store_record_size + store_name_size) (i * stor
 
 -- the first of so many records, from number i on, that has this name
 abbrev pub first_named : ℕ → List ℕ → List ℕ → ℕ → Option ℕ
-first_named zero store name i = none
-first_named (suc many) store name i = pick (same_bytes (name_in store i) name) (some i) (first_named many store name (suc i))
+first_named zero store name i = None
+first_named (suc many) store name i = pick (same_bytes (name_in store i) name) (Some i) (first_named many store name (suc i))
 
 -- the lowest record with this name; a tail short of a record is ignored
 abbrev pub lowest : List ℕ → List ℕ → Option ℕ
@@ -52,12 +51,12 @@ only_mailboxes (and_address before last) = both (only_mailboxes before) (is_mail
 
 -- the first if there is one, else the second
 abbrev pub or_else : Option ℕ → Option ℕ → Option ℕ
-or_else none other = other
-or_else (some i) other = some i
+or_else None other = other
+or_else (Some i) other = Some i
 
 -- of addresses in order, the first whose plain text is a record's name gives the record
 abbrev pub first_stored : List ℕ → Addresses → Option ℕ
-first_stored store no_address = none
+first_stored store no_address = None
 first_stored store (and_address before last) = or_else (first_stored store before) (lowest store (address_text last []))
 
 -- what an Include names: the addresses of an angle list, or the address itself
@@ -66,5 +65,5 @@ named (address kind name nodes members) = pick (eqb kind (kind_number angle_list
 
 -- the record that an Include with this in it leads to, if it holds a mailbox or an angle list of mailboxes
 abbrev pub leads_to : List ℕ → Addresses → Option ℕ
-leads_to store no_address = none
-leads_to store (and_address before held) = pick (only_mailboxes (named held)) (first_stored store (named held)) none
+leads_to store no_address = None
+leads_to store (and_address before held) = pick (only_mailboxes (named held)) (first_stored store (named held)) None

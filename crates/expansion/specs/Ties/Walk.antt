@@ -1,7 +1,6 @@
 -- The text of an expanded list by one walk over symbols that goes on through stored lists, each of them as if it stood between two commas.
 -- Nothing here needs to be believed: it is proved to be the plain text of the expansion.
-use Rattle.std.specs.Prelude.{ℕ, zero, suc, ◌+◌, Bool, true, false, not, List, [], ◌∷◌, eqb, ltb, leb, length}
-use Rattle.std.proofs.Math.Option.{Option, none, some}
+use Rattle.std.specs.Prelude.{ℕ, zero, suc, ◌+◌, Bool, true, false, not, List, [], ◌∷◌, Option, None, Some, eqb, ltb, leb, length}
 use Rattle.octets.specs.Believed.Choice.{pick, both}
 use Rattle.octets.specs.Believed.Numbers.{level_limit, opening_limit, too_many_levels, leads_nowhere, too_many_openings}
 use Rattle.scanner.specs.Believed.Symbols.{Symbol}
@@ -17,6 +16,8 @@ use Rattle.plain.specs.declared.places.Place.TheVariants.{Start, Bare, BareComma
 use Rattle.expansion.specs.Believed.Store.{lowest, or_else, list_in}
 use Rattle.addresses.specs.Believed.Outcome.{body_read}
 use Rattle.addresses.specs.Ties.Steps.{is_word}
+use Rattle.expansion.specs.declared.text.Seen.{Seen}
+use Rattle.expansion.specs.declared.text.Seen.TheVariants.{Nothing, Words, Nodes}
 
 -- a symbol
 abbrev pub Sym : Type 0
@@ -103,17 +104,29 @@ abbrev pub held_by : List Sym → Held
 held_by [] = neither
 held_by (x ∷ xs) = held_from x.class xs (held_by xs)
 
--- a symbol of an angle list, and whether the rest holds mailboxes only. An address of it is read so far: `words` without nodes, or `nodes`
-abbrev pub only_from : Class → Bool → Bool → (Bool → Bool → Bool) → Bool
-only_from class words nodes rest =
-    pick (is_word class) (rest (not nodes) nodes)
-    (pick (same_class At class) (rest false true)
-    (pick (same_class Comma class) (both (not words) (rest false false)) (both (same_class GreaterThan class) (not words))))
+-- a word is read
+abbrev pub word_seen : Seen → Seen
+word_seen Nothing = Words
+word_seen Words = Words
+word_seen Nodes = Nodes
+
+-- words without nodes are read
+abbrev pub is_words : Seen → Bool
+is_words Nothing = false
+is_words Words = true
+is_words Nodes = false
+
+-- a symbol of an angle list, and whether the rest holds mailboxes only, by what is read so far of an address
+abbrev pub only_from : Class → Seen → (Seen → Bool) → Bool
+only_from class seen rest =
+    pick (is_word class) (rest (word_seen seen))
+    (pick (same_class At class) (rest Nodes)
+    (pick (same_class Comma class) (both (not (is_words seen)) (rest Nothing)) (both (same_class GreaterThan class) (not (is_words seen)))))
 
 -- mailboxes only, up to ">"
-abbrev pub only : Bool → Bool → List Sym → Bool
-only words nodes [] = false
-only words nodes (x ∷ xs) = only_from x.class words nodes (λ words' nodes'. only words' nodes' xs)
+abbrev pub only : Seen → List Sym → Bool
+only seen [] = false
+only seen (x ∷ xs) = only_from x.class seen (λ seen'. only seen' xs)
 
 -- the first symbol is the atom of an Include
 abbrev pub include_word : List Sym → Bool
@@ -165,15 +178,15 @@ module _ (store : List ℕ) where
 
   -- of the addresses up to ">" the first that is a record's name; `starts`: an address begins here
   abbrev pub first_of : Bool → List Sym → Option ℕ
-  first_of starts [] = none
+  first_of starts [] = None
   first_of starts (x ∷ xs) =
-      pick (same_class GreaterThan x.class) none (pick (same_class Comma x.class) (first_of true xs) (or_else (pick starts (named_by (x ∷ xs)) none) (first_of false xs)))
+      pick (same_class GreaterThan x.class) None (pick (same_class Comma x.class) (first_of true xs) (or_else (pick starts (named_by (x ∷ xs)) None) (first_of false xs)))
 
   -- the record that an Include leads to, by what it holds
   abbrev pub sought_by : Held → List Sym → Option ℕ
   sought_by single xs = named_by xs
-  sought_by neither xs = none
-  sought_by (angled ys) xs = pick (only false false ys) (first_of true ys) none
+  sought_by neither xs = None
+  sought_by (angled ys) xs = pick (only Nothing ys) (first_of true ys) None
 
   -- .. by the symbols after its second ":"
   abbrev pub sought : List Sym → Option ℕ
@@ -182,7 +195,7 @@ module _ (store : List ℕ) where
   -- an Include before these symbols: the record that it leads to is opened
   abbrev pub include_trail : WalkOpening → Bool → ℕ → ℕ → Place → List Sym → ℕ → (Place → ℕ → Trail) → Trail
   include_trail opening typed position depth place xs u next =
-      elim (pick typed none (sought (after_one (after_one xs)))) [ none ↦ halted leads_nowhere position u | some i ↦ opening i position depth (after_comma place) u next ]
+      elim (pick typed None (sought (after_one (after_one xs)))) [ None ↦ halted leads_nowhere position u | Some i ↦ opening i position depth (after_comma place) u next ]
 
   module _ (opening : WalkOpening) (place_of : ℕ → ℕ) (base : ℕ) where
     -- a walk over symbols from a place on, with these levels open in this text and `base` around it

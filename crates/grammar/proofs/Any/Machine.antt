@@ -89,8 +89,7 @@ module _ {C S T : Type 0} (Derives : T → List (Symbol C) → Type 0) (levels :
     goes_off n m p s x why h f e g =
         let a : read m (up_to p x ++ g.more) ≡ accepted g.derivation = M.complete m g.derivation _ g.derived g.counted in
         let b : read m (up_to p x ++ g.more) ≡ refused why (x ∷ g.more) = rw (append_assoc p (x ∷ []) g.more, f m h (x ∷ g.more), e) in
-        let z : ◌≡◌ {A = ℕ} 0 1 = cc in
-        omega arith
+        cc
 
     first_of : (n : ℕ) (xs : List (Symbol C)) (why : Refusal) (rest : List (Symbol C)) → Stuck n start xs why rest → FirstRefused Derives levels n xs rest
     first_of n xs why rest c =
@@ -138,8 +137,7 @@ module _ {C S T : Type 0} (Derives : T → List (Symbol C) → Type 0) (levels :
         none_is : (t : T) → Derives t xs → levels t ≤ n → ⊥
         none_is t d l =
             let a : read n xs ≡ accepted t = M.complete n t xs d l in
-            let z : ◌≡◌ {A = ℕ} 0 1 = cc in
-            omega arith
+            cc
 
     right_result : (n : ℕ) (xs : List (Symbol C)) (r : Result C S) → run n start xs ≡ r → Comes n start xs r → Right Derives levels n xs (verdict_by finish r)
     right_result n xs (ended s) e c = right_end n xs s (finish s) c (ap (verdict_by finish) e)
@@ -188,8 +186,7 @@ module _ {C S T : Type 0} (Derives : T → List (Symbol C) → Type 0) (levels :
     unended_derives n p s t f e d v =
         let a : read n p ≡ accepted t = M.complete n t p d v in
         let b : read n p ≡ refused unfinished [] = read_led n p s f ∙ ap at_end e in
-        let z : ◌≡◌ {A = ℕ} 0 1 = cc in
-        omega arith
+        cc
 
     -- the state in which a run stops, or ends
     pub record Stood (n : ℕ) (s : S) (xs rest : List (Symbol C)) : Type 0 where
@@ -207,13 +204,13 @@ module _ {C S T : Type 0} (Derives : T → List (Symbol C) → Type 0) (levels :
 
     stood_end : (n : ℕ) (s : S) (why : Refusal) (rest : List (Symbol C)) (o : Option T) → at_end o ≡ refused why rest → Stood n s [] rest
     stood_end n s why rest none v = record { before = []; splits = cc; leads = λ m h zs. refl }
-    stood_end n s why rest (some t) v = let z : ◌≡◌ {A = ℕ} 0 1 = cc in absurd (omega arith)
+    stood_end n s why rest (some t) v = absurd cc
 
     -- a run that ends stands at the end
     ended_step : (n : ℕ) (s s'' : S) (x : Symbol C) (xs : List (Symbol C)) (st : Step S) → after st (λ s'. run n s' xs) (x ∷ xs) ≡ ended s'' → ((s' : S) → run n s' xs ≡ ended s'' → stands_by step n s' xs ≡ s'')
         → stands_after st (λ s'. stands_by step n s' xs) s ≡ s''
     ended_step n s s'' x xs (go s') e f = f s' e
-    ended_step n s s'' x xs (stop why) e f = let z : ◌≡◌ {A = ℕ} 0 1 = cc in absurd (omega arith)
+    ended_step n s s'' x xs (stop why) e f = absurd cc
 
     ended_stands : (n : ℕ) (s s'' : S) (xs : List (Symbol C)) → run n s xs ≡ ended s'' → stands_by step n s xs ≡ s''
     ended_stands n s s'' [] e = cc
@@ -222,7 +219,7 @@ module _ {C S T : Type 0} (Derives : T → List (Symbol C) → Type 0) (levels :
     -- .. to which all symbols of a list lead
     list_stood : (n : ℕ) (t : T) (xs : List (Symbol C)) (r : Result C S) → run n start xs ≡ r → Comes n start xs r → verdict_by finish r ≡ accepted t → Leads n start xs (stands_by step n start xs)
     list_stood n t xs (ended s) e c v = rw (ended_stands n start s xs e) c
-    list_stood n t xs (stopped why rest) e c v = let z : ◌≡◌ {A = ℕ} 0 1 = cc in absurd (omega arith)
+    list_stood n t xs (stopped why rest) e c v = absurd cc
 
     pub stood_at_end : (n : ℕ) (t : T) (xs : List (Symbol C)) → Derives t xs → levels t ≤ n → Leads n start xs (stands_by step n start xs)
     stood_at_end n t xs d v = list_stood n t xs (run n start xs) refl (comes n start xs) (M.complete n t xs d v)

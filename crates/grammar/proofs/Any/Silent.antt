@@ -22,7 +22,7 @@ no_makes (some m) = false
 
 no_makes_lem : (o : Option Makes) → no_makes o ≡ true → o ≡ none
 no_makes_lem none e = refl
-no_makes_lem (some m) e = absurd (let z : ◌≡◌ {A = ℕ} 0 1 = cc in omega arith)
+no_makes_lem (some m) e = absurd cc
 
 module _ {C N : Type 0} where
   -- a rule that makes no record, with parts that have none, before a forest

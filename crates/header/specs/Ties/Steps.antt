@@ -1,14 +1,31 @@
 -- What finding one field answers, from what a message holds there.
-use Rattle.std.specs.Prelude.{◌≡◌, List, ℕ, ◌≤◌, length}
+use Rattle.std.specs.Prelude.{◌≡◌, List, ℕ, ◌+◌, ◌≤◌, length, Option, Some, None, Result, Ok, Err}
+use Rattle.octets.specs.Believed.Answers.{fault as fault_at}
+use Rattle.octets.specs.declared.answers.Fault.{Fault}
+use Rattle.records.specs.Believed.FieldRecords.{Field}
+use Rattle.records.specs.declared.field.FieldRecord.{FieldRecord}
 use Rattle.header.specs.Believed.Fields.{Header, field, ended, fault, in_body, header_at}
-use Rattle.header.specs.declared.fields.Next.{Next}
-use Rattle.header.specs.declared.fields.Next.TheVariants.{Field, End, Fault}
 
--- the first field, the header's end, or the fault
-unfoldable pub first_of : Header → Next
-first_of (field f rest) = Field f.name_start f.name_end f.body_start f.body_end
-first_of ended = End
-first_of (fault number position) = Fault number position
+-- a field's record
+abbrev pub record_of : Field → FieldRecord
+record_of f = record { name = record { start = f.name_start; end = f.name_end }; body = record { start = f.body_start; end = f.body_end } }
+
+-- the first field, none at the header's end, or the fault
+unfoldable pub first_of : Header → Result (Option FieldRecord) Fault
+first_of (field f rest) = Ok (Some (record_of f))
+first_of ended = Ok None
+first_of (fault number position) = Err (fault_at number position)
+
+-- the same of what found a field or a fault
+abbrev pub given : Result FieldRecord Fault → Result (Option FieldRecord) Fault
+given (Ok f) = Ok (Some f)
+given (Err e) = Err e
+
+-- how many fields there are, after `count` others, or the fault
+unfoldable pub count_in : ℕ → Header → Result ℕ Fault
+count_in count (field f rest) = count_in (count + 1) rest
+count_in count ended = Ok count
+count_in count (fault number position) = Err (fault_at number position)
 
 -- the bytes from one position up to another are a body's, so it goes on from there
 pub record GoesOn (message : List ℕ) (at r : ℕ) : Type 0 where

@@ -14,6 +14,3 @@ abbrev pub invariant-loop-i : goal.invariant-loop-i
 invariant-loop-i l =
     (l.i ≤ l.many) × (l.m ≤ l.n + l.i * line_limit) × (length l.out ≡ length l.initial.out)
     × LeftBy (in_window l.from) l.initial.out l.n (each address_line (tabulate (record_in l.table) l.many 0)) l.out l.m (each address_line (tabulate (record_in l.table) (l.many - l.i) l.i))
-
-abbrev pub decreases-loop-i : goal.decreases-loop-i
-decreases-loop-i l = l.many - l.i

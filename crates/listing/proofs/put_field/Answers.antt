@@ -5,16 +5,21 @@ use Rattle.listing.proofs.BodyLaws.{field_text_lem}
 use Rattle.listing.proofs.LineLaws.{field_line_lem}
 use Rattle.listing.proofs.put_field.Goals as goal
 
-pub name_at-known-requires : goal.name_at-known-requires
-name_at-known-requires c =
+pub slice_bounds-known_name-start : goal.slice_bounds-known_name-start
+slice_bounds-known_name-start c =
     let named = rw (← c.load-field.ensures) at c.requires.0 in
-    (named.order, named.within)
+    omega (arith, named.order, named.within)
+
+pub slice_bounds-known_name-end : goal.slice_bounds-known_name-end
+slice_bounds-known_name-end c =
+    let named = rw (← c.load-field.ensures) at c.requires.0 in
+    omega (arith, named.order, named.within)
 
 pub returns : goal.returns
 returns c =
     let a = c.args in
     let r = c.load-field.result in
     let f = field_of r.name.start r.name.end r.body.start r.body.end in (
-      rw c.load-field.ensures at (field_text_lem a.edition a.message.now f c.name_at-known.ensures (field_line_lem f c.put_bytes-a.ensures.0 c.put_four-b.ensures.0 c.put-c.ensures.0) c.put_body.ensures.0),
+      rw c.load-field.ensures at (field_text_lem a.edition a.message.now f c.known_name-known.ensures.0 (field_line_lem f c.put_bytes-a.ensures.0 c.put_four-b.ensures.0 c.put-c.ensures.0) c.put_body.ensures.0),
       omega (arith, c.put_bytes-a.ensures.1, c.put_four-b.ensures.1, c.put-c.ensures.1, c.put_body.ensures.1),
     )

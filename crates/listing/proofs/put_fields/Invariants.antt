@@ -13,6 +13,3 @@ abbrev pub invariant-loop-i : goal.invariant-loop-i
 invariant-loop-i l =
     (l.i ≤ l.many) × (l.m ≤ l.i * field_limit) × (length l.out ≡ length l.initial.out)
     × LeftBy (in_window l.from) l.initial.out 0 (each (field_text l.edition l.message) (tabulate (field_in l.fields) l.many 0)) l.out l.m (each (field_text l.edition l.message) (tabulate (field_in l.fields) (l.many - l.i) l.i))
-
-abbrev pub decreases-loop-i : goal.decreases-loop-i
-decreases-loop-i l = l.many - l.i

@@ -1,11 +1,12 @@
 -- Document 01, "Checked examples": the lines of a message, with its address bodies read by the rules of an edition, 733 or 822. Each function
 -- puts its text before the bytes `rest`.
-use Rattle.std.specs.Prelude.{ℕ, List, [], ◌∷◌, ltb}
+use Rattle.std.specs.Prelude.{ℕ, List, [], ◌∷◌, ltb, ℤ, Result, Ok, Err}
 use Rattle.octets.specs.Believed.Choice.{pick}
 use Rattle.octets.specs.Believed.Numbers.{table_records, too_little_room}
 use Rattle.octets.specs.Believed.Text.{part}
 use Rattle.octets.specs.declared.answers.Answer.{Answer}
 use Rattle.octets.specs.declared.answers.Answer.TheVariants.{Accepted, Refused, NoRoom}
+use Rattle.octets.specs.declared.answers.Fault.{Fault}
 use Rattle.records.specs.Believed.FieldRecords.{Field}
 use Rattle.header.specs.Believed.Fields.{fields_of, header_of}
 use Rattle.header.specs.Believed.Split.{answer_for}
@@ -18,8 +19,6 @@ use Rattle.grammar.specs.Believed.Records.{count, records}
 use Rattle.addresses.specs.Believed.Outcome.{Outcome, refusal}
 use Rattle.editions.specs.Believed.Outcome.{read_of}
 use Rattle.dates.specs.Believed.Outcome.{date_answer}
-use Rattle.dates.specs.declared.DateAnswer.{DateAnswer}
-use Rattle.dates.specs.declared.DateAnswer.TheVariants as date
 use Rattle.listing.specs.Believed.Lines.{field_line, address_line, date_line, refused_line}
 
 -- the texts of things, one after the other
@@ -48,9 +47,9 @@ address_body edition message start end rest =
     unless_refused o.answer o.table
 
 -- a body that holds a date, from its answer
-abbrev pub date_text : DateAnswer → List ℕ → List ℕ
-date_text (date.Accepted seconds) rest = date_line seconds rest
-date_text (date.Refused number position) rest = refused_line number position rest
+abbrev pub date_text : Result ℤ Fault → List ℕ → List ℕ
+date_text (Ok seconds) rest = date_line seconds rest
+date_text (Err f) rest = refused_line f.number f.position rest
 
 -- a body whose name holds no address list: only a date gives a line
 abbrev pub other_body : Known → List ℕ → ℕ → ℕ → List ℕ → List ℕ

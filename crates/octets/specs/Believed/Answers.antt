@@ -2,7 +2,12 @@
 use Rattle.std.specs.Prelude.{ℕ, ◌≡◌, List}
 use Rattle.octets.specs.Believed.Numbers.{accepted, too_little_room}
 use Rattle.octets.specs.declared.answers.Answer.{Answer}
+use Rattle.octets.specs.declared.answers.Fault.{Fault}
 use Rattle.octets.specs.declared.answers.Answer.TheVariants.{Accepted, Refused, NoRoom}
+
+-- what is wrong, and where
+abbrev pub fault : ℕ → ℕ → Fault
+fault number position = record { number = number; position = position }
 
 -- 0 accepted, 11 too little room, else the number of the refusal
 abbrev pub number_of : Answer → ℕ

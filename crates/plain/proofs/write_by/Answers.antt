@@ -1,19 +1,31 @@
--- `plain::write_by` meets its contract. Assumes nothing.
-use mathlib.Core.Path.{refl}
-use mathlib.Core.List.{[], ◌∷◌}
-use Rattle.scanner.specs.Ties.Steps.{outside_at}
-use Rattle.scanner.specs.Ties.Cursors.{end_number}
-use Rattle.scanner.proofs.CursorLaws.{leads_on}
+use mathlib.Core.Path.{refl, ◌∙◌}
+use native.Mathlib.Omega.{arith}
+use Rattle.std.proofs.Common.{rules}
+use Rattle.addresses.proofs.CursorSteps.{found_in}
+use Rattle.plain.proofs.WalkSteps.{behind_less, coming_first, comes, coming_next, coming_none, none_ahead, colon_in}
 use Rattle.plain.proofs.write_by.Goals as goal
 
-pub write_from-requires : goal.write_from-requires
-write_from-requires c =
-    let a = c.args in
-    let y = leads_on (end_number ∷ a.start ∷ a.start ∷ 0 ∷ 0 ∷ a.start ∷ 0 ∷ []) refl (outside_at a.classes.now a.text.now a.start) c.step.ensures in
-    (c.requires, y.sized, rw y.sixth y.ahead)
+pub loop-cursor-init : goal.loop-cursor-init
+loop-cursor-init c = (coming_first c.args.classes.now c.args.text.now c.args.start c.args.out.now (rw c.new-cursor.ensures at c.step.ensures.ahead), refl)
 
 pub returns : goal.returns
-returns c =
-    let a = c.args in
-    let y = leads_on (end_number ∷ a.start ∷ a.start ∷ 0 ∷ 0 ∷ a.start ∷ 0 ∷ []) refl (outside_at a.classes.now a.text.now a.start) c.step.ensures in
-    rw y.sixth at c.write_from.ensures
+returns c = let x = coming_none c.loop-cursor.invariant.0 (none_ahead c.loop-cursor.cursor c.in_default.not-Symbol) in
+    let same_part = c.loop-cursor.invariant.1 in
+    (x.0, search rules)
+
+pub put_symbol-requires : goal.put_symbol-requires
+put_symbol-requires c =
+    let i = c.loop-cursor.invariant.0 in
+    let x = comes i (found_in c.loop-cursor.cursor c.in-Symbol.is) in
+    (x.starts, x.within, omega (arith, i.counted, x.from, x.starts, x.within, c.requires))
+
+pub loop-cursor-smaller : goal.loop-cursor-smaller
+loop-cursor-smaller c =
+    let e = found_in c.loop-cursor.cursor c.in-Symbol.is in
+    behind_less (comes c.loop-cursor.invariant.0 e) e c.step-in-Symbol.ensures.ahead
+
+pub loop-cursor-preserved : goal.loop-cursor-preserved
+loop-cursor-preserved c = (
+  coming_next c.loop-cursor.invariant.0 (found_in c.loop-cursor.cursor c.in-Symbol.is) c.requires c.step-in-Symbol.ensures.ahead (colon_in c.step-in-Symbol.new.self c.colon_ahead-colon_next.ensures) c.put_symbol.ensures.wrote (omega (arith, c.put_symbol.ensures.few)) c.after-place.ensures,
+  c.put_symbol.ensures.same_part ∙ c.loop-cursor.invariant.1,
+)

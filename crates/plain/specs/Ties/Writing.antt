@@ -37,4 +37,4 @@ is_colon (Fault number p) = false
 abbrev pub colon_ahead : Ahead → Bool
 colon_ahead (Symbol class) = same_class Colon class
 colon_ahead End = false
-colon_ahead Faulty = false
+colon_ahead (Faulty number) = false

@@ -1,26 +1,16 @@
 -- `scanner::pass` meets its contract. Assumes nothing.
 use native.Mathlib.Omega.{arith}
-use Rattle.scanner.proofs.CategoryLaws.{white_passed, open_passed, none_passed, above_passed, taken_passed}
-use borrow.Enum.Refused.{opened}
+use borrow.Author.Rules.{rules}
+use mathlib.Core.Path.{◌≡◌}
+use Rattle.scanner.specs.declared.ByteKind.TheVariants.{Above}
+use Rattle.scanner.proofs.InsideLaws.{taken_kind}
+use Rattle.scanner.proofs.CategoryLaws.{open_passed, taken_passed}
 use Rattle.scanner.proofs.pass.Goals as goal
 
-pub pass_comment-requires : goal.pass_comment-requires
-pass_comment-requires c = rw c.in-Comment.is at c.requires
+pub returns-in-Outside-Open : goal.returns-in-Outside-Open
+returns-in-Outside-Open c = rw (c.in-Outside-Open.is-0, c.in-Outside-Open.is-1) (open_passed, omega arith)
 
-pub returns-in-White : goal.returns-in-White
-returns-in-White c = rw (c.in-Outside.is, c.in-White.is) (white_passed, omega arith)
-
-pub returns-in-Open : goal.returns-in-Open
-returns-in-Open c = rw (c.in-Outside.is, c.in-Open.is) (open_passed, omega arith)
-
-pub returns-in_default : goal.returns-in_default
-returns-in_default c = rw c.in-Outside.is (none_passed c.args.kind (opened c.in_default.in_default-own.keys3), tt)
-
-pub returns-in-Comment : goal.returns-in-Comment
-returns-in-Comment c = rw c.in-Comment.is c.pass_comment.ensures
-
-pub returns-in-Above : goal.returns-in-Above
-returns-in-Above c = rw (c.in-Taking.is, c.in-Above.is) (above_passed c.in-Taking.depth, tt)
-
-pub returns-in_default-kind : goal.returns-in_default-kind
-returns-in_default-kind c = rw c.in-Taking.is (taken_passed c.in-Taking.depth c.args.kind (opened c.in_default-kind.in_default-kind-own.keys2), omega arith)
+pub returns-in-Taking-default : goal.returns-in-Taking-default
+returns-in-Taking-default c =
+    let n : c.args.kind ≡ Above → ⊥ = search rules in
+    rw c.in-Taking-default.is-0 (taken_passed c.in-Taking-default.depth c.args.kind (taken_kind c.args.kind n), omega arith)

@@ -1,73 +1,51 @@
--- What the places of a cursor hold.
-use Rattle.std.specs.Prelude.{ℕ, Bool, List, eqb, ltb, set, get_or}
-use Rattle.octets.specs.Believed.Choice.{pick}
-use Rattle.octets.specs.Believed.Classes.{quote, open_bracket, less_than, greater_than, at_sign, comma, semicolon, colon, dot, backslash, letter}
-use Rattle.scanner.specs.Believed.Answers.{found_at}
+-- What a cursor tells.
+use Rattle.std.specs.Prelude.{◌≡◌, ℕ, Bool, List, ltb}
+use Rattle.scanner.specs.Believed.Scanning.{parted, scan_by}
+use Rattle.scanner.specs.Believed.Answers.{found_at, next_of}
+use Rattle.scanner.specs.Ties.Steps.{outside_at}
+use Rattle.scanner.specs.declared.ByteKind.{ByteKind}
+use Rattle.scanner.specs.declared.ByteKind.TheVariants.{White, Control, Return, Plain, Open, Close, Quote, Backslash, Mark, Above, OpenBracket, CloseBracket}
 use Rattle.scanner.specs.declared.Class.{Class}
-use Rattle.scanner.specs.declared.Class.TheVariants.{Atom, Quoted, At, LessThan, GreaterThan, Comma, Semicolon, Colon, Stray, Dot, Literal}
+use Rattle.scanner.specs.declared.Class.TheVariants.{Stray}
 use Rattle.scanner.specs.declared.Next.{Next}
-use Rattle.scanner.specs.declared.Next.TheVariants.{Found, Ended, Fault}
+use Rattle.scanner.specs.declared.Next.TheVariants.{Ended, Fault}
 use Rattle.scanner.specs.declared.cursor.Ahead.{Ahead}
 use Rattle.scanner.specs.declared.cursor.Ahead.TheVariants.{Symbol, End, Faulty}
+use Rattle.scanner.specs.declared.cursor.Cursor.{Cursor}
 
--- the places of a cursor
-abbrev pub cursor_size : ℕ
-cursor_size = 7
-
--- the number of a symbol's class: the class number of the byte that it is, or that it may begin with
-abbrev pub class_number : Class → ℕ
-class_number Atom = letter
-class_number Quoted = quote
-class_number At = at_sign
-class_number LessThan = less_than
-class_number GreaterThan = greater_than
-class_number Comma = comma
-class_number Semicolon = semicolon
-class_number Colon = colon
-class_number Stray = backslash
-class_number Dot = dot
-class_number Literal = open_bracket
-
--- the numbers of the end of a text and of a fault come after those of the bytes' classes
-abbrev pub end_number : ℕ
-end_number = 19
-
-abbrev pub fault_number : ℕ
-fault_number = 20
-
--- a cursor with other numbers in its first four places
-abbrev pub placed : ℕ → ℕ → ℕ → ℕ → List ℕ → List ℕ
-placed number start end size cursor = set (set (set (set cursor 0 number) 1 start) 2 end) 3 size
-
--- a cursor that has moved on to what comes next, looked for from the same position
-abbrev pub moved : Next → List ℕ → List ℕ
-moved (Found symbol) cursor = placed (class_number symbol.class) symbol.start symbol.end symbol.length cursor
-moved Ended cursor = placed end_number 0 0 0 cursor
-moved (Fault number p) cursor = placed fault_number p number 0 cursor
-
--- a cursor that looks for what comes next from the end of its symbol
-abbrev pub from_end : List ℕ → List ℕ
-from_end cursor = set cursor 4 (get_or cursor 2 0)
-
--- what a number tells
-unfoldable pub ahead_of : ℕ → Ahead
-ahead_of n =
-    pick (eqb n letter) (Symbol Atom) (pick (eqb n quote) (Symbol Quoted)
-    (pick (eqb n at_sign) (Symbol At) (pick (eqb n less_than) (Symbol LessThan)
-    (pick (eqb n greater_than) (Symbol GreaterThan) (pick (eqb n comma) (Symbol Comma)
-    (pick (eqb n semicolon) (Symbol Semicolon) (pick (eqb n colon) (Symbol Colon)
-    (pick (eqb n dot) (Symbol Dot) (pick (eqb n open_bracket) (Symbol Literal)
-    (pick (eqb n end_number) End (pick (eqb n fault_number) Faulty (Symbol Stray))))))))))))
+-- the class of the symbol that a byte of a kind is by itself
+abbrev pub IsSingle : ByteKind → Class → Type 0
+IsSingle White class = ⊥
+IsSingle Control class = ⊥
+IsSingle Return class = ⊥
+IsSingle Plain class = ⊥
+IsSingle Open class = ⊥
+IsSingle Close class = class ≡ Stray
+IsSingle Quote class = ⊥
+IsSingle Backslash class = class ≡ Stray
+IsSingle (Mark mark) class = class ≡ mark
+IsSingle Above class = ⊥
+IsSingle OpenBracket class = ⊥
+IsSingle CloseBracket class = class ≡ Stray
 
 abbrev pub next_from : Ahead → ℕ → ℕ → ℕ → Bool → Next
 next_from (Symbol class) start end size apart = found_at class start end size apart
 next_from End start end size apart = Ended
-next_from Faulty start end size apart = Fault end start
+next_from (Faulty number) start end size apart = Fault number start
 
 -- the symbol ahead of a cursor stands apart where it starts after the position from which it was looked for
-abbrev pub apart_in : List ℕ → Bool
-apart_in cursor = ltb (get_or cursor 4 0) (get_or cursor 1 0)
+abbrev pub apart_in : Cursor → Bool
+apart_in cursor = ltb cursor.from cursor.start
 
 -- what a cursor tells of the symbol ahead
-unfoldable pub next_in : List ℕ → Next
-next_in cursor = next_from (ahead_of (get_or cursor 0 0)) (get_or cursor 1 0) (get_or cursor 2 0) (get_or cursor 3 0) (apart_in cursor)
+unfoldable pub next_in : Cursor → Next
+next_in cursor = next_from cursor.ahead cursor.start cursor.end cursor.length (apart_in cursor)
+
+-- what comes next at or after a position of a text, if it is looked for from another
+abbrev pub comes_at : List ℕ → List ℕ → ℕ → ℕ → Next
+comes_at classes text from at = next_of (parted from (outside_at classes text at))
+
+-- a cursor has moved on to what comes next, looked for from the end of its symbol
+pub record MovesOn (classes text : List ℕ) (before after : Cursor) : Type 0 where
+  pub ahead : next_in after ≡ next_of (scan_by classes text before.end)
+  pub from : after.from ≡ before.end

@@ -1,5 +1,5 @@
 -- What the functions that look between symbols answer.
-use Rattle.std.specs.Prelude.{◌≡◌, ℕ, ◌≤◌, Bool}
+use Rattle.std.specs.Prelude.{◌≡◌, ℕ, ◌≤◌, Bool, Option, None, Some}
 use Rattle.scanner.specs.Believed.Scanning.{State, outside, in_comment, taking_in_comment, move}
 use Rattle.scanner.specs.Believed.Categories.{taken_in, behind}
 use Rattle.scanner.specs.declared.ByteKind.{ByteKind}
@@ -7,8 +7,6 @@ use Rattle.scanner.specs.declared.Category.{Category}
 use Rattle.scanner.specs.declared.Category.TheVariants.{Nothing}
 use Rattle.scanner.specs.declared.Gap.{Gap}
 use Rattle.scanner.specs.declared.Gap.TheVariants.{Outside, Comment, Taking}
-use Rattle.scanner.specs.declared.Passed.{Passed}
-use Rattle.scanner.specs.declared.Passed.TheVariants.{To, Over}
 
 -- the state of scanning, the outermost comment starting there
 abbrev pub state_of : Gap → ℕ → State
@@ -31,11 +29,11 @@ pub record LeadsTo (gap : Gap) (start : ℕ) (kind : ByteKind) (b p : ℕ) (fold
   pub outermost : ℕ
   pub same : (rest : State → Category) → behind (move (state_of gap start) kind b p folded) rest ≡ rest (state_of next outermost)
 
-abbrev pub PassedIs : Gap → ByteKind → Passed → Type 0
-PassedIs gap kind (To next) = (start b p : ℕ) (folded : Bool) → LeadsTo gap start kind b p folded next
-PassedIs gap kind Over = (start b p : ℕ) (folded : Bool) (rest : State → Category) → behind (move (state_of gap start) kind b p folded) rest ≡ Nothing
+abbrev pub PassedIs : Gap → ByteKind → Option Gap → Type 0
+PassedIs gap kind (Some next) = (start b p : ℕ) (folded : Bool) → LeadsTo gap start kind b p folded next
+PassedIs gap kind None = (start b p : ℕ) (folded : Bool) (rest : State → Category) → behind (move (state_of gap start) kind b p folded) rest ≡ Nothing
 
 -- .. in so many comments, at most
-abbrev pub PassedLow : ℕ → Passed → Type 0
-PassedLow n (To next) = gap_depth next ≤ n
-PassedLow n Over = Unit {0}
+abbrev pub PassedLow : ℕ → Option Gap → Type 0
+PassedLow n (Some next) = gap_depth next ≤ n
+PassedLow n None = Unit {0}

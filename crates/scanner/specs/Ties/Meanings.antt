@@ -1,5 +1,5 @@
 -- The meaning of a symbol by its place in a text. Nothing here needs to be believed: that it is the meaning which scanning gives is a law.
-use Rattle.std.specs.Prelude.{Bool, List, [], ◌∷◌, ◌++◌, ℕ, ◌+◌}
+use Rattle.std.specs.Prelude.{Bool, List, [], ◌∷◌, ◌++◌, ℕ, ◌+◌, Option, None, Some}
 use Rattle.octets.specs.Believed.Choice.{pick}
 use Rattle.octets.specs.Believed.Text.{part}
 use Rattle.scanner.specs.Believed.Kinds.{character_kind}
@@ -8,7 +8,7 @@ use Rattle.scanner.specs.Believed.Scanning.{taken_data}
 use Rattle.scanner.specs.declared.Class.{Class}
 use Rattle.scanner.specs.declared.Class.TheVariants.{Atom, Quoted, At, LessThan, GreaterThan, Comma, Semicolon, Colon, Stray, Dot, Literal}
 use Rattle.scanner.specs.declared.Datum.{Datum}
-use Rattle.scanner.specs.declared.Datum.TheVariants.{Byte, LineEnd, Over}
+use Rattle.scanner.specs.declared.Datum.TheVariants.{Byte, LineEnd}
 use Rattle.scanner.specs.declared.ByteKind.{ByteKind}
 use Rattle.scanner.specs.declared.ByteKind.TheVariants.{White, Control, Return, Plain, Open, Close, Quote, Backslash, Mark, Above, OpenBracket, CloseBracket}
 
@@ -61,25 +61,25 @@ abbrev pub data_at : List ℕ → List ℕ → ℕ → List ℕ
 data_at classes text at = data_from classes inside (characters_at text at)
 
 -- what a backslash takes, by the character after it
-abbrev pub taken_datum : List Character → Datum
-taken_datum [] = Over
-taken_datum (character b p folded ∷ rest) = pick folded (LineEnd b (p + 1)) (Byte b (p + 1))
+abbrev pub taken_datum : List Character → Option Datum
+taken_datum [] = None
+taken_datum (character b p folded ∷ rest) = Some (pick folded (LineEnd b (p + 1)) (Byte b (p + 1)))
 
 -- the first of the data of a character, which stand up to a position; where there are none, it is a backslash or the closing quote
-abbrev pub first_or : List ℕ → ℕ → Walk → List Character → Datum
-first_or (b ∷ more) end walk rest = Byte b end
+abbrev pub first_or : List ℕ → ℕ → Walk → List Character → Option Datum
+first_or (b ∷ more) end walk rest = Some (Byte b end)
 first_or [] end taking rest = taken_datum rest
-first_or [] end inside rest = Over
-first_or [] end over rest = Over
+first_or [] end inside rest = None
+first_or [] end over rest = None
 
 -- the next of the data from one of its characters on
-unfoldable pub datum_from : List ℕ → List Character → Datum
-datum_from classes [] = Over
+unfoldable pub datum_from : List ℕ → List Character → Option Datum
+datum_from classes [] = None
 datum_from classes (character b p folded ∷ rest) =
     first_or (data_of inside (character_kind classes b folded) b folded) (p + 1) (walked inside (character_kind classes b folded)) rest
 
 -- the next of the data from a position inside it on
-abbrev pub datum_at : List ℕ → List ℕ → ℕ → Datum
+abbrev pub datum_at : List ℕ → List ℕ → ℕ → Option Datum
 datum_at classes text at = datum_from classes (characters_at text at)
 
 -- the meaning of a symbol that stands from `start` to `end`

@@ -1,6 +1,7 @@
 -- Document 02, CR 3: the numbers of each answer for a touched byte, and what is answered of a list.
-use Rattle.std.specs.Prelude.{ℕ, ◌≡◌, List, leb, ltb, length}
+use Rattle.std.specs.Prelude.{ℕ, ◌≡◌, List, leb, ltb, length, Result, Ok, Err}
 use Rattle.std.proofs.lemmas.List.Edits.{sets}
+use Rattle.octets.specs.Believed.Answers.{fault}
 use Rattle.octets.specs.Believed.Choice.{pick, both}
 use Rattle.octets.specs.Believed.Numbers.{table_records, accepted, body_out_of_order, too_little_room}
 use Rattle.scanner.specs.Believed.Categories.{category_at}
@@ -9,31 +10,36 @@ use Rattle.scanner.specs.declared.Category.TheVariants as category
 use Rattle.grammar.specs.Believed.Records.{count, records}
 use Rattle.grammar.specs.Believed.Rfc733.{Derivation}
 use Rattle.touch.specs.Believed.Around.{around}
-use Rattle.touch.specs.declared.Touched.{Touched}
-use Rattle.touch.specs.declared.Touched.TheVariants.{Byte, Expected, Refused, NoRoom}
+use Rattle.touch.specs.declared.Byte.{Byte}
+use Rattle.touch.specs.declared.Untouched.{Untouched}
+use Rattle.touch.specs.declared.Untouched.TheVariants.{Expected, Refused, NoRoom}
+
+-- what is answered: of a byte of an accepted body what it is, and the number of records around it; or why nothing
+abbrev pub Touched : Type 0
+Touched = Result Byte Untouched
 
 -- ---- the numbers of an answer
 
 -- 0 for a byte of an accepted body, 11 too little room, else the number of the refusal
 abbrev pub number_of : Touched → ℕ
-number_of (Byte is many) = accepted
-number_of (Expected number position names) = number
-number_of (Refused number position) = number
-number_of (NoRoom needed) = too_little_room
+number_of (Ok byte) = accepted
+number_of (Err (Expected f names)) = f.number
+number_of (Err (Refused f)) = f.number
+number_of (Err (NoRoom needed)) = too_little_room
 
 -- the place of a refusal, else 0
 abbrev pub position_of : Touched → ℕ
-position_of (Byte is many) = 0
-position_of (Expected number position names) = position
-position_of (Refused number position) = position
-position_of (NoRoom needed) = 0
+position_of (Ok byte) = 0
+position_of (Err (Expected f names)) = f.position
+position_of (Err (Refused f)) = f.position
+position_of (Err (NoRoom needed)) = 0
 
 -- the records around the byte; needed, for 11; 0 for any other refusal
 abbrev pub count_of : Touched → ℕ
-count_of (Byte is many) = many
-count_of (Expected number position names) = 0
-count_of (Refused number position) = 0
-count_of (NoRoom needed) = needed
+count_of (Ok byte) = byte.around
+count_of (Err (Expected f names)) = 0
+count_of (Err (Refused f)) = 0
+count_of (Err (NoRoom needed)) = needed
 
 -- what a byte is: 1 white space, 2 comment, 3 word, 4 "at", 5 a bracket or mark, 0 nothing of these
 abbrev pub category_number : Category → ℕ
@@ -46,17 +52,15 @@ category_number category.Nothing = 0
 
 -- .. of an answer; 0 for a refusal
 abbrev pub category_of : Touched → ℕ
-category_of (Byte is many) = category_number is
-category_of (Expected number position names) = 0
-category_of (Refused number position) = 0
-category_of (NoRoom needed) = 0
+category_of (Ok byte) = category_number byte.category
+category_of (Err why) = 0
 
 -- what could have stood at the place of a refusal, as a sum; 0 where nothing is named
 abbrev pub names_of : Touched → ℕ
-names_of (Byte is many) = 0
-names_of (Expected number position names) = names
-names_of (Refused number position) = 0
-names_of (NoRoom needed) = 0
+names_of (Ok byte) = 0
+names_of (Err (Expected f names)) = names
+names_of (Err (Refused f)) = 0
+names_of (Err (NoRoom needed)) = 0
 
 -- what an answer tells
 pub record Told : Type 0 where
@@ -87,15 +91,19 @@ unchanged path r = record { answer = r; path = path }
 
 -- a refusal
 abbrev pub refusal : List ℕ → ℕ → ℕ → Outcome
-refusal path number position = unchanged path (Refused number position)
+refusal path number position = unchanged path (Err (Refused (fault number position)))
+
+-- a byte: what it is, and the number of records around it
+abbrev pub byte : Category → ℕ → Touched
+byte category around = Ok (record { category = category; around = around })
 
 module _ (message : List ℕ) (start end place : ℕ) (path : List ℕ) where
   -- a byte of a list: what it is, and the numbers of the records around it at the front of the path, as far as it reaches
   abbrev pub byte_of : Derivation → Outcome
-  byte_of k = record { answer = Byte (category_at message start end place) (length (around place (records k))); path = sets path 0 (around place (records k)) }
+  byte_of k = record { answer = byte (category_at message start end place) (length (around place (records k))); path = sets path 0 (around place (records k)) }
 
   -- a list: 11 where the tool's own table is too small, 13 where the place lies outside of the body, else the byte
   abbrev pub of_list : Derivation → Outcome
   of_list k =
-      pick (ltb table_records (count k)) (unchanged path (NoRoom (count k)))
+      pick (ltb table_records (count k)) (unchanged path (Err (NoRoom (count k))))
       (pick (both (leb start place) (ltb place end)) (byte_of k) (refusal path body_out_of_order 0))

@@ -11,8 +11,7 @@ use Rattle.grammar.specs.Believed.Rfc733.{Derivation, RightVerdict}
 use Rattle.addresses.specs.Believed.Editions.{body_symbols}
 use Rattle.addresses.specs.Believed.Condition3.{IsList}
 use Rattle.expected.specs.Believed.Things.{Thing, Exactly, sum_of}
-use Rattle.touch.specs.Believed.Answers.{told, of_list}
-use Rattle.touch.specs.declared.Touched.{Touched}
+use Rattle.touch.specs.Believed.Answers.{Touched, told, of_list}
 
 -- refused with 8, 9 or 10 at the very place that condition 3 gives, after the symbols `before`; and things are named, each of them
 -- exactly if some list of at most 64 levels goes on, or ends, with it there

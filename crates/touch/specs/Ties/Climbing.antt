@@ -1,14 +1,13 @@
 -- What the functions below the entry point do with the tool's own table.
-use Rattle.std.specs.Prelude.{◌≡◌, List, ℕ, ◌+◌, ◌≤◌, ◌<◌, length, get_or}
+use Rattle.std.specs.Prelude.{◌≡◌, List, ℕ, ◌+◌, ◌≤◌, ◌<◌, length, get_or, Bool, false, true, Option, MatchOption}
 use Rattle.std.proofs.lemmas.List.Edits.{sets}
 use Rattle.octets.specs.Believed.Numbers.{table_records}
 use Rattle.records.specs.Believed.AddressRecords.{AddressRecord, no_record, record_in}
 use Rattle.grammar.specs.Believed.Records.{records}
 use Rattle.grammar.specs.Believed.Rfc733.{Derivation}
 use Rattle.addresses.proofs.Judgements.{ListBody}
-use Rattle.touch.specs.Believed.Around.{around, first_plus, Climbs}
-use Rattle.touch.specs.Believed.Answers.{of_list}
-use Rattle.touch.specs.declared.Touched.{Touched}
+use Rattle.touch.specs.Believed.Around.{covers, Climbs}
+use Rattle.touch.specs.Believed.Answers.{Touched, of_list}
 
 -- a table holds these records, `many` of them, each with a parent before it
 pub record Holds (table : List ℕ) (many : ℕ) (rs : List AddressRecord) : Type 0 where
@@ -17,9 +16,18 @@ pub record Holds (table : List ℕ) (many : ℕ) (rs : List AddressRecord) : Typ
   pub are : (i : ℕ) → i < many → record_in table i ≡ get_or rs i no_record
   pub parents : (i : ℕ) → i < many → (get_or rs i no_record).parent ≤ i
 
--- the last record that covers a place, its number plus 1, or 0
-abbrev pub LastAroundIs : List ℕ → ℕ → ℕ → ℕ → Type 0
-LastAroundIs table many place r = (rs : List AddressRecord) → Holds table many rs → r ≡ first_plus (around place rs)
+-- none of these numbers passes a test
+abbrev pub NonePass : (ℕ → Bool) → ℕ → ℕ → Type 0
+NonePass test from to = (i : ℕ) → from ≤ i → i < to → test i ≡ false
+
+-- this one does, and none after it
+abbrev pub LastToPass : (ℕ → Bool) → ℕ → ℕ → Type 0
+LastToPass test to n = (n < to) × (test n ≡ true) × NonePass test (n + 1) to
+
+-- of so many records of a table, the last that covers a place
+abbrev pub LastAroundIs : List ℕ → ℕ → ℕ → Option ℕ → Type 0
+LastAroundIs table many place r =
+    MatchOption r (NonePass (λ i. covers place (record_in table i)) 0 many) (LastToPass (λ i. covers place (record_in table i)) many)
 
 -- some records are held, and climbing starts at one of them, so many steps after the first
 pub record MayClimb (table : List ℕ) (parent at : ℕ) : Type 0 where

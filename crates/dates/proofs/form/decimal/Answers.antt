@@ -1,55 +1,40 @@
-use mathlib.Core.Path.{◌≡◌, refl, sym, ap, ◌∙◌}
+use mathlib.Core.Path.{refl, sym, ap, ◌∙◌}
 use native.Mathlib.Omega.{arith}
-use Prim.Native.Nat.{◌+◌, ◌-◌, ◌*◌}
-use Rattle.octets.specs.Believed.Text.{part}
+use Prim.Native.Nat.{◌+◌, ◌*◌}
+use lib.ListN.{drop, drop_of_length-le}
 use Rattle.dates.specs.Believed.Grammar.{decimal, decimal_from}
-use Rattle.dates.proofs.FormLaws.{decimal_step, decimal_end, grows, bounded}
+use Rattle.dates.proofs.FormLaws.{decimal_step, grows, bounded}
 use Rattle.dates.proofs.form.decimal.Goals as goal
 
-pub loop-p-init : goal.loop-p-init
+pub loop-digit-init : goal.loop-digit-init
 unfolding decimal
-loop-p-init c =
-    let a = c.args in
-    let z : a.start - a.start ≡ 0 = omega arith in
-    (omega arith, c.requires.0, refl, rw z (omega arith))
+loop-digit-init c = record { is = refl; small = omega arith }
 
-pub overflow_mul-v : goal.overflow_mul-v
-overflow_mul-v c =
-    let a = c.args in
-    let p = c.requires in
-    let l = c.loop-p in
-    omega (arith, bounded l.v (l.p - a.start) 5 l.invariant.3 (omega (arith, l.invariant.0, p.1, c.loop-p-test.true)))
+pub overflow_mul-value : goal.overflow_mul-value
+overflow_mul-value c =
+    let l = c.loop-digit in
+    omega (arith, bounded l.value l.digit-index 5 l.invariant.small (omega (arith, c.requires, c.loop-digit-test.true)))
 
-pub bounds-text-p : goal.bounds-text-p
-bounds-text-p c = omega (arith, c.requires.2)
+pub overflow_add-value : goal.overflow_add-value
+overflow_add-value c =
+    let l = c.loop-digit in
+    omega (arith, bounded l.value l.digit-index 5 l.invariant.small (omega (arith, c.requires, c.loop-digit-test.true)), c.from.ensures)
 
-pub overflow_add-v : goal.overflow_add-v
-overflow_add-v c =
+pub loop-digit-preserved : goal.loop-digit-preserved
+loop-digit-preserved c =
     let a = c.args in
-    let p = c.requires in
-    let l = c.loop-p in
-    let loop-test = c.loop-p-test in
-    omega (arith, bounded l.v (l.p - a.start) 5 l.invariant.3 (omega (arith, l.invariant.0, p.1, loop-test.true)), c.digit_value.ensures.1)
-
-pub loop-p-preserved : goal.loop-p-preserved
-loop-p-preserved c =
-    let a = c.args in
-    let p = c.requires in
-    let l = c.loop-p in
-    let loop-test = c.loop-p-test in
-    let n : l.p + 1 - a.start ≡ l.p - a.start + 1 = omega (arith, l.invariant.0) in (
-      omega arith,
-      omega arith,
-      l.invariant.2 ∙ decimal_step a.text.now l.v l.p a.stop loop-test.true p.2
-          ∙ ap (λ x. decimal_from (l.v * 10 + x) (part a.text.now (l.p + 1) a.stop)) (sym c.digit_value.ensures.0),
-      rw n (grows l.v c.digit_value.result (l.p - a.start) l.invariant.3 c.digit_value.ensures.1),
-    )
+    let l = c.loop-digit in
+    record {
+      is =
+          l.invariant.is ∙ decimal_step a.digits.now l.value l.digit-index c.loop-digit-test.true
+          ∙ ap (λ x. decimal_from (l.value * 10 + x) (drop (l.digit-index + 1) a.digits.now)) (sym (c.from.ensures ∙ c.saturating_sub.ensures));
+      small = grows l.value c.from.result l.digit-index l.invariant.small (omega (arith, c.from.ensures));
+    }
 
 pub returns : goal.returns
 returns c =
     let a = c.args in
-    let p = c.requires in
-    let l = c.loop-p in (
-      sym (l.invariant.2 ∙ decimal_end a.text.now l.v l.p a.stop c.loop-p-test.false),
-      bounded l.v (l.p - a.start) 6 l.invariant.3 (omega (arith, l.invariant.0, l.invariant.1, p.1)),
+    let l = c.loop-digit in (
+      sym (l.invariant.is ∙ ap (λ d. decimal_from l.value d) (drop_of_length-le a.digits.now (omega (arith, c.loop-digit-test.false)))),
+      bounded l.value l.digit-index 6 l.invariant.small (omega (arith, c.requires, l.auto.digit-index-end)),
     )

@@ -1,13 +1,12 @@
 -- `dates::form::decimal` meets its contract: the digits passed are read. Assumes nothing.
 use mathlib.Core.Path.{◌≡◌}
-use Prim.Native.Nat.{◌-◌, ◌^◌, ◌≤◌, ◌<◌}
-use Rattle.octets.specs.Believed.Text.{part}
+use Prim.Native.Nat.{◌^◌, ◌<◌}
+use lib.ListN.{drop}
 use Rattle.dates.specs.Believed.Grammar.{decimal, decimal_from}
 use Rattle.dates.proofs.form.decimal.Given as goal
 
-abbrev pub invariant-loop-p : goal.invariant-loop-p
-invariant-loop-p l =
-    (l.start ≤ l.p) × (l.p ≤ l.stop) × (decimal (part l.text l.start l.stop) ≡ decimal_from l.v (part l.text l.p l.stop)) × (l.v < 1000 ^ (l.p - l.start))
-
-abbrev pub decreases-loop-p : goal.decreases-loop-p
-decreases-loop-p l = l.stop - l.p
+abbrev pub invariant-loop-digit : goal.invariant-loop-digit
+invariant-loop-digit l = record {
+  is : decimal l.digits ≡ decimal_from l.value (drop l.digit-index l.digits);
+  small : l.value < 1000 ^ l.digit-index;
+}

@@ -1,7 +1,7 @@
 -- `dates::names::called` meets its contract. Assumes nothing.
-use mathlib.Core.Path.{sym}
 use native.Mathlib.Omega.{arith}
-use lib.Seq.{take_all, length-take-le}
+use borrow.Author.Tests.{lt-leb}
+use lib.Seq.{take_all}
 use Rattle.dates.specs.Believed.Names.{called}
 use Rattle.dates.proofs.names.called.Goals as goal
 
@@ -9,15 +9,11 @@ pub returns-then-same_letters : goal.returns-then-same_letters
 unfolding called
 returns-then-same_letters c = rw (← c.same_letters.ensures, c.if-same_letters.true)
 
-pub returns-then-full-lt3 : goal.returns-then-full-lt3
+pub returns-then-full-ge3 : goal.returns-then-full-ge3
 unfolding called
-returns-then-full-lt3 c =
-    let a = c.args in
-    rw (take_all 3 a.full.now (omega arith), ← c.same_letters.ensures, c.if-same_letters.false)
+returns-then-full-ge3 c = rw (← c.same_letters.ensures, c.if-same_letters.false) c.same_letters-then-full-ge3.ensures
 
-pub slice_bounds-same_letters-end : goal.slice_bounds-same_letters-end
-slice_bounds-same_letters-end c = sym (length-take-le 3 c.args.full.now (omega arith))
-
-pub returns : goal.returns
+pub returns-else-full-ge3 : goal.returns-else-full-ge3
 unfolding called
-returns c = rw (← c.same_letters.ensures, c.if-same_letters.false) c.same_letters-2.ensures
+returns-else-full-ge3 c =
+    rw (take_all 3 c.args.full.now (omega arith), ← c.same_letters.ensures, c.if-same_letters.false, lt-leb 3 _ c.if-full-ge3.false)

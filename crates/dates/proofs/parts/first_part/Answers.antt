@@ -1,20 +1,14 @@
 -- `dates::parts::first_part` meets its contract. Assumes nothing.
 use mathlib.Core.Path.{sym, ◌∙◌}
-use Rattle.dates.proofs.PartLaws.{first_run, first_single, put_ahead}
+use Rattle.dates.proofs.PartLaws.{first_run, first_single}
 use Rattle.dates.proofs.parts.first_part.Goals as goal
 
-pub returns-then-is_run : goal.returns-then-is_run
-returns-then-is_run c =
+pub returns-then-forms_runs : goal.returns-then-forms_runs
+returns-then-forms_runs c =
     let a = c.args in
-    let p = c.requires in
-    let key_of = c.key_of-key in
-    put_ahead a.cursor.now p.2 c.put.ensures
-    (first_run a.classes.now a.text.now a.at a.end key_of.result p.0 p.1 (sym key_of.ensures) c.run_end-stop.result (sym c.is_run.ensures ∙ c.if-is_run.true) c.run_end-stop.ensures)
+    first_run a.classes.now a.text.now a.at a.end c.key_of-key.result c.requires.0 c.requires.1 (sym c.key_of-key.ensures) c.run_end-stop.result (sym c.forms_runs.ensures ∙ c.if-forms_runs.true) c.run_end-stop.ensures
 
-pub returns : goal.returns
-returns c =
+pub returns-else-forms_runs : goal.returns-else-forms_runs
+returns-else-forms_runs c =
     let a = c.args in
-    let p = c.requires in
-    let key_of = c.key_of-key in
-    put_ahead a.cursor.now p.2 c.put-2.ensures
-    (first_single a.classes.now a.text.now a.at a.end key_of.result p.0 p.1 (sym key_of.ensures) (sym c.is_run.ensures ∙ c.if-is_run.false))
+    first_single a.classes.now a.text.now a.at a.end c.key_of-key.result c.requires.0 c.requires.1 (sym c.key_of-key.ensures) (sym c.forms_runs.ensures ∙ c.if-forms_runs.false)

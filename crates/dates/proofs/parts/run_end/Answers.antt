@@ -1,37 +1,20 @@
-use mathlib.Core.Path.{◌≡◌, sym, ◌∙◌}
-use native.Mathlib.Omega.{arith}
+-- `dates::parts::run_end` meets its contract. Assumes nothing.
+use mathlib.Core.Path.{◌∙◌}
+use Rattle.std.proofs.Common.{ℕ, Bool, rules, tests, eqb}
+use Rattle.std.proofs.lemmas.Iterator.{YieldsList-from_slice}
+use Rattle.std.proofs.lemmas.Iterator.Consumers.{count_from_yields_List}
+use Rattle.std.proofs.lemmas.Iterator.Search.{YieldsList-from_take_while}
+use Rattle.std.proofs.lemmas.List.Folds.{length-prefix_len}
 use Rattle.octets.specs.Believed.Text.{part}
-use Rattle.dates.specs.Ties.Steps.{span}
-use Rattle.dates.proofs.PartLaws.{span_end, span_other, span_same}
+use Rattle.dates.specs.Believed.Parts.{key_of}
+use Rattle.dates.specs.Ties.Steps.{key_number}
+use Rattle.dates.proofs.PartLaws.{same_span, ends}
 use Rattle.dates.proofs.parts.run_end.Goals as goal
-
-pub returns-then-key_of-key : goal.returns-then-key_of-key
-returns-then-key_of-key c =
-    let a = c.args in
-    let p = c.requires in
-    let l = c.loop-p in
-    let loop-test = c.loop-p-test in
-    let key_of = c.key_of in
-    let s : span a.classes.now a.key (part a.text.now l.p a.end) ≡ 0 =
-    span_other a.classes.now a.key a.text.now l.p a.end loop-test.true p.inside (λ e. c.if-key_of-key.true (key_of.ensures ∙ e)) in
-    record { is = omega (arith, l.invariant.2, s); from = l.invariant.0; within = l.invariant.1 }
-
-pub loop-p-preserved : goal.loop-p-preserved
-loop-p-preserved c =
-    let a = c.args in
-    let p = c.requires in
-    let l = c.loop-p in
-    let loop-test = c.loop-p-test in
-    let key_of = c.key_of in (
-      omega arith,
-      omega arith,
-      omega (arith, l.invariant.2, span_same a.classes.now a.key a.text.now l.p a.end loop-test.true p.inside (sym key_of.ensures ∙ c.if-key_of-key.false)),
-    )
 
 pub returns : goal.returns
 returns c =
     let a = c.args in
-    let l = c.loop-p in
-    let s : span a.classes.now a.key (part a.text.now l.p a.end) ≡ 0 =
-    span_end a.classes.now a.key a.text.now l.p a.end c.loop-p-test.false in
-    record { is = omega (arith, l.invariant.2, s); from = l.invariant.0; within = l.invariant.1 }
+    let t : ℕ → Bool = λ b. eqb (key_of a.classes.now b) (key_number a.key) in
+    let count = count_from_yields_List c.take_while.result _ c.count-same.ensures.ran (YieldsList-from_take_while _ t (YieldsList-from_slice (part a.text.now a.at a.end) (cc)) c.take_while.ensures.closure c.take_while.ensures.done (λ x b q k. search (rules, tests))) ∙ length-prefix_len t (part a.text.now a.at a.end) in
+    let p = part a.text.now a.at a.end in
+    ends a.classes.now a.text.now a.at a.end (key_number a.key) c.requires (count ∙ same_span a.classes.now (key_number a.key) p)

@@ -2,58 +2,36 @@ use native.Mathlib.Omega.{arith}
 use mathlib.Core.Path.{refl, sym, ap, ◌∙◌}
 use Rattle.header.specs.Believed.Fields.{in_body}
 use Rattle.header.specs.Ties.Steps.{first_of}
-use Rattle.header.proofs.HeaderLaws.{ends, body_fault, body_ends, body_goes}
+use Rattle.header.proofs.StepLaws.{goes_past, goes_both}
+use Rattle.header.proofs.HeaderLaws.{ends, body_fault, body_ends}
 use Rattle.header.proofs.fields.body_rest.Goals as goal
 
-pub loop-at-init : goal.loop-at-init
-loop-at-init c = (omega arith, refl)
-
-pub past_plain-at-requires : goal.past_plain-at-requires
-past_plain-at-requires c = c.loop-at.invariant.0
-
-pub returns-then-message-at : goal.returns-then-message-at
+pub returns-then-message-end-gt127 : goal.returns-then-message-end-gt127
 unfolding first_of
-returns-then-message-at c =
+returns-then-message-end-gt127 c =
     let a = c.args in
-    let l = c.loop-at in
-    let p = c.past_plain-at in
-    let here = l.invariant.1 ∙ p.ensures.same a.name_start a.name_end a.body_start in
-    sym (ap first_of (here ∙ ends a.message.now p.result (in_body a.name_start a.name_end a.body_start) (omega (arith, p.ensures.within))))
-
-pub returns-then-message-at-gt127 : goal.returns-then-message-at-gt127
-unfolding first_of
-returns-then-message-at-gt127 c =
-    let a = c.args in
-    let l = c.loop-at in
-    let p = c.past_plain-at in
-    let here = l.invariant.1 ∙ p.ensures.same a.name_start a.name_end a.body_start in
-    sym (ap first_of (here ∙ body_fault a.message.now p.result (omega arith) a.name_start a.name_end a.body_start (omega arith)))
+    let l = c.loop-end in
+    let here = l.invariant.same a.name.start a.name.end a.start in
+    rw (c.fault.ensures, here) (sym (ap first_of (body_fault a.message.now l.end (omega arith) a.name.start a.name.end a.start (omega arith))))
 
 pub returns-then-ends_body : goal.returns-then-ends_body
 unfolding first_of
 returns-then-ends_body c =
     let a = c.args in
-    let l = c.loop-at in
-    let p = c.past_plain-at in
-    let here = l.invariant.1 ∙ p.ensures.same a.name_start a.name_end a.body_start in
-    sym (ap first_of (here ∙ body_ends a.message.now p.result (omega arith) a.name_start a.name_end a.body_start (omega arith) (sym c.ends_body.ensures ∙ c.if-ends_body.true)))
+    let l = c.loop-end in
+    let here = l.invariant.same a.name.start a.name.end a.start in
+    sym (ap first_of (here ∙ body_ends a.message.now l.end (omega arith) a.name.start a.name.end a.start (omega arith) (sym c.ends_body.ensures ∙ c.if-ends_body.true)))
 
-pub loop-at-smaller : goal.loop-at-smaller
-loop-at-smaller c = let p = c.past_plain-at in omega (arith, p.ensures.from)
-
-pub loop-at-preserved : goal.loop-at-preserved
-loop-at-preserved c =
+pub loop-end-preserved : goal.loop-end-preserved
+loop-end-preserved c =
     let a = c.args in
-    let l = c.loop-at in
-    let p = c.past_plain-at in
-    let here = l.invariant.1 ∙ p.ensures.same a.name_start a.name_end a.body_start in
-    (omega arith, here ∙ body_goes a.message.now p.result (omega arith) a.name_start a.name_end a.body_start (omega arith) (sym c.ends_body.ensures ∙ c.if-ends_body.false))
+    let l = c.loop-end in
+    goes_both (goes_both l.invariant (goes_past a.message.now l.end (omega arith) (omega arith) (sym c.ends_body.ensures ∙ c.if-ends_body.false)) refl) c.past_plain-end-in-loop-end.ensures refl
 
-pub bounds-message-at : goal.bounds-message-at
-bounds-message-at c = omega arith
-
-pub ends_body-requires : goal.ends_body-requires
-ends_body-requires c = omega arith
-
-pub overflow_add-at : goal.overflow_add-at
-overflow_add-at c = omega arith
+pub returns : goal.returns
+unfolding first_of
+returns c =
+    let a = c.args in
+    let l = c.loop-end in
+    let here = l.invariant.same a.name.start a.name.end a.start in
+    rw (c.fault-2.ensures, here) (sym (ap first_of (ends a.message.now l.end (in_body a.name.start a.name.end a.start) (omega arith))))

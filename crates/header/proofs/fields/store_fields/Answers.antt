@@ -1,64 +1,40 @@
-use Prim.Native.Nat.{ℕ}
 use native.Mathlib.Omega.{arith}
-use mathlib.Core.List.{List}
-use mathlib.Core.Path.{sym, ◌∙◌}
+use mathlib.Core.Path.{sym, ap, ◌∙◌}
+use Rattle.std.proofs.Common.{Ok}
+use Rattle.std.proofs.lemmas.Result.{err_from_is_err_and}
 use Rattle.header.proofs.StepLaws.{gave, gave_end, gave_fault}
-use Rattle.header.proofs.SplitLaws.{at_start, after_field, at_no_room, at_accepted, at_fault}
+use Rattle.header.proofs.SplitLaws.{after_field, at_ended, at_fault}
 use Rattle.header.proofs.fields.store_fields.Goals as goal
 
-pub loop-name_start-init : goal.loop-name_start-init
-loop-name_start-init c = let a = c.args in at_start a.message.now a.room a.table.now
+pub returns-in_err-field-clause-many : goal.returns-in_err-field-clause-many
+returns-in_err-field-clause-many c =
+    let p = err_from_is_err_and c.from_residual.result c.from_residual.ensures.1 in
+    let d = at_fault c.loop-field.invariant (gave_fault _ (c.in_err-field.ensures)) in
+    rw (p.1, p.2) d.many
 
-pub next_field-requires : goal.next_field-requires
-next_field-requires c = omega arith
-
-pub store-requires : goal.store-requires
-store-requires c = omega arith
-
-pub overflow_add-count : goal.overflow_add-count
-overflow_add-count c = omega arith
+pub returns-in_err-field-clause-stored : goal.returns-in_err-field-clause-stored
+returns-in_err-field-clause-stored c = (at_fault c.loop-field.invariant (gave_fault _ (c.in_err-field.ensures))).stored
 
 pub overflow_add-at : goal.overflow_add-at
 overflow_add-at c =
-    let l = c.loop-name_start in
-    let m : List ℕ = c.args.message.now in
-    let g = gave m l.at l.invariant.within (sym c.in-Field.is ∙ c.next_field.ensures) in
+    let l = c.loop-field in
+    let g = gave c.args.message.now l.at l.invariant.within (ap Ok (sym c.in-Some.is) ∙ c.in_ok-field.ensures) in
     omega arith
 
-pub loop-name_start-smaller : goal.loop-name_start-smaller
-loop-name_start-smaller c =
-    let l = c.loop-name_start in
-    let m : List ℕ = c.args.message.now in
-    let g = gave m l.at l.invariant.within (sym c.in-Field.is ∙ c.next_field.ensures) in
+pub loop-field-smaller : goal.loop-field-smaller
+loop-field-smaller c =
+    let l = c.loop-field in
+    let g = gave c.args.message.now l.at l.invariant.within (ap Ok (sym c.in-Some.is) ∙ c.in_ok-field.ensures) in
     omega arith
 
-pub loop-name_start-preserved : goal.loop-name_start-preserved
-loop-name_start-preserved c =
-    let l = c.loop-name_start in
-    let m : List ℕ = c.args.message.now in
-    let g = gave m l.at l.invariant.within (sym c.in-Field.is ∙ c.next_field.ensures) in
+pub loop-field-preserved : goal.loop-field-preserved
+loop-field-preserved c =
+    let l = c.loop-field in
+    let g = gave c.args.message.now l.at l.invariant.within (ap Ok (sym c.in-Some.is) ∙ c.in_ok-field.ensures) in
     after_field l.invariant g c.store.ensures
 
-pub shape_of-table-then-room-count : goal.shape_of-table-then-room-count
-shape_of-table-then-room-count c = c.loop-name_start.invariant.same_length
+pub returns-clause-many : goal.returns-clause-many
+returns-clause-many c = (at_ended c.loop-field.invariant (gave_end _ (ap Ok (sym c.in_default.is) ∙ c.in_ok-field.ensures))).many
 
-pub returns-then-room-count : goal.returns-then-room-count
-returns-then-room-count c =
-    let l = c.loop-name_start in
-    at_no_room l.invariant (gave_end _ (sym c.in-End.is ∙ c.next_field.ensures)) (omega arith)
-
-pub shape_of-table-in-End : goal.shape_of-table-in-End
-shape_of-table-in-End c = c.loop-name_start.invariant.same_length
-
-pub returns-in-End : goal.returns-in-End
-returns-in-End c =
-    let l = c.loop-name_start in
-    at_accepted l.invariant (gave_end _ (sym c.in-End.is ∙ c.next_field.ensures)) (omega arith)
-
-pub shape_of-table-in-Fault : goal.shape_of-table-in-Fault
-shape_of-table-in-Fault c = c.loop-name_start.invariant.same_length
-
-pub returns-in-Fault : goal.returns-in-Fault
-returns-in-Fault c =
-    let l = c.loop-name_start in
-    at_fault l.invariant (gave_fault _ (sym c.in-Fault.is ∙ c.next_field.ensures))
+pub returns-clause-stored : goal.returns-clause-stored
+returns-clause-stored c = (at_ended c.loop-field.invariant (gave_end _ (ap Ok (sym c.in_default.is) ∙ c.in_ok-field.ensures))).stored

@@ -1,23 +1,9 @@
-use mathlib.Core.Path.{refl, sym, ◌∙◌}
+-- `octets::writing::copy_front` meets its contract. Assumes nothing.
 use native.Mathlib.Omega.{arith}
-use lib.ListN.{get_or, length-set}
-use Rattle.octets.proofs.Parts.{copied_here, copied_all}
+use Rattle.octets.proofs.Parts.{copied_front}
 use Rattle.octets.proofs.writing.copy_front.Goals as goal
-
-pub loop-i-init : goal.loop-i-init
-loop-i-init c = (omega arith, refl, refl)
-
-pub bounds-table-i : goal.bounds-table-i
-bounds-table-i c = let l = c.loop-i in omega (arith, l.invariant.1)
-
-pub loop-i-preserved : goal.loop-i-preserved
-loop-i-preserved c =
-    let a = c.args in
-    let l = c.loop-i in
-    (omega arith, length-set l.table l.i (get_or a.from.now l.i 0) ∙ l.invariant.1, l.invariant.2 ∙ copied_here a.from.now l.table a.many l.i 0 (omega arith) (omega arith))
 
 pub returns : goal.returns
 returns c =
     let a = c.args in
-    let l = c.loop-i in
-    sym (l.invariant.2 ∙ copied_all a.from.now l.table a.many l.i (omega (arith, l.invariant.1)))
+    copied_front a.from.now a.table.now c.copy_from_slice.new.self a.many c.min-end.result (omega arith) c.copy_from_slice.ensures.after

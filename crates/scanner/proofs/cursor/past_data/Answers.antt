@@ -4,14 +4,5 @@ use Rattle.scanner.proofs.cursor.past_data.Goals as goal
 pub loop-p-init : goal.loop-p-init
 loop-p-init c = no_data _ _ _ c.requires.0
 
-pub returns-then-class-lt-WHITE : goal.returns-then-class-lt-WHITE
-returns-then-class-lt-WHITE c = c.loop-p.invariant
-
-pub returns-then-class-eq-BACKSLASH : goal.returns-then-class-eq-BACKSLASH
-returns-then-class-eq-BACKSLASH c = c.loop-p.invariant
-
 pub loop-p-preserved : goal.loop-p-preserved
 loop-p-preserved c = let e = c.class_in-class.ensures in data_on c.loop-p.invariant c.requires.1 c.loop-p-test.true (rw e at c.if-class-lt-WHITE.false) (rw e at c.if-class-eq-BACKSLASH.false)
-
-pub returns : goal.returns
-returns c = c.loop-p.invariant

@@ -1,0 +1,2 @@
+-- Ties between code and definitions. Nothing here needs to be believed.
+pub mod Kinds

@@ -1,5 +1,0 @@
--- `touch::climb`: the parent falls at each call.
-use Rattle.touch.proofs.+climb.Given as goal
-
-abbrev pub decreases-climb : goal.decreases-climb
-decreases-climb l = l.parent
