@@ -3,12 +3,14 @@ use mathlib.Core.Path.{◌≡◌, refl, sym, ap, ◌∙◌}
 use mathlib.Core.Bool.{Bool, true, false, true≢false}
 use mathlib.Core.List.{List}
 use Prim.Native.Nat.{ℕ}
-use Rattle.scanner.specs.Believed.Answers.{found_at}
-use Rattle.scanner.specs.Ties.Cursors.{next_from, apart_in, next_in, MovesOn}
+use Rattle.scanner.specs.Believed.Scanning.{scan_by}
+use Rattle.scanner.specs.Believed.Answers.{found_at, next_of}
+use Rattle.scanner.specs.Ties.Cursors.{next_from, apart_in, next_in, moved}
 use Rattle.scanner.specs.declared.Next.{Next}
 use Rattle.scanner.specs.declared.cursor.Ahead.{Ahead}
 use Rattle.scanner.specs.declared.cursor.Ahead.TheVariants.{Symbol, End, Faulty}
 use Rattle.scanner.specs.declared.cursor.Cursor.{Cursor}
+use Rattle.scanner.proofs.CursorMoves.{tells_next}
 use Rattle.grammar.specs.Believed.Rfc733.{same_class}
 use Rattle.grammar.specs.Executable.Trees733.{Class}
 use Rattle.grammar.proofs.Symbols.{same_class_lem}
@@ -115,8 +117,8 @@ module _ (classes text : List ℕ) where
     pub next : NextIs classes text before.cursor.end (coming after)
     pub free_kept : after.free ≡ before.free
 
-  pub stepped : (before : Walk) {cursor : Cursor} → MovesOn classes text before.cursor cursor → Stepped before (with_cursor before cursor)
-  stepped before {cursor} m = record { next = next_is classes text before.cursor.end (next_in cursor) m.ahead; free_kept = refl }
+  pub stepped : (before : Walk) {cursor : Cursor} → cursor ≡ moved (next_of (scan_by classes text before.cursor.end)) before.cursor.end → Stepped before (with_cursor before cursor)
+  stepped before {cursor} e = record { next = next_is classes text before.cursor.end (next_in cursor) (tells_next classes text before.cursor.end e); free_kept = refl }
 
   -- the symbol that stands ahead then
   pub met : {before after : Walk} {class : Class} → Stepped before after → after.cursor.ahead ≡ Symbol class → NextIs classes text before.cursor.end (found_at class after.cursor.start after.cursor.end after.cursor.length (apart_in after.cursor))

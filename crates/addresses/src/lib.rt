@@ -15,7 +15,7 @@ ghost use Rattle.scanner.specs.Believed.Scanning.{scan_by};
 ghost use Rattle.scanner.specs.Believed.Answers.{unless_fault};
 ghost use Rattle.grammar.specs.Executable.Machine733.{answer};
 ghost use Rattle.addresses.specs.Ties.Steps.{is_ahead, word_ahead, ends_ahead, closes_ahead, refusal_ahead, number_told, place_told, enclosure_kind, PhraseIs, NodesAre, TypedAtomIs, MarkAhead, MailboxIs, LoneAhead, LoneIs, CloseIs, Entered, ListIs, BeginsAddress, AddressAhead, NamedFirst, EnclosedIs, ColonFirst, TypedAhead, TypedIs};
-ghost use Rattle.addresses.specs.Ties.Whole.{Fitting, BodyRead, FaultFirst};
+ghost use Rattle.addresses.specs.Ties.Whole.{Fitting, once_limit, Staged, BodyRead, FaultFirst};
 ghost use Rattle.addresses.specs.Believed.Outcome.{AnsweredBy, outcome};
 ghost use Rattle.addresses.specs.Believed.Within.{list_within};
 ghost use Rattle.addresses.specs.Believed.Condition3.{Condition3};
@@ -531,7 +531,8 @@ fn fault_or(classes: &[u8; 256], text: &[u8], at: usize, number: u8, place: usiz
     }
 }
 
-// Read a body, its records beside the table first; then, if the table has room for all, copy them, or read again where they were too many.
+// Read a body, its records beside the table first; then, if the table has room for all, copy them, or read again where they were too many:
+// only of a longer body can they be, for a short one has at most one for each two bytes.
 fn read_body(
     classes: &[u8; 256],
     text: &[u8],
@@ -539,7 +540,7 @@ fn read_body(
     staged: &mut [u8],
     at: usize,
 ) -> Answer
-    requires { Fitting text.now at }
+    requires { Fitting text.now at × Staged text.now at staged.old }
     ensures { FaultFirst (answer level_limit) classes.now text.now at table.old table.new result }
 {
     match read_whole(classes, text, staged, at, LEVEL_LIMIT) {
@@ -551,11 +552,22 @@ fn read_body(
             if count <= staged.len() / ADDRESS_RECORD_SIZE {
                 copy_front(table, staged, count * ADDRESS_RECORD_SIZE);
             } else {
+                prove!(ONCE_LIMIT < text.len() - at);
                 read_whole(classes, text, table, at, LEVEL_LIMIT);
             }
             Answer::Accepted(count)
         }
     }
+}
+
+// Read a short body. It is a function apart, for else each that reads addresses, and those that it calls, would hold the room for the
+// records on the stack: that of RFC 822, and the expansion at each list that it opens.
+#[inline(never)]
+fn read_short(classes: &[u8; 256], text: &[u8], table: &mut [u8], at: usize) -> Answer
+    requires { Fitting text.now at × (length text.now ≤ at + once_limit) }
+    ensures { FaultFirst (answer level_limit) classes.now text.now at table.old table.new result }
+{
+    read_body(classes, text, table, &mut [0; STAGED], at)
 }
 
 // Read the address list in the body of a message from start up to end, and write its records into the table.
@@ -570,7 +582,7 @@ pub fn read_addresses(message: &[u8], start: usize, end: usize, table: &mut [u8]
     if ONCE_LIMIT < end - start {
         return read_body(&CLASSES, &message[..end], table, &mut [], start);
     }
-    read_body(&CLASSES, &message[..end], table, &mut [0; STAGED], start)
+    read_short(&CLASSES, &message[..end], table, start)
 }
 
 // Whether a text is, whole, an address list of at most so many levels; never of more than 64.

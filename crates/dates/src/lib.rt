@@ -63,8 +63,9 @@ pub fn read_date(message: &[u8], start: usize, end: usize) -> Result<i64, Fault>
         number: DATE_FORM,
         position: start,
     })?;
-    crate::moment::moment_of(written).ok_or(Fault {
+    let value = crate::moment::moment_of(written).ok_or(Fault {
         number: DATE_IMPOSSIBLE,
         position: start,
-    })
+    })?;
+    Ok(value)
 }

@@ -6,7 +6,7 @@ ghost use Rattle.octets.specs.Believed.Numbers.{message_limit};
 ghost use Rattle.records.specs.Believed.FieldRecords.{field_record_size, field_table};
 ghost use Rattle.header.specs.Believed.Fields.{name_holds, name_starts_with, ends_body, line_start, in_name, in_body, fields_of, header_at, header_of};
 ghost use Rattle.header.specs.Believed.Split.{split_answer, split_table};
-ghost use Rattle.header.specs.Ties.Steps.{first_of, given, count_in, GoesOn, staged_fields};
+ghost use Rattle.header.specs.Ties.Steps.{first_of, given, count_in, plain, GoesOn, staged_fields};
 
 use octets::answers::{Answer, Fault};
 use octets::lines::{is_crlf, is_white};
@@ -49,29 +49,48 @@ fn ends_body(message: &[u8], at: usize) -> bool
     is_crlf(message, at) && !message.get(at + 2).is_some_and(|b| is_white(*b))
 }
 
-// Past bytes of a body by fours: one by one takes twice the instructions. A byte from 14 to 127 is plain: it neither ends a
-// body nor is a fault in it.
-fn past_fours(message: &[u8], at: usize) -> usize
+// Whether a byte is plain: it neither ends a body nor is a fault in it.
+fn is_plain(b: u8) -> bool
+    ensures { result ≡ plain b }
+{
+    matches!(b, 14..=127)
+}
+
+// The first byte at or after a position that is not plain, one by one.
+fn past_last(message: &[u8], at: usize) -> usize
     requires { at ≤ length message.now }
     ensures { GoesOn message.now at result }
 {
     let mut rest = &message[at..];
-    while let [14..=127, 14..=127, 14..=127, 14..=127, more @ ..] = rest {
+    while let [14..=127, more @ ..] = rest {
         rest = more;
     }
     message.len() - rest.len()
 }
 
-// The first byte at or after a position that is not plain.
+// .. by fours: one by one takes twice the instructions. Each byte is looked at once, for bodies of many folds stop often.
 fn past_plain(message: &[u8], at: usize) -> usize
     requires { at ≤ length message.now }
     ensures { GoesOn message.now at result }
 {
-    let mut rest = &message[past_fours(message, at)..];
-    while let [14..=127, more @ ..] = rest {
+    let mut rest = &message[at..];
+    while let [a, b, c, d, more @ ..] = rest {
+        let here = message.len() - rest.len();
+        if !is_plain(*a) {
+            return here;
+        }
+        if !is_plain(*b) {
+            return here + 1;
+        }
+        if !is_plain(*c) {
+            return here + 2;
+        }
+        if !is_plain(*d) {
+            return here + 3;
+        }
         rest = more;
     }
-    message.len() - rest.len()
+    past_last(message, message.len() - rest.len())
 }
 
 // The field whose body starts at a position.
@@ -79,8 +98,13 @@ fn body_rest(message: &[u8], name: Span, start: usize) -> Result<FieldRecord, Fa
     requires { start ≤ length message.now }
     ensures { given result ≡ first_of (header_at message.now start (in_body name.start name.end start)) }
 {
-    let mut end = past_plain(message, start);
-    while end < message.len() {
+    // one call of `past_plain`, for it is inlined
+    let mut from = start;
+    loop {
+        let end = past_plain(message, from);
+        if message.len() <= end {
+            return Err(fault(HEADER_NOT_ENDED, end));
+        }
         if 127 < message[end] {
             return Err(fault(BYTE_ABOVE_127, end));
         }
@@ -88,9 +112,8 @@ fn body_rest(message: &[u8], name: Span, start: usize) -> Result<FieldRecord, Fa
             let body = Span { start, end };
             return Ok(FieldRecord { name, body });
         }
-        end = past_plain(message, end + 1);
+        from = end + 1;
     }
-    Err(fault(HEADER_NOT_ENDED, end))
 }
 
 // The field whose name starts at a position.

@@ -3,10 +3,11 @@ use mathlib.Core.Path.{◌≡◌, refl, sym, ap, ◌∙◌}
 use mathlib.Core.List.{List, [], ◌∷◌, ◌++◌, append_assoc, append-nil}
 use Prim.Native.Nat.{ℕ, zero, suc, min, ◌+◌, ◌-◌, ◌≤◌, ◌<◌}
 use native.Mathlib.Nat.{add-zero, sub-zero, zero-sub}
+use native.Mathlib.Decide.{dec_lt}
 use native.Mathlib.Numerals.{add-one}
 use native.Mathlib.Omega.{arith}
 use lib.ListN.{length, get_or, take, drop, set, length-take, length-drop, drop_of_length-le}
-use lib.Seq.{sets, sets-eq, take_all, drop_at, drop-cons, drop-drop, take-append_seam, take-set-le, take-nil, take-take, drop-set-lt, set_comm, set_out, length-take-le}
+use lib.Seq.{sets, sets-eq, take_all, drop_at, drop-cons, drop-drop, take-append_seam, take-set-le, take-nil, take-take, get_or-take, drop-set-lt, set_comm, set_out, length-take-le}
 use borrow.Rule.Slice.PartMut.{put_mid}
 use Rattle.octets.specs.Believed.Text.{part}
 
@@ -66,19 +67,20 @@ module _ {A : Type 0} where
   sets_behind x [] table i = refl
   sets_behind x (v ∷ vs) table i = sets_behind x vs (set table i v) (suc i)
 
-  -- a run that is stored at the front, up to where it ends or the table does
-  pub sets_front : (vs table : List A) (n : ℕ) → n ≡ min (length vs) (length table) → sets table 0 vs ≡ take n vs ++ drop n table
-  sets_front [] table n e = let z : n ≡ 0 = omega arith in rw z
-  sets_front (v ∷ vs) [] n e = let z : n ≡ 0 = omega arith in rw z (sets_out (v ∷ vs) [] 0 (omega arith))
-  sets_front (v ∷ vs) (x ∷ table) n e =
-      let z : n ≡ suc (min (length vs) (length table)) = omega arith in
-      rw z (sets_behind v vs table 0 ∙ ap (λ l. v ∷ l) (sets_front vs table (min (length vs) (length table)) refl))
+  -- the front of a list, copied: from a place on the element there, and those after it
+  pub copied_here : (from table : List A) (many i : ℕ) (d : A) → i < many → i < length from
+      → sets table i (drop i (take many from)) ≡ sets (set table i (get_or from i d)) (i + 1) (drop (i + 1) (take many from))
+  copied_here from table many i d h k =
+      rw (from_here (take many from) i d (omega (arith, length-take many from)), get_or-take many from i d h, add-one)
 
-  -- the front of a list, copied to the front of a table, up to where either ends
-  pub copied_front : (from table copied : List A) (many end : ℕ) → end ≡ min (min many (length table)) (length from) → copied ≡ take end from
-      → copied ++ drop end table ≡ sets table 0 (take many from)
-  copied_front from table copied many end e c =
-      rw (c, sets_front (take many from) table end (omega (arith, length-take many from)), take-take end many from (omega arith))
+  -- nothing of it is left where it ends, or the table does
+  pub copied_all : (from table : List A) (many i : ℕ) → min many (min (length table) (length from)) ≤ i
+      → sets table i (drop i (take many from)) ≡ table
+  copied_all from table many i h =
+      elim (dec_lt i (length table)) [
+        | yes k ↦ rw (drop_of_length-le (take many from) {i = i} (omega (arith, length-take many from)))
+        | no k ↦ sets_out (drop i (take many from)) table i (omega arith)
+      ]
 
   -- a run that is stored from a place on is stored at the front of what stands there
   pub sets_mid : (vs table : List A) (i : ℕ) → i ≤ length table → take i table ++ sets (drop i table) 0 vs ≡ sets table i vs

@@ -10,7 +10,10 @@ pub fn copy_front(table: &mut [u8], from: &[u8], many: usize)
     ensures { table.new ≡ sets table.old 0 (take many from.now) }
 {
     let end = many.min(table.len()).min(from.len());
-    table[..end].copy_from_slice(&from[..end]);
+    // by index: with `copy_from_slice` the library for C asks for `memmove` too
+    for i in 0..end {
+        table[i] = from[i];
+    }
 }
 
 // Store the bytes of a text from a place on; past the end nothing is stored.

@@ -14,10 +14,10 @@ use Rattle.octets.proofs.ChoiceLaws.{both_parts}
 use Rattle.octets.proofs.Parts.{part_length}
 use Rattle.octets.proofs.Tables.{at}
 use Rattle.scanner.specs.Believed.Kinds.{kind_of_class}
-use Rattle.scanner.specs.Believed.Scanning.{Scanned, ended, next, fault_at, outside, in_quoted, go, symbol, atom_class, parted}
+use Rattle.scanner.specs.Believed.Scanning.{Scanned, ended, next, fault_at, outside, in_quoted, go, symbol, atom_class, parted, scan_by}
 use Rattle.scanner.specs.Believed.Answers.{found_at, next_of}
 use Rattle.scanner.specs.Ties.Steps.{outside_at, FirstCharacter, ReturnIsControl, PlainEnds, DataPasses, quote_at}
-use Rattle.scanner.specs.Ties.Cursors.{IsSingle, next_in, comes_at, MovesOn}
+use Rattle.scanner.specs.Ties.Cursors.{IsSingle, next_in, comes_at, moved}
 use Rattle.scanner.specs.declared.Class.{Class}
 use Rattle.scanner.specs.declared.Class.TheVariants.{Quoted}
 use Rattle.scanner.specs.declared.cursor.Cursor.{Cursor}
@@ -35,8 +35,18 @@ pub record Passing (classes text : List ℕ) (from at p : ℕ) : Type 0 where
   pub same : outside_at classes text at ≡ outside_at classes text p
 
 -- what comes next there comes next
-pub moves_on : {classes text : List ℕ} (before held : Cursor) {after : Cursor} {p : ℕ} → Passing classes text held.from before.end p → (next_in after ≡ comes_at classes text held.from p) × (after.from ≡ held.from) → MovesOn classes text before after
-moves_on before held w e = record { ahead = e.0 ∙ rw (w.looked, w.same); from = e.1 ∙ w.looked }
+pub moves_on : {classes text : List ℕ} (before held : Cursor) {after : Cursor} {p : ℕ} → Passing classes text held.from before.end p → after ≡ moved (comes_at classes text held.from p) held.from → after ≡ moved (next_of (scan_by classes text before.end)) before.end
+moves_on before held w e = e ∙ rw (w.looked, w.same)
+
+-- what a cursor that has moved on tells
+told_next : (from : ℕ) (s : Scanned) → next_in (moved (next_of (parted from s)) from) ≡ next_of (parted from s)
+unfolding next_in parted
+told_next from ended = refl
+told_next from (next x rest) = refl
+told_next from (fault_at number p) = refl
+
+pub tells_next : (classes text : List ℕ) (at : ℕ) {after : Cursor} → after ≡ moved (next_of (scan_by classes text at)) at → next_in after ≡ next_of (scan_by classes text at)
+tells_next classes text at e = ap next_in e ∙ told_next at (outside_at classes text at)
 
 -- what was looked for from a position, told as looked for from another
 abbrev pub told_from : ℕ → Next → Next

@@ -2,9 +2,10 @@
 ghost use Rattle.std.specs.Prelude.{◌≡◌, ◌≤◌, ◌<◌, ltb, length, get_or};
 ghost use Rattle.octets.specs.Believed.Classes.{quote, close_bracket, letter};
 ghost use Rattle.scanner.specs.Believed.Kinds.{kind_of_class};
-ghost use Rattle.scanner.specs.Believed.Answers.{found_at};
+ghost use Rattle.scanner.specs.Believed.Scanning.{scan_by};
+ghost use Rattle.scanner.specs.Believed.Answers.{found_at, next_of};
 ghost use Rattle.scanner.specs.Ties.Steps.{ReturnIsControl, DataPasses, quote_at};
-ghost use Rattle.scanner.specs.Ties.Cursors.{IsSingle, next_in, comes_at, MovesOn};
+ghost use Rattle.scanner.specs.Ties.Cursors.{IsSingle, comes_at, cursor_at, without_symbol, moved};
 
 use crate::{Class, Next, atom_class, next_by, plain_end};
 use octets::classes::{
@@ -20,8 +21,8 @@ pub enum Ahead {
     Faulty(u8),
 }
 
-// What stands ahead, and its start; of a symbol its end and the length of its meaning; and the position from which it was
-// looked for: it stands apart where it starts after that.
+// What stands ahead, and its start; of a symbol its end and the length of its meaning, else 0; and the position from which
+// it was looked for: it stands apart where it starts after that. At the end of the text its start is 0.
 #[derive(Clone, Copy)]
 pub struct Cursor {
     pub ahead: Ahead,
@@ -76,7 +77,7 @@ fn quote_at(classes: &[u8; 256], text: &[u8], at: usize) -> bool
 impl Cursor {
     // A cursor that is to look from a position on.
     pub fn new(at: usize) -> Cursor
-        ensures { result.end ≡ at }
+        ensures { result ≡ cursor_at at }
     {
         Cursor {
             ahead: Ahead::End,
@@ -89,7 +90,7 @@ impl Cursor {
 
     // Put a symbol ahead.
     fn put(&mut self, class: Class, start: usize, end: usize, length: usize)
-        ensures { (next_in self.new ≡ found_at class start end length (ltb self.old.from start)) × (self.new.from ≡ self.old.from) }
+        ensures { self.new ≡ moved (found_at class start end length (ltb self.old.from start)) self.old.from }
     {
         self.ahead = Ahead::Symbol(class);
         self.start = start;
@@ -97,27 +98,34 @@ impl Cursor {
         self.length = length;
     }
 
+    // Put the end of the text or a fault ahead.
+    fn put_no_symbol(&mut self, ahead: Ahead, start: usize)
+        ensures { self.new ≡ without_symbol ahead start self.old.from }
+    {
+        self.ahead = ahead;
+        self.start = start;
+        self.end = 0;
+        self.length = 0;
+    }
+
     // Move on to the first symbol at or after a position, whatever stands there; apart, so that `step` needs no room of its own.
     #[inline(never)]
     fn step_any(&mut self, classes: &[u8; 256], text: &[u8], at: usize)
-        ensures { (next_in self.new ≡ comes_at classes.now text.now self.old.from at) × (self.new.from ≡ self.old.from) }
+        ensures { self.new ≡ moved (comes_at classes.now text.now self.old.from at) self.old.from }
     {
         match next_by(classes, text, at) {
             Next::Found(symbol) => {
                 self.put(symbol.class, symbol.start, symbol.end, symbol.length)
             }
-            Next::Ended => self.ahead = Ahead::End,
-            Next::Fault(number, position) => {
-                self.ahead = Ahead::Faulty(number);
-                self.start = position;
-            }
+            Next::Ended => self.put_no_symbol(Ahead::End, 0),
+            Next::Fault(number, position) => self.put_no_symbol(Ahead::Faulty(number), position),
         }
     }
 
     // Move on to the quoted-string whose opening quote stands at a position, fast where its data stand for themselves.
     fn step_quoted(&mut self, classes: &[u8; 256], text: &[u8], at: usize)
         requires { (at < length text.now) × (get_or classes.now (get_or text.now at 0) 0 ≡ quote) × ReturnIsControl classes.now }
-        ensures { (next_in self.new ≡ comes_at classes.now text.now self.old.from at) × (self.new.from ≡ self.old.from) }
+        ensures { self.new ≡ moved (comes_at classes.now text.now self.old.from at) self.old.from }
     {
         let end = past_data(classes, text, at + 1);
         if quote_at(classes, text, end) {
@@ -129,7 +137,7 @@ impl Cursor {
 
     // Move on to the symbol that comes after the one ahead: white space, atoms and marks are told by few comparisons of classes.
     pub fn step(&mut self, classes: &[u8; 256], text: &[u8])
-        ensures { MovesOn classes.now text.now self.old self.new }
+        ensures { self.new ≡ moved (next_of (scan_by classes.now text.now self.old.end)) self.old.end }
     {
         let at = self.end;
         self.from = at;
@@ -152,6 +160,6 @@ impl Cursor {
                 return self.step_any(classes, text, p);
             }
         }
-        self.ahead = Ahead::End;
+        self.put_no_symbol(Ahead::End, 0);
     }
 }

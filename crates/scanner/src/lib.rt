@@ -13,7 +13,7 @@ ghost use Rattle.octets.specs.Believed.Answers.{told};
 ghost use Rattle.octets.specs.declared.answers.Answer.TheVariants.{Accepted, Refused};
 ghost use Rattle.scanner.specs.Believed.Answers.{body_checked, next_of, next_told, next_in_body, fault_of, scanned_by, body_scanned};
 ghost use Rattle.scanner.specs.Believed.Categories.{of_symbol, between, category_of, category_at};
-ghost use Rattle.scanner.specs.Ties.Steps.{symbol_of, first_of, FirstIs, CharacterIs, TakenIs, InsideIs, AtomEnds, ReturnIsControl, plain_at, PlainEnds, CommentIs, Faultless, FaultlessIs, FaultsFrom};
+ghost use Rattle.scanner.specs.Ties.Steps.{symbol_of, first_of, found as found_first, as_next, FirstIs, PlainIs, CharacterIs, TakenIs, InsideIs, AtomEnds, ReturnIsControl, plain_at, PlainEnds, CommentIs, Faultless, FaultlessIs, FaultsFrom};
 ghost use Rattle.scanner.specs.Ties.Meanings.{taken_datum, datum_at};
 ghost use Rattle.scanner.specs.Ties.Gaps.{gap_depth, GapCategoryIs, PassedIs, PassedLow};
 ghost use Rattle.scanner.specs.declared.Gap.TheVariants.{Comment as comment_gap};
@@ -394,6 +394,19 @@ pub fn next_datum(classes: &[u8; 256], text: &[u8], at: usize) -> Option<Datum>
     }
 }
 
+// Whether a byte that atoms are made of stands at a position, by any table of classes.
+fn is_plain(classes: &[u8; 256], text: &[u8], at: usize) -> bool
+    ensures { PlainIs classes.now text.now at result }
+{
+    if text.len() <= at {
+        return false;
+    }
+    if text[at] == b'\r' {
+        return false;
+    }
+    plain_at(classes, text, at)
+}
+
 // The rest of a domain literal whose "[" stands at start. It has no meaning.
 fn literal_end(
     classes: &[u8; 256],
@@ -411,6 +424,11 @@ fn literal_end(
     };
     let mut p = at;
     loop {
+        // first, with two jumps a byte in place of three: else a long literal takes twice the time
+        if is_plain(classes, text, p) {
+            p += 1;
+            continue;
+        }
         let Character { kind, next, .. } = inside(classes, text, p, unclosed)?;
         match kind {
             ByteKind::CloseBracket => return Ok(Symbol {
@@ -453,9 +471,20 @@ fn comment_end(classes: &[u8; 256], text: &[u8], start: usize, at: usize) -> Res
     }
 }
 
-// The first symbol of a text at or after a position, if there is one, or the fault before it.
-fn first(classes: &[u8; 256], text: &[u8], at: usize) -> Result<Option<Symbol>, Fault>
-    ensures { result ≡ first_of (scan_by classes.now text.now at) }
+// What was found, told as what comes next.
+fn told(found: Result<Symbol, Fault>) -> Next
+    ensures { result ≡ as_next (found_first found) }
+{
+    match found {
+        Ok(symbol) => Next::Found(symbol),
+        Err(fault) => Next::Fault(fault.number, fault.position),
+    }
+}
+
+// The first symbol of a text at or after a position, by a table of classes that is handed on. It tells what comes next in the form
+// in which its callers take it: turned from a `Result` on the way, it costs the expansion a fifth more instructions (callgrind).
+pub fn next_by(classes: &[u8; 256], text: &[u8], at: usize) -> Next
+    ensures { result ≡ next_of (scan_by classes.now text.now at) }
 {
     let mut p = at;
     let mut apart = false;
@@ -465,41 +494,36 @@ fn first(classes: &[u8; 256], text: &[u8], at: usize) -> Result<Option<Symbol>, 
                 p = next;
                 apart = true; // by white space
             }
-            ByteKind::Open => {
-                p = comment_end(classes, text, here, next)?;
-                apart = true; // by a comment
+            ByteKind::Open => match comment_end(classes, text, here, next) {
+                Ok(after) => {
+                    p = after;
+                    apart = true; // by a comment
+                }
+                Err(fault) => return Next::Fault(fault.number, fault.position),
+            },
+            ByteKind::Quote => return told(quoted_end(classes, text, here, next, apart)),
+            ByteKind::Plain => return Next::Found(atom_from(classes, text, here, next, apart)),
+            ByteKind::Mark(class) => return Next::Found(one_byte(class, here, next, apart)),
+            ByteKind::Close | ByteKind::Backslash | ByteKind::CloseBracket => {
+                return Next::Found(one_byte(Class::Stray, here, next, apart));
             }
-            ByteKind::Quote => return Ok(Some(quoted_end(classes, text, here, next, apart)?)),
-            ByteKind::Plain => return Ok(Some(atom_from(classes, text, here, next, apart))),
-            ByteKind::Mark(class) => return Ok(Some(one_byte(class, here, next, apart))),
-            ByteKind::Close | ByteKind::Backslash | ByteKind::CloseBracket => return Ok(Some(
-                one_byte(Class::Stray, here, next, apart),
-            )),
-            ByteKind::Control | ByteKind::Return => return Err(Fault {
-                number: STRAY_CONTROL,
-                position: here,
-            }),
-            ByteKind::Above => return Err(Fault {
-                number: BYTE_ABOVE_127,
-                position: here,
-            }),
-            ByteKind::OpenBracket => return Ok(Some(literal_end(
-                classes, text, here, next, apart,
-            )?)),
+            ByteKind::Control | ByteKind::Return => return Next::Fault(STRAY_CONTROL, here),
+            ByteKind::Above => return Next::Fault(BYTE_ABOVE_127, here),
+            ByteKind::OpenBracket => return told(literal_end(classes, text, here, next, apart)),
         }
     }
-    Ok(None)
+    Next::Ended
 }
 
-// The first symbol of a text at or after a position, by a table of classes that is handed on.
+// The first symbol of a text at or after a position, if there is one, or the fault before it.
 #[inline(always)]
-pub fn next_by(classes: &[u8; 256], text: &[u8], at: usize) -> Next
-    ensures { result ≡ next_of (scan_by classes.now text.now at) }
+fn first(classes: &[u8; 256], text: &[u8], at: usize) -> Result<Option<Symbol>, Fault>
+    ensures { result ≡ first_of (scan_by classes.now text.now at) }
 {
-    match first(classes, text, at) {
-        Ok(Some(symbol)) => Next::Found(symbol),
-        Ok(None) => Next::Ended,
-        Err(fault) => Next::Fault(fault.number, fault.position),
+    match next_by(classes, text, at) {
+        Next::Found(symbol) => Ok(Some(symbol)),
+        Next::Ended => Ok(None),
+        Next::Fault(number, position) => Err(Fault { number, position }),
     }
 }
 
@@ -548,10 +572,13 @@ fn faultless(classes: &[u8; 256], text: &[u8], at: usize) -> Result<(), Fault>
     ensures { FaultlessIs classes.now text.now at result }
 {
     let mut p = past_harmless(classes, text, at);
-    while let Some(symbol) = first(classes, text, p)? {
-        p = past_harmless(classes, text, symbol.end);
+    loop {
+        match next_by(classes, text, p) {
+            Next::Found(symbol) => p = past_harmless(classes, text, symbol.end),
+            Next::Ended => return Ok(()),
+            Next::Fault(number, position) => return Err(Fault { number, position }),
+        }
     }
-    Ok(())
 }
 
 // The first fault of a text from a position on, by a table of classes that is handed on.

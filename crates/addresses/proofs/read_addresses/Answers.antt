@@ -19,7 +19,9 @@ slice_bounds-read_body-end c = sym (length-take-le _ c.args.message.now (passed 
 
 pub read_body-requires : goal.read_body-requires
 unfolding class_table class_of
-read_body-requires c = fitting (passed c.args.message.now c.args.start c.args.end c.check_body.result c.check_body.ensures (opened c.in_default.in_default-own.keys2))
+read_body-requires c =
+    let x = passed c.args.message.now c.args.start c.args.end c.check_body.result c.check_body.ensures (opened c.in_default.in_default-own.keys2) in
+    (fitting x, λ few. absurd (omega (arith, few, length-take-le _ c.args.message.now x.inside, c.if-end-start-gt-ONCE_LIMIT.true)))
 
 pub returns-then-end-start-gt-ONCE_LIMIT : goal.returns-then-end-start-gt-ONCE_LIMIT
 unfolding class_table class_of
@@ -27,4 +29,4 @@ returns-then-end-start-gt-ONCE_LIMIT c = let all = first_promised c.args.message
 
 pub returns : goal.returns
 unfolding class_table class_of
-returns c = let all = first_promised c.args.message.now c.args.start c.args.end c.args.table.now _ _ (passed c.args.message.now c.args.start c.args.end c.check_body.result c.check_body.ensures (opened c.in_default.in_default-own.keys2)) c.read_body-2.ensures in record { outcome = all.0; condition3 = all.1 }
+returns c = let all = first_promised c.args.message.now c.args.start c.args.end c.args.table.now _ _ (passed c.args.message.now c.args.start c.args.end c.check_body.result c.check_body.ensures (opened c.in_default.in_default-own.keys2)) c.read_short.ensures in record { outcome = all.0; condition3 = all.1 }

@@ -1,10 +1,10 @@
 -- What the functions that read a whole body answer.
-use Rattle.std.specs.Prelude.{◌≡◌, Bool, true, false, List, ℕ, ◌≤◌, length}
+use Rattle.std.specs.Prelude.{◌≡◌, Bool, true, false, List, ℕ, ◌+◌, ◌*◌, ◌/◌, ◌≤◌, length}
 use Rattle.std.proofs.lemmas.List.Edits.{sets}
 use Rattle.octets.specs.Believed.Numbers.{message_limit, level_limit}
 use Rattle.octets.specs.declared.answers.Answer.{Answer}
 use Rattle.octets.specs.declared.answers.Answer.TheVariants.{Refused}
-use Rattle.records.specs.Believed.AddressRecords.{table_bytes}
+use Rattle.records.specs.Believed.AddressRecords.{table_bytes, address_record_size}
 use Rattle.scanner.specs.Believed.Scanning.{scan_by}
 use Rattle.scanner.specs.Believed.Answers.{fault_of}
 use Rattle.scanner.specs.Believed.Symbols.{Symbol}
@@ -29,6 +29,18 @@ pub record Body (classes text : List ℕ) (at : ℕ) : Type 0 where
 pub record Fitting (text : List ℕ) (at : ℕ) : Type 0 where
   pub inside : at ≤ length text
   pub short : length text ≤ message_limit
+
+-- bodies of up to so many bytes are read once
+abbrev pub once_limit : ℕ
+once_limit = 1024
+
+-- the bytes of the records that such a body can have: one for each two bytes
+abbrev pub once_room : ℕ
+once_room = once_limit / 2 * address_record_size
+
+-- beside the table such a body has that room
+abbrev pub Staged : List ℕ → ℕ → List ℕ → Type 0
+Staged text at room = length text ≤ at + once_limit → once_room ≡ length room
 
 -- the symbols from a position on are a list of RFC 733 of at most so many levels
 abbrev pub ends_within : List ℕ → List ℕ → ℕ → ℕ → Bool

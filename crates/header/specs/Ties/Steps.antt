@@ -1,5 +1,6 @@
 -- What finding one field answers, from what a message holds there.
-use Rattle.std.specs.Prelude.{◌≡◌, List, ℕ, ◌+◌, ◌≤◌, length, Option, Some, None, Result, Ok, Err}
+use Rattle.std.specs.Prelude.{◌≡◌, Bool, leb, List, ℕ, ◌+◌, ◌≤◌, length, Option, Some, None, Result, Ok, Err}
+use Rattle.octets.specs.Believed.Choice.{both}
 use Rattle.octets.specs.Believed.Answers.{fault as fault_at}
 use Rattle.octets.specs.declared.answers.Fault.{Fault}
 use Rattle.records.specs.Believed.FieldRecords.{Field}
@@ -26,6 +27,10 @@ unfoldable pub count_in : ℕ → Header → Result ℕ Fault
 count_in count (field f rest) = count_in (count + 1) rest
 count_in count ended = Ok count
 count_in count (fault number position) = Err (fault_at number position)
+
+-- a plain byte of a body neither ends it nor is a fault in it
+abbrev pub plain : ℕ → Bool
+plain b = both (leb 14 b) (leb b 127)
 
 -- the bytes from one position up to another are a body's, so it goes on from there
 pub record GoesOn (message : List ℕ) (at r : ℕ) : Type 0 where

@@ -1,6 +1,6 @@
 -- What a cursor tells.
 use Rattle.std.specs.Prelude.{◌≡◌, ℕ, Bool, List, ltb}
-use Rattle.scanner.specs.Believed.Scanning.{parted, scan_by}
+use Rattle.scanner.specs.Believed.Scanning.{parted}
 use Rattle.scanner.specs.Believed.Answers.{found_at, next_of}
 use Rattle.scanner.specs.Ties.Steps.{outside_at}
 use Rattle.scanner.specs.declared.ByteKind.{ByteKind}
@@ -8,7 +8,7 @@ use Rattle.scanner.specs.declared.ByteKind.TheVariants.{White, Control, Return, 
 use Rattle.scanner.specs.declared.Class.{Class}
 use Rattle.scanner.specs.declared.Class.TheVariants.{Stray}
 use Rattle.scanner.specs.declared.Next.{Next}
-use Rattle.scanner.specs.declared.Next.TheVariants.{Ended, Fault}
+use Rattle.scanner.specs.declared.Next.TheVariants.{Found, Ended, Fault}
 use Rattle.scanner.specs.declared.cursor.Ahead.{Ahead}
 use Rattle.scanner.specs.declared.cursor.Ahead.TheVariants.{Symbol, End, Faulty}
 use Rattle.scanner.specs.declared.cursor.Cursor.{Cursor}
@@ -45,7 +45,16 @@ next_in cursor = next_from cursor.ahead cursor.start cursor.end cursor.length (a
 abbrev pub comes_at : List ℕ → List ℕ → ℕ → ℕ → Next
 comes_at classes text from at = next_of (parted from (outside_at classes text at))
 
--- a cursor has moved on to what comes next, looked for from the end of its symbol
-pub record MovesOn (classes text : List ℕ) (before after : Cursor) : Type 0 where
-  pub ahead : next_in after ≡ next_of (scan_by classes text before.end)
-  pub from : after.from ≡ before.end
+-- a cursor that is to look from a position on
+abbrev pub cursor_at : ℕ → Cursor
+cursor_at at = record { ahead = End; start = at; end = at; length = 0; from = at }
+
+-- a cursor ahead of which no symbol stands: the places of one are 0
+abbrev pub without_symbol : Ahead → ℕ → ℕ → Cursor
+without_symbol ahead start from = record { ahead = ahead; start = start; end = 0; length = 0; from = from }
+
+-- a cursor that has moved on to what comes next, looked for from a position
+abbrev pub moved : Next → ℕ → Cursor
+moved (Found symbol) from = record { ahead = Symbol symbol.class; start = symbol.start; end = symbol.end; length = symbol.length; from = from }
+moved Ended from = without_symbol End 0 from
+moved (Fault number p) from = without_symbol (Faulty number) p from

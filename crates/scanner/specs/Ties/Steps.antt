@@ -1,5 +1,5 @@
 -- What the functions below the entry points answer.
-use Rattle.std.specs.Prelude.{◌≡◌, ℕ, ◌+◌, ◌≤◌, Bool, List, [], ◌∷◌, eqb, leb, ltb, length, get_or, Option, None, Some, Result, Ok, Err}
+use Rattle.std.specs.Prelude.{◌≡◌, ℕ, ◌+◌, ◌≤◌, Bool, true, false, List, [], ◌∷◌, eqb, leb, ltb, length, get_or, Option, None, Some, Result, Ok, Err}
 use Rattle.octets.specs.Believed.Choice.{pick, both}
 use Rattle.octets.specs.Believed.Classes.{control, quote, letter}
 use Rattle.octets.specs.Believed.Octets.{return_byte}
@@ -13,9 +13,11 @@ use Rattle.scanner.specs.Believed.Characters.{character, characters_at}
 use Rattle.scanner.specs.Believed.Scanning.{Scanned, State, outside, in_atom, in_quoted, taking_in_quoted, in_literal, taking_in_literal, in_comment, taking_in_comment, atom, ended, next, fault_at, scan_from, parted, scan_by}
 use Rattle.scanner.specs.Believed.Answers.{fault_of}
 use Rattle.scanner.specs.declared.ByteKind.{ByteKind}
-use Rattle.scanner.specs.declared.ByteKind.TheVariants.{White, Return, Backslash, Above}
+use Rattle.scanner.specs.declared.ByteKind.TheVariants.{White, Return, Plain, Backslash, Above}
 use Rattle.scanner.specs.declared.Character.{Character}
 use Rattle.scanner.specs.declared.Class.{Class}
+use Rattle.scanner.specs.declared.Next.{Next}
+use Rattle.scanner.specs.declared.Next.TheVariants as coming
 use Rattle.scanner.specs.declared.Symbol.{Symbol}
 
 -- what a text scans to from a position on, before it is told which symbols stand apart
@@ -34,6 +36,12 @@ first_of (fault_at number p) = Err (fault number p)
 abbrev pub found : Result Symbol Fault → Result (Option Symbol) Fault
 found (Ok symbol) = Ok (Some symbol)
 found (Err f) = Err f
+
+-- what comes first, as what comes next
+abbrev pub as_next : Result (Option Symbol) Fault → Next
+as_next (Ok (Some symbol)) = coming.Found symbol
+as_next (Ok None) = coming.Ended
+as_next (Err f) = coming.Fault f.number f.position
 
 -- what comes first of what was scanned: a symbol that starts at a position and stands apart, or not, from whatever position tells so
 abbrev pub FirstIs : Bool → ℕ → Scanned → Result Symbol Fault → Type 0
@@ -95,6 +103,11 @@ pub data Inside (classes text : List ℕ) (at : ℕ) : ByteKind → ℕ → ℕ 
 abbrev pub InsideIs : List ℕ → List ℕ → ℕ → Fault → Result Character Fault → Type 0
 InsideIs classes text at unclosed (Ok c) = Inside classes text at c.kind c.here c.next
 InsideIs classes text at unclosed (Err f) = (state : State) → NotClosed state unclosed → scan_from classes (characters_at text at) state ≡ fault_at f.number f.position
+
+-- where it is told so, a byte that atoms are made of stands there
+abbrev pub PlainIs : List ℕ → List ℕ → ℕ → Bool → Type 0
+PlainIs classes text at true = FirstCharacter classes text at Plain at (at + 1)
+PlainIs classes text at false = Unit {0}
 
 -- an atom that has run up to a position ends at `end`
 pub record AtomEnds (classes text : List ℕ) (start at end : ℕ) : Type 0 where

@@ -4,8 +4,8 @@ use Prim.Native.Nat.{◌-◌}
 use Rattle.header.specs.Ties.Steps.{GoesOn}
 use Rattle.header.proofs.fields.body_rest.Given as goal
 
-abbrev pub invariant-loop-end : goal.invariant-loop-end
-invariant-loop-end l = GoesOn l.message l.start l.end
+abbrev pub invariant-loop-name : goal.invariant-loop-name
+invariant-loop-name l = GoesOn l.message l.start l.from
 
-abbrev pub decreases-loop-end : goal.decreases-loop-end
-decreases-loop-end l = length l.message - l.end
+abbrev pub decreases-loop-name : goal.decreases-loop-name
+decreases-loop-name l = length l.message - l.from

@@ -1,11 +1,12 @@
-use mathlib.Core.Path.{refl, sym, ◌∙◌}
+use mathlib.Core.Path.{refl, sym, ap, ◌∙◌}
 use native.Mathlib.Omega.{arith}
-use Rattle.scanner.specs.Ties.Cursors.{next_in}
+use Rattle.scanner.specs.Ties.Cursors.{moved}
+use Rattle.scanner.specs.declared.Next.{Next}
 use Rattle.scanner.proofs.CursorMoves.{moves_on, white_passes, mark_comes, atom_comes, end_comes}
 use Rattle.scanner.proofs.cursor.Cursor.step.Goals as goal
 
 pub returns-then-class_in-ne-CONTROL : goal.returns-then-class_in-ne-CONTROL
-returns-then-class_in-ne-CONTROL c = record { ahead = c.step_any.ensures.0; from = c.step_any.ensures.1 }
+returns-then-class_in-ne-CONTROL c = c.step_any.ensures
 
 pub loop-p-init : goal.loop-p-init
 loop-p-init c = record { looked = refl; same = refl }
@@ -14,10 +15,9 @@ pub returns-then-class-ge-LETTER : goal.returns-then-class-ge-LETTER
 returns-then-class-ge-LETTER c =
     let l = c.loop-p in
     moves_on c.args.self.now l.self l.invariant (
-      c.put.ensures.0
-          ∙ atom_comes (record { is_control = sym c.class_in.ensures ∙ c.if-class_in-ne-CONTROL.false }) c.args.text.now l.p c.loop-p-test.true l.self.from
-          (rw c.class_in-class.ensures at c.if-class-ge-LETTER.true) c.plain_end-end.ensures c.atom_class.ensures,
-      c.put.ensures.1,
+    c.put.ensures
+    ∙ ap (λ (n : Next). moved n l.self.from) (atom_comes (record { is_control = sym c.class_in.ensures ∙ c.if-class_in-ne-CONTROL.false }) c.args.text.now l.p c.loop-p-test.true l.self.from
+    (rw c.class_in-class.ensures at c.if-class-ge-LETTER.true) c.plain_end-end.ensures c.atom_class.ensures)
     )
 
 pub returns-then-class-gt-CLOSE_BRACKET : goal.returns-then-class-gt-CLOSE_BRACKET
@@ -25,10 +25,9 @@ returns-then-class-gt-CLOSE_BRACKET c =
     let l = c.loop-p in
     let e = c.class_in-class.ensures in
     moves_on c.args.self.now l.self l.invariant (
-      c.put-then-class-gt-CLOSE_BRACKET.ensures.0
-          ∙ mark_comes (record { is_control = sym c.class_in.ensures ∙ c.if-class_in-ne-CONTROL.false }) c.args.text.now l.p c.loop-p-test.true l.self.from
-          (omega (arith, e, c.if-class-gt-CLOSE_BRACKET.true)) (rw e at c.single.ensures),
-      c.put-then-class-gt-CLOSE_BRACKET.ensures.1,
+    c.put-then-class-gt-CLOSE_BRACKET.ensures
+    ∙ ap (λ (n : Next). moved n l.self.from) (mark_comes (record { is_control = sym c.class_in.ensures ∙ c.if-class_in-ne-CONTROL.false }) c.args.text.now l.p c.loop-p-test.true l.self.from
+    (omega (arith, e, c.if-class-gt-CLOSE_BRACKET.true)) (rw e at c.single.ensures))
     )
 
 pub returns-then-class-eq-QUOTE : goal.returns-then-class-eq-QUOTE
@@ -46,7 +45,9 @@ loop-p-preserved c =
     }
 
 pub returns : goal.returns
-unfolding next_in
 returns c =
     let l = c.loop-p in
-    moves_on c.args.self.now l.self l.invariant (end_comes c.args.classes.now c.args.text.now l.self.from l.p c.loop-p-test.false, refl)
+    moves_on c.args.self.now l.self l.invariant (
+    c.put_no_symbol.ensures
+    ∙ ap (λ (n : Next). moved n l.self.from) (end_comes c.args.classes.now c.args.text.now l.self.from l.p c.loop-p-test.false)
+    )

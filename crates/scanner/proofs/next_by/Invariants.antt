@@ -1,10 +1,10 @@
--- `scanner::first` meets its contract: scanning outside has come to the position reached without a symbol, and a symbol there stands apart where that is another. Assumes nothing.
+-- `scanner::next_by` meets its contract: scanning outside has come to the position reached without a symbol, and a symbol there stands apart where that is another. Assumes nothing.
 use mathlib.Core.Path.{◌≡◌}
 use Prim.Native.Nat.{◌-◌, ◌≤◌}
 use lib.Dec.{ltb}
 use lib.ListN.{length}
 use Rattle.scanner.specs.Ties.Steps.{outside_at}
-use Rattle.scanner.proofs.first.Given as goal
+use Rattle.scanner.proofs.next_by.Given as goal
 
 abbrev pub invariant-loop-kind : goal.invariant-loop-kind
 invariant-loop-kind l =

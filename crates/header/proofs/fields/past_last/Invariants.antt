@@ -1,7 +1,7 @@
--- `header::fields::past_fours` meets its contract: the bytes passed are the body's. Assumes nothing.
+-- `header::fields::past_last` meets its contract: the bytes passed are the body's. Assumes nothing.
 use lib.ListN.{length}
 use Rattle.header.proofs.StepLaws.{LeftOf}
-use Rattle.header.proofs.fields.past_fours.Given as goal
+use Rattle.header.proofs.fields.past_last.Given as goal
 
 abbrev pub invariant-loop-rest : goal.invariant-loop-rest
 invariant-loop-rest l = LeftOf l.message l.at l.rest
