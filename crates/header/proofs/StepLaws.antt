@@ -1,22 +1,21 @@
 -- What finding one field, and passing the bytes of a body, tells of the header. Assumes nothing.
-use mathlib.Core.Path.{◌≡◌, refl, ap, ◌∙◌}
+use mathlib.Core.Path.{◌≡◌, refl, ◌∙◌}
 use mathlib.Core.Bool.{true, false}
 use mathlib.Core.List.{List}
 use Rattle.std.specs.Prelude.{Some, None, Ok, Err}
 use Rattle.octets.specs.Believed.Answers.{fault as fault_at}
-use Prim.Native.Nat.{ℕ, ◌+◌, ◌-◌, ◌≤◌, ◌<◌}
+use Prim.Native.Nat.{ℕ, ◌+◌, ◌≤◌, ◌<◌}
 use native.Mathlib.Omega.{arith}
 use lib.Dec.{leb}
 use borrow.Author.Tests.{leb-true}
-use lib.ListN.{length, take, drop, get_or, length-drop}
-use lib.Seq.{take_all, get_or-drop, drop-drop}
+use lib.ListN.{length, drop, get_or}
 use Rattle.records.specs.Believed.FieldRecords.{field_of}
 use Rattle.header.specs.Believed.Fields.{Header, field, ended, fault, line_start, ends_body, header_at}
 use Rattle.header.specs.Ties.Steps.{record_of, first_of, plain, GoesOn}
 use Rattle.records.specs.declared.field.FieldRecord.{FieldRecord}
 use Rattle.octets.specs.declared.answers.Fault.{Fault}
 use Rattle.octets.proofs.ChoiceLaws.{both_parts}
-use Rattle.header.proofs.ByteLaws.{first_byte, crlf_other, body_other}
+use Rattle.header.proofs.ByteLaws.{crlf_other, body_other}
 use Rattle.header.proofs.HeaderLaws.{body_goes}
 use Rattle.header.proofs.FieldLaws.{First, first}
 
@@ -78,52 +77,9 @@ goes_both first second e =
       same = λ name end start. first.same name end start ∙ rw e at (second.same name end start);
     }
 
--- what is left of a message after bytes of a body
-pub record LeftOf (message : List ℕ) (at : ℕ) (rest : List ℕ) : Type 0 where
-  pub is : rest ≡ drop (length message - length rest) message
-  pub fits : length rest ≤ length message
-  pub goes_on : GoesOn message at (length message - length rest)
-
--- a byte is plain
-pub record Plain (b : ℕ) : Type 0 where
-  pub low : 14 ≤ b
-  pub high : b ≤ 127
-
-pub plainly : {b : ℕ} → plain b ≡ true → Plain b
-plainly {b} e = let two = both_parts (leb 14 b) (leb b 127) e in record { low = leb-true 14 b two.0; high = leb-true b 127 two.1 }
-
-module _ {message : List ℕ} {at : ℕ} where
-  -- a plain byte is passed
-  pub one : {rest : List ℕ} → LeftOf message at rest → 1 ≤ length rest → Plain (get_or rest 0 0) → LeftOf message at (drop 1 rest)
-  one {rest} l h p =
-      let k : ℕ = length message - length rest in
-      let e : get_or rest 0 0 ≡ get_or message k 0 = ap (λ r. get_or r 0 0) l.is ∙ first_byte message k in
-      let m : length (drop 1 rest) ≡ length rest - 1 = length-drop 1 rest in
-      let n : length message - length (drop 1 rest) ≡ k + 1 = omega (arith, l.fits) in
-      record {
-        is = rw n (ap (λ r. drop 1 r) l.is ∙ drop-drop 1 k message ∙ ap (λ i. drop i message) (omega arith));
-        fits = omega (arith, l.fits);
-        goes_on = rw n (goes_both l.goes_on (goes_plain message k (omega (arith, l.fits)) (omega (arith, p.low)) (omega (arith, p.high))) refl);
-      }
-
-  pub one_passed : {rest : List ℕ} {n : ℕ} → n ≡ length rest → LeftOf message at rest → 1 ≤ n → Plain (get_or rest 0 0) → LeftOf message at (take (n - 1) (drop 1 rest))
-  one_passed {rest} {n} e l h p = rw (take_all (n - 1) (drop 1 rest) (simp length-drop (omega arith))) (one l (omega arith) p)
-
-  -- two are, three, four
-  pub two : {rest : List ℕ} → LeftOf message at rest → 4 ≤ length rest → Plain (get_or rest 0 0) → Plain (get_or rest 1 0) → LeftOf message at (drop 2 rest)
-  two l h a b = rw drop-drop at (one (one l (omega arith) a) (simp length-drop (omega arith)) (rw get_or-drop b))
-
-  pub three : {rest : List ℕ} → LeftOf message at rest → 4 ≤ length rest → Plain (get_or rest 0 0) → Plain (get_or rest 1 0) → Plain (get_or rest 2 0) → LeftOf message at (drop 3 rest)
-  three l h a b c = rw drop-drop at (one (two l h a b) (simp length-drop (omega arith)) (rw get_or-drop c))
-
-  pub four_passed : {rest : List ℕ} {n : ℕ} → n ≡ length rest → LeftOf message at rest → 4 ≤ n
-      → Plain (get_or rest 0 0) → Plain (get_or rest 1 0) → Plain (get_or rest 2 0) → Plain (get_or rest 3 0) → LeftOf message at (take (n - 4) (drop 4 rest))
-  four_passed {rest} {n} q l h a b c d =
-      let w = rw drop-drop at (one (three l (omega arith) a b c) (simp length-drop (omega arith)) (rw get_or-drop d)) in
-      rw (take_all (n - 4) (drop 4 rest) (simp length-drop (omega arith))) w
-
-  -- so many are
-  pub behind : {rest : List ℕ} (k : ℕ) → LeftOf message at rest → k ≤ length rest → LeftOf message at (drop k rest) → GoesOn message at (length message - length rest + k)
-  behind {rest} k l h m =
-      let e : length message - length (drop k rest) ≡ length message - length rest + k = simp length-drop (omega (arith, l.fits, h)) in
-      rw e at m.goes_on
+-- after others a plain byte is passed
+pub goes_one : {message : List ℕ} {at p q : ℕ} → GoesOn message at p → p < length message → plain (get_or message p 0) ≡ true → p + 1 ≡ q → GoesOn message at q
+goes_one {message} {p = p} before h e q =
+    let b = get_or message p 0 in
+    let two = both_parts (leb 14 b) (leb b 127) e in
+    goes_both before (goes_plain message p h (leb-true 14 b two.0) (leb-true b 127 two.1)) q

@@ -61,36 +61,37 @@ fn past_last(message: &[u8], at: usize) -> usize
     requires { at ≤ length message.now }
     ensures { GoesOn message.now at result }
 {
-    let mut rest = &message[at..];
-    while let [14..=127, more @ ..] = rest {
-        rest = more;
+    for p in at..message.len() {
+        if !is_plain(message[p]) {
+            return p;
+        }
     }
-    message.len() - rest.len()
+    message.len()
 }
 
-// .. by fours: one by one takes twice the instructions. Each byte is looked at once, for bodies of many folds stop often.
+// .. by fours: one by one takes twice the instructions. Each byte is looked at once, for bodies of many folds stop often, and by its
+// index: by a slice pattern of four, a body with a fold at each four bytes takes a tenth more instructions (callgrind).
 fn past_plain(message: &[u8], at: usize) -> usize
     requires { at ≤ length message.now }
     ensures { GoesOn message.now at result }
 {
-    let mut rest = &message[at..];
-    while let [a, b, c, d, more @ ..] = rest {
-        let here = message.len() - rest.len();
-        if !is_plain(*a) {
-            return here;
+    let mut p = at;
+    while 4 <= message.len() - p {
+        if !is_plain(message[p]) {
+            return p;
         }
-        if !is_plain(*b) {
-            return here + 1;
+        if !is_plain(message[p + 1]) {
+            return p + 1;
         }
-        if !is_plain(*c) {
-            return here + 2;
+        if !is_plain(message[p + 2]) {
+            return p + 2;
         }
-        if !is_plain(*d) {
-            return here + 3;
+        if !is_plain(message[p + 3]) {
+            return p + 3;
         }
-        rest = more;
+        p += 4;
     }
-    past_last(message, message.len() - rest.len())
+    past_last(message, p)
 }
 
 // The field whose body starts at a position.

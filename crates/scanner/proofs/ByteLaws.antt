@@ -19,7 +19,7 @@ use Rattle.octets.proofs.Tables.{at}
 use Rattle.scanner.specs.Believed.Kinds.{kind_of_class, kind_of}
 use Rattle.scanner.specs.Believed.Characters.{fold_at, characters_at}
 use Rattle.scanner.specs.Believed.Scanning.{in_atom, in_quoted, go, scan_from, atom, next}
-use Rattle.scanner.specs.Ties.Steps.{outside_at, FirstCharacter, ReturnIsControl, plain_at, PlainIs, PlainEnds, DataPasses}
+use Rattle.scanner.specs.Ties.Steps.{outside_at, FirstCharacter, ReturnIsControl, plain_at, PlainEnds, DataPasses}
 use Rattle.scanner.specs.declared.ByteKind.{ByteKind}
 use Rattle.scanner.specs.declared.ByteKind.TheVariants.{Plain}
 use Rattle.scanner.proofs.CharacterLaws.{no_character, no_return, plain_first, fold_first}
@@ -51,11 +51,6 @@ plain_class class h =
       ne_eqb class 3 (λ e. omega arith),
       ne_eqb class 7 (λ e. omega arith),
     )
-
--- a byte other than CR that atoms are made of is a character by itself
-pub plain_alone : (classes text : List ℕ) (at : ℕ) → at < length text → (get_or text at 0 ≡ return_byte → ⊥) → (b : Bool) → b ≡ plain_at classes text at → PlainIs classes text at b
-plain_alone classes text at h n true e = plain_first classes text at h (no_return text at n) (class_kind classes (get_or text at 0) n refl (plain_class _ (leb-true letter _ (sym e))))
-plain_alone classes text at h n false e = tt
 
 -- the kind of any other class, tested over all of them
 abbrev other_kinds : List ℕ

@@ -123,7 +123,7 @@ data_kind Above r a b n = absurd (a refl)
 data_kind OpenBracket r a b n = hit (0 ∷ 1 ∷ 3 ∷ 4 ∷ 5 ∷ 8 ∷ 10 ∷ 11 ∷ []) 10 tt
 data_kind CloseBracket r a b n = hit (0 ∷ 1 ∷ 3 ∷ 4 ∷ 5 ∷ 8 ∷ 10 ∷ 11 ∷ []) 11 tt
 
-literal_kind : (kind : ByteKind) → (kind ≡ Return → ⊥) → (kind ≡ Above → ⊥) → (kind ≡ Backslash → ⊥) → (kind ≡ OpenBracket → ⊥) → (kind ≡ CloseBracket → ⊥) → LiteralText kind
+pub literal_kind : (kind : ByteKind) → (kind ≡ Return → ⊥) → (kind ≡ Above → ⊥) → (kind ≡ Backslash → ⊥) → (kind ≡ OpenBracket → ⊥) → (kind ≡ CloseBracket → ⊥) → LiteralText kind
 literal_kind White r a b n m = hit (0 ∷ 1 ∷ 3 ∷ 4 ∷ 5 ∷ 6 ∷ 8 ∷ []) 0 tt
 literal_kind Control r a b n m = hit (0 ∷ 1 ∷ 3 ∷ 4 ∷ 5 ∷ 6 ∷ 8 ∷ []) 1 tt
 literal_kind Return r a b n m = absurd (r refl)

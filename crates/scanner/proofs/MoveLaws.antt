@@ -16,7 +16,7 @@ use Rattle.octets.proofs.Parts.{part_none}
 use Rattle.scanner.specs.Believed.Characters.{characters_at}
 use Rattle.scanner.specs.Believed.Scanning.{Scanned, next, fault_at, State, outside, in_atom, in_quoted, taking_in_quoted, in_literal, taking_in_literal, in_comment, taking_in_comment, Move, go, halt, symbol, atom, single, taken_data, move, closed, at_end, then, scan_from}
 use Rattle.scanner.specs.Believed.Scanning as scanning
-use Rattle.scanner.specs.Ties.Steps.{outside_at, FirstCharacter}
+use Rattle.scanner.specs.Ties.Steps.{outside_at, FirstCharacter, LiteralPasses}
 use Rattle.scanner.specs.declared.Class.{Class}
 use Rattle.scanner.specs.declared.Class.TheVariants.{Stray}
 use Rattle.scanner.specs.declared.ByteKind.{ByteKind}
@@ -277,6 +277,10 @@ pub record InLiteral (classes text : List ℕ) (start at p : ℕ) : Type 0 where
   pub same : scan_from classes (characters_at text at) (in_literal start) ≡ scan_from classes (characters_at text p) (in_literal start)
 
 module _ {classes text : List ℕ} {start at p : ℕ} (w : InLiteral classes text start at p) where
+  -- .. and to another, with text of it between
+  pub literal_passed : {q : ℕ} → LiteralPasses classes text p q → InLiteral classes text start at q
+  literal_passed x = record { same = w.same ∙ x.same start }
+
   pub literal_moves : {q r : ℕ} {kind : ByteKind} (x : FirstCharacter classes text p kind q r) (m : Move) → move (in_literal start) kind (get_or text q 0) q x.folded ≡ m
       → scan_from classes (characters_at text at) (in_literal start) ≡ then m (λ state. scan_from classes (characters_at text r) state)
   literal_moves x m e = w.same ∙ moves x (in_literal start) m e

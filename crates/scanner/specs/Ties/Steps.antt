@@ -1,5 +1,5 @@
 -- What the functions below the entry points answer.
-use Rattle.std.specs.Prelude.{◌≡◌, ℕ, ◌+◌, ◌≤◌, Bool, true, false, List, [], ◌∷◌, eqb, leb, ltb, length, get_or, Option, None, Some, Result, Ok, Err}
+use Rattle.std.specs.Prelude.{◌≡◌, ℕ, ◌+◌, ◌≤◌, Bool, List, [], ◌∷◌, eqb, leb, ltb, length, get_or, Option, None, Some, Result, Ok, Err}
 use Rattle.octets.specs.Believed.Choice.{pick, both}
 use Rattle.octets.specs.Believed.Classes.{control, quote, letter}
 use Rattle.octets.specs.Believed.Octets.{return_byte}
@@ -13,7 +13,7 @@ use Rattle.scanner.specs.Believed.Characters.{character, characters_at}
 use Rattle.scanner.specs.Believed.Scanning.{Scanned, State, outside, in_atom, in_quoted, taking_in_quoted, in_literal, taking_in_literal, in_comment, taking_in_comment, atom, ended, next, fault_at, scan_from, parted, scan_by}
 use Rattle.scanner.specs.Believed.Answers.{fault_of}
 use Rattle.scanner.specs.declared.ByteKind.{ByteKind}
-use Rattle.scanner.specs.declared.ByteKind.TheVariants.{White, Return, Plain, Backslash, Above}
+use Rattle.scanner.specs.declared.ByteKind.TheVariants.{White, Return, Backslash, Above}
 use Rattle.scanner.specs.declared.Character.{Character}
 use Rattle.scanner.specs.declared.Class.{Class}
 use Rattle.scanner.specs.declared.Next.{Next}
@@ -104,11 +104,6 @@ abbrev pub InsideIs : List ℕ → List ℕ → ℕ → Fault → Result Charact
 InsideIs classes text at unclosed (Ok c) = Inside classes text at c.kind c.here c.next
 InsideIs classes text at unclosed (Err f) = (state : State) → NotClosed state unclosed → scan_from classes (characters_at text at) state ≡ fault_at f.number f.position
 
--- where it is told so, a byte that atoms are made of stands there
-abbrev pub PlainIs : List ℕ → List ℕ → ℕ → Bool → Type 0
-PlainIs classes text at true = FirstCharacter classes text at Plain at (at + 1)
-PlainIs classes text at false = Unit {0}
-
 -- an atom that has run up to a position ends at `end`
 pub record AtomEnds (classes text : List ℕ) (start at end : ℕ) : Type 0 where
   pub same : scan_from classes (characters_at text at) (in_atom start at (part text start at))
@@ -135,6 +130,12 @@ pub record DataPasses (classes text : List ℕ) (at end : ℕ) : Type 0 where
   pub same : (start : ℕ) → scan_from classes (characters_at text at) (in_quoted start []) ≡ scan_from classes (characters_at text end) (in_quoted start (part text at end))
   pub from : at ≤ end
   pub within : end ≤ length text
+
+-- every domain literal that is open at a position is open at another, with nothing but text of it between
+pub record LiteralPasses (classes text : List ℕ) (at p : ℕ) : Type 0 where
+  pub same : (start : ℕ) → scan_from classes (characters_at text at) (in_literal start) ≡ scan_from classes (characters_at text p) (in_literal start)
+  pub from : at ≤ p
+  pub within : p ≤ length text
 
 -- a quote stands at a position
 abbrev pub quote_at : List ℕ → List ℕ → ℕ → Bool
