@@ -69,8 +69,8 @@ fn past_last(message: &[u8], at: usize) -> usize
     message.len()
 }
 
-// .. by fours: one by one takes twice the instructions. Each byte is looked at once, for bodies of many folds stop often, and by its
-// index: by a slice pattern of four, a body with a fold at each four bytes takes a tenth more instructions (callgrind).
+// .. by fours: one by one takes twice the instructions. Each byte is looked at once, for bodies of many folds stop often. With a
+// slice pattern in place of indices these take a tenth more instructions (callgrind).
 fn past_plain(message: &[u8], at: usize) -> usize
     requires { at ≤ length message.now }
     ensures { GoesOn message.now at result }

@@ -131,7 +131,7 @@ pub record DataPasses (classes text : List ℕ) (at end : ℕ) : Type 0 where
   pub from : at ≤ end
   pub within : end ≤ length text
 
--- every domain literal that is open at a position is open at another, with nothing but text of it between
+-- every domain literal that is open at a position goes on from another, and is told the same from there
 pub record LiteralPasses (classes text : List ℕ) (at p : ℕ) : Type 0 where
   pub same : (start : ℕ) → scan_from classes (characters_at text at) (in_literal start) ≡ scan_from classes (characters_at text p) (in_literal start)
   pub from : at ≤ p
