@@ -1,23 +1,20 @@
 -- A character of a quoted-string, a domain literal or a comment: the faults there, and what it does where it is none. Assumes nothing.
-use mathlib.Core.Path.{◌≡◌, refl, sym, ◌∙◌}
-use mathlib.Core.Logic.{inl, inr}
+use mathlib.Core.Path.{◌≡◌, refl, ◌∙◌}
 use mathlib.Core.List.{List, [], ◌∷◌}
 use Prim.Native.Nat.{ℕ, ◌+◌, ◌-◌, ◌≤◌, ◌<◌}
 use native.Mathlib.Omega.{arith}
-use lib.ListN.{length, get_or}
+use lib.ListN.{length}
 use types.Run.{hit}
 use Rattle.std.specs.Prelude.{Bool, Result, Err}
-use Rattle.octets.specs.Believed.Answers.{fault}
-use Rattle.octets.specs.Believed.Numbers.{byte_above_127, stray_control, literal_not_closed}
+use Rattle.octets.specs.Believed.Numbers.{byte_above_127, stray_control}
 use Rattle.octets.specs.declared.answers.Fault.{Fault}
-use Rattle.scanner.specs.Believed.Kinds.{character_kind}
 use Rattle.scanner.specs.Believed.Characters.{characters_at}
 use Rattle.scanner.specs.Believed.Scanning.{Scanned, State, outside, in_atom, in_quoted, taking_in_quoted, in_literal, taking_in_literal, in_comment, taking_in_comment, go, halt, fault_at, at_end, scan_from, parted}
-use Rattle.scanner.specs.Ties.Steps.{FirstIs, FirstCharacter, NotClosed, taking, TakenIs, Inside, alone, with_taken, InsideIs, LiteralFault}
+use Rattle.scanner.specs.Ties.Steps.{FirstIs, FirstCharacter, NotClosed, taking, TakenIs, Inside, alone, with_taken, InsideIs}
 use Rattle.scanner.specs.declared.Symbol.{Symbol}
 use Rattle.scanner.specs.declared.ByteKind.{ByteKind}
 use Rattle.scanner.specs.declared.ByteKind.TheVariants.{White, Control, Return, Plain, Open, Close, Quote, Backslash, Mark, Above, OpenBracket, CloseBracket}
-use Rattle.scanner.proofs.MoveLaws.{at_end_lem, moves, NotPlain, Data, Text, Taken, LiteralText, Counting, counting_on, counting_taken, Commenting, comment_on, comment_taken}
+use Rattle.scanner.proofs.MoveLaws.{at_end_lem, moves, NotPlain, Data, Text, Taken, LiteralText, Counting, counting_on, counting_taken, InLiteral, literal_on, literal_taken, Commenting, comment_on, comment_taken}
 
 -- ---- the text ends
 
@@ -190,28 +187,10 @@ module _ {classes text : List ℕ} where
         let e : r - s ≡ r - q - 1 = omega (arith, x.behind) in
         rw e at (counting_taken w x y.first (taken_kind y.kind y.not_above))
 
+    pub literal_inside : {q r : ℕ} {kind : ByteKind} → InLiteral classes text start at p → Inside classes text p kind q r → (kind ≡ OpenBracket → ⊥) → (kind ≡ CloseBracket → ⊥) → InLiteral classes text start at r
+    literal_inside {kind = kind} w (alone x r a b) n m = literal_on w x (literal_kind kind r a b n m)
+    literal_inside w (with_taken x y) n m = literal_taken w x y.first (taken_kind y.kind y.not_above)
+
     pub comment_inside : {depth q r : ℕ} {kind : ByteKind} → Commenting classes text start at depth p → Inside classes text p kind q r → (kind ≡ Open → ⊥) → (kind ≡ Close → ⊥) → Commenting classes text start at depth r
     comment_inside {kind = kind} w (alone x r a b) n m = comment_on w x (text_kind kind r a b n m)
     comment_inside w (with_taken x y) n m = comment_taken w x y.first (taken_kind y.kind y.not_above)
-
--- ---- the fault of a domain literal
-
--- there is one first character
-first_kind : {classes text : List ℕ} {at p q r s : ℕ} {kind other : ByteKind} → FirstCharacter classes text at kind p q → FirstCharacter classes text at other r s → kind ≡ other
-first_kind {classes} {text} {p = p} {r = r} x y =
-    let e = sym x.characters ∙ y.characters in
-    let k : character_kind classes (get_or text p 0) x.folded ≡ character_kind classes (get_or text r 0) y.folded = cc in
-    x.kind_is ∙ k ∙ sym y.kind_is
-
--- where the step gives no fault, a "[" stands, and the fault is the literal's
-pub no_literal_fault : {classes text : List ℕ} {at p q r s start : ℕ} {kind other : ByteKind} {unclosed : Fault} → FirstCharacter classes text at kind p q → LiteralFault kind → unclosed ≡ fault literal_not_closed start → Inside classes text at other r s
-    → scan_from classes (characters_at text at) (in_literal start) ≡ fault_at unclosed.number unclosed.position
-no_literal_fault x (inl e) u (alone y r a b) = absurd (r (sym (first_kind x y) ∙ e))
-no_literal_fault x (inr (inl e)) u (alone y r a b) = absurd (a (sym (first_kind x y) ∙ e))
-no_literal_fault {start = start} x (inr (inr e)) u (alone y r a b) = rw u (moves (rw e at x) (in_literal start) (halt [] literal_not_closed start) refl)
-no_literal_fault x f u (with_taken y z) = absurd (not_taking (first_kind x y) f)
-  where
-    not_taking : {kind : ByteKind} → kind ≡ Backslash → LiteralFault kind → ⊥
-    not_taking k (inl e) = let z = sym k ∙ e in cc
-    not_taking k (inr (inl e)) = let z = sym k ∙ e in cc
-    not_taking k (inr (inr e)) = let z = sym k ∙ e in cc

@@ -13,7 +13,7 @@ ghost use Rattle.octets.specs.Believed.Answers.{told};
 ghost use Rattle.octets.specs.declared.answers.Answer.TheVariants.{Accepted, Refused};
 ghost use Rattle.scanner.specs.Believed.Answers.{body_checked, next_of, next_told, next_in_body, fault_of, scanned_by, body_scanned};
 ghost use Rattle.scanner.specs.Believed.Categories.{of_symbol, between, category_of, category_at};
-ghost use Rattle.scanner.specs.Ties.Steps.{symbol_of, first_of, found as found_first, as_next, FirstIs, CharacterIs, TakenIs, InsideIs, AtomEnds, ReturnIsControl, plain_at, PlainEnds, LiteralPasses, LiteralFaultIs, CommentIs, Faultless, FaultlessIs, FaultsFrom};
+ghost use Rattle.scanner.specs.Ties.Steps.{symbol_of, first_of, found as found_first, as_next, FirstIs, CharacterIs, TakenIs, InsideIs, AtomEnds, ReturnIsControl, plain_at, PlainEnds, LiteralPasses, CommentIs, Faultless, FaultlessIs, FaultsFrom};
 ghost use Rattle.scanner.specs.Ties.Meanings.{taken_datum, datum_at};
 ghost use Rattle.scanner.specs.Ties.Gaps.{gap_depth, GapCategoryIs, PassedIs, PassedLow};
 ghost use Rattle.scanner.specs.declared.Gap.TheVariants.{Comment as comment_gap};
@@ -394,8 +394,8 @@ pub fn next_datum(classes: &[u8; 256], text: &[u8], at: usize) -> Option<Datum>
     }
 }
 
-// The first byte at or after a position that may end a domain literal, be a fault in it or take others with it. A long literal
-// takes a fifth more instructions without it (callgrind).
+// The first byte at or after a position that may end a domain literal, be a fault in it or take others with it. Without it a long
+// literal takes a fifth more instructions; with it one of escapes alone a fifth more, for each is looked at twice (callgrind).
 fn past_literal_text(classes: &[u8; 256], text: &[u8], at: usize) -> usize
     requires { at ≤ length text.now }
     ensures { LiteralPasses classes.now text.now at result }
@@ -411,18 +411,6 @@ fn past_literal_text(classes: &[u8; 256], text: &[u8], at: usize) -> usize
         }
     }
     text.len()
-}
-
-// The fault of a domain literal where a byte is one or a "[" stands. It is a function apart: where `literal_end` tells these
-// faults one from another, literals of backslashes take a fifth more instructions (callgrind).
-#[inline(never)]
-fn literal_fault(classes: &[u8; 256], text: &[u8], at: usize, unclosed: Fault) -> Fault
-    ensures { LiteralFaultIs classes.now text.now at unclosed result }
-{
-    match inside(classes, text, at, unclosed) {
-        Ok(_) => unclosed,
-        Err(fault) => fault,
-    }
 }
 
 // The rest of a domain literal whose "[" stands at start. It has no meaning.
@@ -443,9 +431,8 @@ fn literal_end(
     let mut p = at;
     loop {
         p = past_literal_text(classes, text, p);
-        let Character { kind, next, .. } = character_at(classes, text, p).ok_or(unclosed)?;
+        let Character { kind, next, .. } = inside(classes, text, p, unclosed)?;
         match kind {
-            ByteKind::Backslash => p = taken(classes, text, next, unclosed)?,
             ByteKind::CloseBracket => return Ok(Symbol {
                 class: Class::Literal,
                 start,
@@ -453,9 +440,7 @@ fn literal_end(
                 length: 0,
                 apart,
             }),
-            ByteKind::Return | ByteKind::Above | ByteKind::OpenBracket => {
-                return Err(literal_fault(classes, text, p, unclosed));
-            }
+            ByteKind::OpenBracket => return Err(unclosed),
             _ => p = next,
         }
     }

@@ -1,5 +1,5 @@
 -- What the functions below the entry points answer.
-use Rattle.std.specs.Prelude.{◌≡◌, ◌⊎◌, ℕ, ◌+◌, ◌≤◌, Bool, List, [], ◌∷◌, eqb, leb, ltb, length, get_or, Option, None, Some, Result, Ok, Err}
+use Rattle.std.specs.Prelude.{◌≡◌, ℕ, ◌+◌, ◌≤◌, Bool, List, [], ◌∷◌, eqb, leb, ltb, length, get_or, Option, None, Some, Result, Ok, Err}
 use Rattle.octets.specs.Believed.Choice.{pick, both}
 use Rattle.octets.specs.Believed.Classes.{control, quote, letter}
 use Rattle.octets.specs.Believed.Octets.{return_byte}
@@ -13,7 +13,7 @@ use Rattle.scanner.specs.Believed.Characters.{character, characters_at}
 use Rattle.scanner.specs.Believed.Scanning.{Scanned, State, outside, in_atom, in_quoted, taking_in_quoted, in_literal, taking_in_literal, in_comment, taking_in_comment, atom, ended, next, fault_at, scan_from, parted, scan_by}
 use Rattle.scanner.specs.Believed.Answers.{fault_of}
 use Rattle.scanner.specs.declared.ByteKind.{ByteKind}
-use Rattle.scanner.specs.declared.ByteKind.TheVariants.{White, Return, Backslash, Above, OpenBracket}
+use Rattle.scanner.specs.declared.ByteKind.TheVariants.{White, Return, Backslash, Above}
 use Rattle.scanner.specs.declared.Character.{Character}
 use Rattle.scanner.specs.declared.Class.{Class}
 use Rattle.scanner.specs.declared.Next.{Next}
@@ -136,16 +136,6 @@ pub record LiteralPasses (classes text : List ℕ) (at p : ℕ) : Type 0 where
   pub same : (start : ℕ) → scan_from classes (characters_at text at) (in_literal start) ≡ scan_from classes (characters_at text p) (in_literal start)
   pub from : at ≤ p
   pub within : p ≤ length text
-
--- the kinds at which a domain literal has a fault
-abbrev pub LiteralFault : ByteKind → Type 0
-LiteralFault kind = (kind ≡ Return) ⊎ ((kind ≡ Above) ⊎ (kind ≡ OpenBracket))
-
--- .. and its fault at a position where one of these stands
-abbrev pub LiteralFaultIs : List ℕ → List ℕ → ℕ → Fault → Fault → Type 0
-LiteralFaultIs classes text at unclosed f =
-    (kind : ByteKind) (p q start : ℕ) → FirstCharacter classes text at kind p q → LiteralFault kind → unclosed ≡ fault literal_not_closed start
-    → scan_from classes (characters_at text at) (in_literal start) ≡ fault_at f.number f.position
 
 -- a quote stands at a position
 abbrev pub quote_at : List ℕ → List ℕ → ℕ → Bool
